@@ -1,0 +1,4 @@
+// The bounds of a ledger.
+pub fn nothing(x: u32) -> u32 {
+    x
+}
