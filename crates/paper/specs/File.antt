@@ -17,7 +17,7 @@ use Rattle.paper.specs.Reader.{
   give,
   refuse,
   must,
-  room,
+  within,
   bytes,
   part,
   each,
@@ -255,9 +255,9 @@ kindsNamed s start d f at =
 unfoldable pub pairFrom : State → ℕ → Reader Pair
 pairFrom s start = do
   d ← front anyType s
-  room (lastOr 0 (d .ends))
-  kindsNamed s start d
-  chunks ← dataRegion (afterFront s (d .strings) (d .entries)) (dues (withStrings s (d .strings)) (d .entries)) (d .ends)
+  chunks ← within (lastOr 0 (d .ends)) do
+    kindsNamed s start d
+    dataRegion (afterFront s (d .strings) (d .entries)) (dues (withStrings s (d .strings)) (d .entries)) (d .ends)
   give (record { strings = d .strings; entries = d .entries; chunks = chunks })
 
 unfoldable pub pair : State → Reader Pair

@@ -71,9 +71,9 @@ started r f at = fromStart at (r f at)
 
 -- ── bytes ──
 
--- n bytes are there
-unfoldable pub room : ℕ → Reader (Unit {0})
-room n f at = if leb (at + n) (length f) then got tt at else no 1 at
+-- a reading for which n bytes are there
+unfoldable pub within : {A : Type 0} → ℕ → Reader A → Reader A
+within n r f at = if leb (at + n) (length f) then r f at else no 1 at
 
 -- n bytes
 unfoldable pub bytes : ℕ → Reader (List ℕ)

@@ -1,0 +1,10 @@
+pub mod Laws
+pub mod Faithful
+pub mod Longer
+pub mod Says
+pub mod Spelt
+pub mod Takes
+pub mod Bools
+pub mod Codes
+pub mod Values
+pub mod ToEnd

@@ -1,0 +1,236 @@
+-- Values: what is read is what is written, and keeps the rules; and back. Assumes nothing.
+use mathlib.Core.Path.{_≡_, refl, sym, _∙_, ap, subst}
+use mathlib.Core.Bool.{Bool, true, false, _||_, _&&_, not}
+use mathlib.Core.List.{List, [], _∷_, _++_, append-assoc, append-nil}
+use mathlib.Core.Option.{Option, none, some}
+use Prim.Native.Nat.{ℕ, zero, suc, _+_, _-_, _*_, _/_, _%_, _^_, _≤_, _<_}
+use native.Mathlib.Omega.{arith}
+use native.Mathlib.Nat.{pow-succ', one-le-pow}
+use lib.Dec.{leb, ltb, eqb}
+use lib.IntN.{ℤ, pos, negsuc}
+use lib.ListN.{length, getD, take, drop, replicate, length-replicate, length-append, length-take, length-drop}
+use borrow.Author.Tests.{leb-true, leb-false, le-leb, lt-leb, eqb-true, eq-eqb, ltb-true, ltb-false, lt-ltb, le-ltb, not-true}
+use Rattle.paper.specs.Reader.{if_then_else_, Reader, Out, got, no, _>>=_, give, must, Rule, _orNo_, bytes, each, times, repeat, filled, part}
+use Rattle.paper.specs.Numbers.{signed, unsigned, fixed, putFixed, v64, putV64, number, put}
+use Rattle.paper.specs.Ledger.{Kind, constant, plain, array, many, Element, flag, whole, float, link, Chunk, Due, State, fieldAt}
+use Rattle.paper.specs.Lists.{all, flat}
+use Rattle.paper.specs.Rules.{smallRules, boolRules, linkRules}
+use Rattle.paper.specs.File.{small, wholeOf, element, value, chunk}
+use Rattle.paper.specs.Encode.{putWhole, putElement, putValue, putChunk}
+use Rattle.paper.specs.Keeps.{number?, signed?, whole?, element?, value?, chunk?}
+use Rattle.laws.specs.Laws.{not-got, part-inv}
+use Rattle.laws.specs.Says.{Bytes, span, Says, Said, weaker, give-says, bind-says, must-says, if-says, part-says, times-says, each-says, both-say, Held, Run}
+use Rattle.laws.specs.Spelt.{fixed-says, byte-says, v64-says}
+use Rattle.laws.specs.Takes.{Takes, takes-as, takes-is, give-takes, bind-takes, must-takes, if-takes-true, if-takes-false, part-takes, times-takes, written-flat, All₁}
+use Rattle.laws.specs.Codes.{fixed-takes, byte-takes, v64-takes, number-takes}
+use Rattle.laws.specs.Bools.{not-so, and-split, and-join, number-split, number-join, all-split, map₁}
+
+-- what is read is what is written, and keeps the rules
+abbrev pub Kept : {A : Type 0} → Reader A → (A → List ℕ) → (A → Bool) → Type 0
+Kept r w ok = Says r (λ v cs. (w v ≡ cs) × (ok v ≡ true))
+
+-- what is written and keeps the rules is read
+abbrev pub Taken : {A : Type 0} → Reader A → (A → List ℕ) → (A → Bool) → Type 0
+Taken {A} r w ok = (a : A) → ok a ≡ true → Takes r (w a) a
+
+pub number-kept : (rules : ℕ → List Rule) → Kept (number rules) put (number? rules)
+unfolding number put
+number-kept rules = weaker _ (λ n cs p. (p .0 .0, number-join rules n (p .0 .1) (p .1))) (must-says rules v64-says)
+
+pub number-taken : (rules : ℕ → List Rule) → Taken (number rules) put (number? rules)
+unfolding put
+number-taken rules n h = let s = number-split rules n h in number-takes rules n (s .0) (s .1)
+
+-- ── one after the other ──
+
+pub run-kept :
+    {S X A : Type 0} (w : A → List ℕ) (ok : A → Bool) (after : S → A → S) (xs : List X) (s : S) (l : List A) (cs : List ℕ)
+    → Run (λ s x a cs. (w a ≡ cs) × (ok a ≡ true)) after xs s l cs → (flat w l ≡ cs) × (length l ≡ length xs) × (all ok l ≡ true)
+unfolding flat all
+run-kept w ok after [] s [] cs r = (sym r, refl, refl)
+run-kept w ok after [] s (a ∷ l) cs r = absurd r
+run-kept w ok after (x ∷ xs) s [] cs r = absurd r
+run-kept w ok after (x ∷ xs) s (a ∷ l) cs (c, d, e, p, q) =
+    let ih = run-kept w ok after xs (after s a) l d q in
+    (rw (p .0, ih .0) (sym e), ap suc (ih .1), and-join (p .1) (ih .2))
+
+module _ {A : Type 0} (r : Reader A) (w : A → List ℕ) (ok : A → Bool) where
+  pub repeat-kept : Kept r w ok → (n : ℕ) → Says (repeat n r) (λ l cs. (flat w l ≡ cs) × (length l ≡ n) × (all ok l ≡ true))
+  unfolding repeat
+  repeat-kept h n =
+      weaker _ (λ l cs q. let k = run-kept w ok _ (replicate n (tt {0})) (tt {0}) l cs q in (k .0, k .1 ∙ length-replicate n tt, k .2))
+      (times-says _ (λ s a cs. (w a ≡ cs) × (ok a ≡ true)) (λ s. h) n (tt {0}))
+
+  pub repeat-taken : Taken r w ok → (n : ℕ) (l : List A) → length l ≡ n → all ok l ≡ true → Takes (repeat n r) (flat w l) l
+  unfolding repeat
+  repeat-taken h n l e k =
+      takes-as (written-flat w (λ u a. u) (tt {0}) l)
+      (times-takes (λ (u : Unit {0}). r) (λ u a. u) (λ u. w) n tt l e (map₁ (λ u a. ok a ≡ true) (λ u a. Takes r (w a) a) (λ u a. u) (λ u a. h a) tt l (all-split ok (λ u a. u) tt l k)))
+
+-- ── elements ──
+
+module _ (w x : ℕ) (pow : 256 ^ w ≡ 256 * x) where
+  unsigned-signed : (n : ℕ) → n < 256 ^ w → unsigned w (signed w n) ≡ n
+  unfolding unsigned signed if_then_else_
+  unsigned-signed n h = go (ltb n (256 ^ w / 2))
+    where
+      go : (b : Bool) → unsigned w (if b then pos n else negsuc (256 ^ w - 1 - n)) ≡ n
+      go true = refl
+      go false = omega arith
+
+  signed-kept : (n : ℕ) → n < 256 ^ w → signed? w (signed w n) ≡ true
+  unfolding signed? signed if_then_else_
+  signed-kept n h = go (ltb n (256 ^ w / 2)) refl
+    where
+      go : (b : Bool) → ltb n (256 ^ w / 2) ≡ b → signed? w (if b then pos n else negsuc (256 ^ w - 1 - n)) ≡ true
+      go true t = t
+      go false t = let ge = ltb-false n (256 ^ w / 2) t in lt-ltb (256 ^ w - 1 - n) (256 ^ w / 2) (omega arith)
+
+  unsigned-small : (v : ℤ) → signed? w v ≡ true → unsigned w v < 256 ^ w
+  unfolding signed? unsigned
+  unsigned-small (pos n) h = omega (arith, ltb-true n (256 ^ w / 2) h)
+  unsigned-small (negsuc n) h = omega (arith, ltb-true n (256 ^ w / 2) h)
+
+  signed-unsigned : (v : ℤ) → signed? w v ≡ true → signed w (unsigned w v) ≡ v
+  unfolding signed? unsigned signed if_then_else_
+  signed-unsigned (pos n) h = rw h
+  signed-unsigned (negsuc n) h =
+      let lt = ltb-true n (256 ^ w / 2) h in
+      rw (le-ltb (256 ^ w - 1 - n) (256 ^ w / 2) (omega arith)) (ap negsuc (omega arith))
+
+pow-more : (w : ℕ) → 0 < w → 256 ^ w ≡ 256 * 256 ^ (w - 1)
+pow-more zero h = absurd (omega arith)
+pow-more (suc w) h = pow-succ' 256 w ∙ ap (λ (z : ℕ). 256 * 256 ^ z) (omega arith)
+
+two-pow : (k : ℕ) → 0 < 2 ^ k
+two-pow k = one-le-pow k 2 (omega arith)
+
+pub whole-kept : (k : ℕ) → Kept (wholeOf k) (putWhole k) (whole? k)
+unfolding wholeOf putWhole whole? if_then_else_ put
+whole-kept k =
+    if-says (ltb k 4)
+    (λ t. bind-says _ (fixed-says (2 ^ k)) λ n cs p. give-says (signed (2 ^ k) n) _
+    (rw t (let q = pow-more (2 ^ k) (two-pow k) in (rw (unsigned-signed (2 ^ k) _ q n (p .1), append-nil) (p .0), signed-kept (2 ^ k) _ q n (p .1)))))
+    (λ t. bind-says _ v64-says λ n cs p. give-says (signed 8 n) _
+    (rw t ((rw (unsigned-signed 8 (256 ^ 7) refl n (p .1), append-nil) (p .0), signed-kept 8 (256 ^ 7) refl n (p .1)))))
+
+pub whole-taken : (k : ℕ) → Taken (wholeOf k) (putWhole k) (whole? k)
+unfolding wholeOf putWhole whole? if_then_else_ put
+whole-taken k v = go (ltb k 4) refl
+  where
+    go :
+        (b : Bool) → ltb k 4 ≡ b → signed? (if b then 2 ^ k else 8) v ≡ true
+        → Takes (if b then (fixed (2 ^ k) >>= λ n. give (signed (2 ^ k) n)) else (v64 >>= λ n. give (signed 8 n)))
+        (if b then putFixed (2 ^ k) (unsigned (2 ^ k) v) else putV64 8 (unsigned 8 v)) v
+    go true t h =
+        let q = pow-more (2 ^ k) (two-pow k) in
+        takes-is (signed-unsigned (2 ^ k) (256 ^ (2 ^ k - 1)) q v h)
+        (takes-as (append-nil (putFixed (2 ^ k) (unsigned (2 ^ k) v))) (bind-takes _ (fixed-takes (2 ^ k) (unsigned (2 ^ k) v) (unsigned-small (2 ^ k) (256 ^ (2 ^ k - 1)) q v h)) (give-takes (signed (2 ^ k) (unsigned (2 ^ k) v)))))
+    go false t h =
+        takes-is (signed-unsigned 8 (256 ^ 7) refl v h)
+        (takes-as (append-nil (putV64 8 (unsigned 8 v))) (bind-takes _ (v64-takes (unsigned 8 v) (unsigned-small 8 (256 ^ 7) refl v h)) (give-takes (signed 8 (unsigned 8 v)))))
+
+flag-put : (k b : ℕ) → (eqb b 0 || eqb b 255) ≡ true → putElement k (flag (eqb b 255)) ≡ b ∷ []
+unfolding putElement
+flag-put k b h = go (eqb b 255) refl (eqb b 0) refl h
+  where
+    go : (x : Bool) → eqb b 255 ≡ x → (y : Bool) → eqb b 0 ≡ y → (y || x) ≡ true → putElement k (flag x) ≡ b ∷ []
+    go true e y e′ t = ap (λ (z : ℕ). z ∷ []) (sym (eqb-true b 255 e))
+    go false e true e′ t = ap (λ (z : ℕ). z ∷ []) (sym (eqb-true b 0 e′))
+    go false e false e′ t = not-so t
+
+element-kept : (s : State) (k : ℕ) → Kept (element s k) (putElement k) (element? s k)
+unfolding element putElement element? boolRules
+element-kept s k =
+    if-says _
+    (λ t. bind-says _ (must-says _ byte-says) λ b cs p. give-says (flag (eqb b 255)) _ (flag-put k b (p .1 .0) ∙ sym (p .0 .0) ∙ sym (append-nil cs), t))
+    λ t₁. if-says _ (λ t₂. bind-says _ (whole-kept (k - 7)) λ v cs p. give-says (whole v) _ (rw append-nil (p .0), rw (t₁, t₂) (p .1)))
+    λ t₂. if-says _
+    (λ t₃. bind-says _ (fixed-says (4 * (k - 11))) λ n cs p. give-says (float (4 * (k - 11)) n) _
+    (rw append-nil (p .0), rw (t₂, t₃, eq-eqb (4 * (k - 11)) (4 * (k - 11)) refl) (lt-ltb n _ (p .1))))
+    λ t₃. bind-says _ (number-kept (linkRules s k)) λ n cs p. give-says (link n) _ (rw append-nil (p .0), rw t₃ (p .1))
+
+le-both : (k : ℕ) → eqb k 6 ≡ true → leb k 11 ≡ true
+le-both k h = le-leb k 11 (omega (arith, eqb-true k 6 h))
+
+not-6 : (k : ℕ) → 11 < k → eqb k 6 ≡ false
+not-6 k h = borrow.Author.Tests.ne-eqb k 6 (λ e. omega arith)
+
+element-taken : (s : State) (k : ℕ) → Taken (element s k) (putElement k) (element? s k)
+unfolding element putElement element? boolRules
+element-taken s k (flag true) h =
+    if-takes-true _ h (bind-takes _ (must-takes _ (refl, tt) (byte-takes 255 (omega arith))) (give-takes (flag true)))
+element-taken s k (flag false) h =
+    if-takes-true _ h (bind-takes _ (must-takes _ (refl, tt) (byte-takes 0 (omega arith))) (give-takes (flag false)))
+element-taken s k (whole v) h =
+    let (h₁, h₂) = and-split _ (whole? (k - 7) v) h in
+    let (h₃, h₄) = and-split _ (leb k 11) h₁ in
+    if-takes-false _ (not-true _ h₃) (if-takes-true _ h₄ (takes-as (append-nil _) (bind-takes _ (whole-taken (k - 7) v h₂) (give-takes (whole v)))))
+element-taken s k (float w n) h =
+    let (h₁, lt) = and-split _ (ltb n (256 ^ w)) h in
+    let (h₂, e) = and-split _ (eqb w (4 * (k - 11))) h₁ in
+    let (h₃, h₄) = and-split _ (leb k 13) h₂ in
+    let big = leb-false k 11 (not-true _ h₃) in
+    rw (eqb-true w (4 * (k - 11)) e)
+    (if-takes-false _ (not-6 k big) (if-takes-false _ (not-true _ h₃) (if-takes-true _ h₄
+    (takes-as (append-nil _) (bind-takes _ (fixed-takes (4 * (k - 11)) n (rw (eqb-true w (4 * (k - 11)) e) at (ltb-true n (256 ^ w) lt))) (give-takes (float (4 * (k - 11)) n)))))))
+element-taken s k (link n) h =
+    let (h₁, h₂) = and-split _ (number? (linkRules s k) n) h in
+    let big = leb-false k 13 (not-true _ h₁) in
+    if-takes-false _ (not-6 k (omega arith)) (if-takes-false _ (lt-leb k 11 (omega arith)) (if-takes-false _ (not-true _ h₁)
+    (takes-as (append-nil _) (bind-takes _ (number-taken (linkRules s k) n h₂) (give-takes (link n))))))
+
+-- ── values ──
+
+no-length : {A : Type 0} (l : List A) → length l ≡ 0 → l ≡ []
+no-length [] h = refl
+no-length (a ∷ l) h = absurd (omega arith)
+
+value-kept : (s : State) (k : Kind) → Kept (value s k) (putValue k) (value? s k)
+unfolding value putValue value? small
+value-kept s (constant k v) = give-says [] _ (refl, refl)
+value-kept s (plain k) = weaker _ (λ l cs p. (p .0, and-join (eq-eqb _ 1 (p .1)) (p .2))) (repeat-kept _ (putElement k) (element? s k) (element-kept s k) 1)
+value-kept s (array n k) = weaker _ (λ l cs p. (p .0, and-join (eq-eqb _ n (p .1)) (p .2))) (repeat-kept _ (putElement k) (element? s k) (element-kept s k) n)
+value-kept s (many c k) =
+    bind-says _ (number-kept smallRules) λ n cs p.
+    weaker _ (λ l ds q. rw (q .1) (rw (q .0, p .0), and-join (p .1) (q .2))) (repeat-kept _ (putElement k) (element? s k) (element-kept s k) n)
+
+value-taken : (s : State) (k : Kind) → Taken (value s k) (putValue k) (value? s k)
+unfolding value putValue value? small
+value-taken s (constant k v) es h = takes-is (sym (no-length es (eqb-true _ 0 h))) (give-takes [])
+value-taken s (plain k) es h =
+    let (e, a) = and-split _ (all (element? s k) es) h in
+    repeat-taken _ (putElement k) (element? s k) (element-taken s k) 1 es (eqb-true _ 1 e) a
+value-taken s (array n k) es h =
+    let (e, a) = and-split _ (all (element? s k) es) h in
+    repeat-taken _ (putElement k) (element? s k) (element-taken s k) n es (eqb-true _ n e) a
+value-taken s (many c k) es h =
+    let (e, a) = and-split _ (all (element? s k) es) h in
+    bind-takes _ (number-taken smallRules (length es) e) (repeat-taken _ (putElement k) (element? s k) (element-taken s k) (length es) es refl a)
+
+-- ── chunks ──
+
+-- a part is as long as it should be
+pub part-size : {A : Type 0} (n : ℕ) (r : Reader A) → Says (part n r) (λ v cs. length cs ≡ n)
+part-size {A} n r = record { at = go }
+  where
+    go : (f : List ℕ) (at : ℕ) (v : A) (e : ℕ) → Bytes f → at ≤ length f → part n r f at ≡ got v e → Said (λ v cs. length cs ≡ n) f at v e
+    go f at v e b h q =
+        let P = part-inv n r f at v e q in
+        let room = P .room in
+        let ends = P .ends in
+        record { forward = omega arith; inside = omega arith; said = rw (length-take, length-drop) (omega arith) }
+
+pub chunk-kept : (s : State) (d : Due × ℕ) → Says (chunk s d) (λ c cs. ((putChunk s (d .0) c ≡ cs) × (chunk? s (d .0) c ≡ true)) × (length cs ≡ d .1))
+unfolding chunk putChunk chunk?
+chunk-kept s d =
+    both-say
+    (part-says (d .1)
+    (weaker _ (λ l cs p. (p .0, and-join (eq-eqb _ _ (p .1)) (p .2))) (repeat-kept _ (putValue (fieldAt s (d .0 .field) .kind)) (value? s (fieldAt s (d .0 .field) .kind)) (value-kept s (fieldAt s (d .0 .field) .kind)) (d .0 .values))))
+    (part-size (d .1) _)
+
+pub chunk-taken : (s : State) (d : Due × ℕ) (c : Chunk) → length (putChunk s (d .0) c) ≡ d .1 → chunk? s (d .0) c ≡ true → Takes (chunk s d) (putChunk s (d .0) c) c
+unfolding chunk putChunk chunk?
+chunk-taken s d c n h =
+    let (e, a) = and-split _ (all (value? s (fieldAt s (d .0 .field) .kind)) c) h in
+    part-takes (d .1) n (repeat-taken _ (putValue (fieldAt s (d .0 .field) .kind)) (value? s (fieldAt s (d .0 .field) .kind)) (value-taken s (fieldAt s (d .0 .field) .kind)) (d .0 .values) c (eqb-true _ _ e) a)
