@@ -8,3 +8,6 @@ pub mod Bools
 pub mod Codes
 pub mod Values
 pub mod ToEnd
+pub mod Heads
+pub mod Entries
+pub mod Exact
