@@ -337,3 +337,11 @@ part-inv {A} n r f at v e q = go (leb (at + n) (length f)) refl q
     go : (t : Bool) → leb (at + n) (length f) ≡ t → (if t then filled at n (r (take n (drop at f)) 0) else no 1 at) ≡ got v e → Filled n r f at v e
     go true t q = out (leb-true (at + n) (length f) t) (r (take n (drop at f)) 0) refl q
     go false t q = not-got q
+
+pub within-inv : {A : Type 0} (n : ℕ) (r : Reader A) (f : List ℕ) (at : ℕ) (v : A) (e : ℕ) → within n r f at ≡ got v e → r f at ≡ got v e
+unfolding within if_then_else_
+within-inv n r f at v e q = go (leb (at + n) (length f)) q
+  where
+    go : (b : Bool) → (if b then r f at else no 1 at) ≡ got v e → r f at ≡ got v e
+    go true q = q
+    go false q = not-got q

@@ -11,3 +11,8 @@ pub mod ToEnd
 pub mod Heads
 pub mod Entries
 pub mod Exact
+pub mod Columns
+pub mod Damage
+pub mod Count
+pub mod Lengths
+pub mod Bounds
