@@ -2,6 +2,7 @@
 pub mod Reader
 pub mod Numbers
 pub mod Bounds
+pub mod Agree
 pub mod Lists
 pub mod Ledger
 pub mod Rules
