@@ -18,46 +18,12 @@ use Rattle.paper.specs.Lists.{fold, any, lastOr}
 use Rattle.paper.specs.Bounds.{mostPairs}
 use Rattle.paper.specs.Rules.{withStrings, kindsStand?, anyType, dues, afterFront, closed, afterPair}
 use Rattle.paper.specs.File.{Front, chunk, sized, dataRegion, front, pairFrom, pair, pairs, file}
+use Rattle.paper.specs.Places.{Spot, spotsFrom, withFront, pairSpots, spotsOf, spots, inside?}
 use Rattle.paper.specs.Calls.{Answer, done, refused, need, found, read, check, known, valuesIn, chunkValues, fieldValues, columnBy, columnOf, asked, ask, column, _>>=_ as _then=_, _>>_ as _then_}
 use Rattle.laws.specs.Columns.{bind-done, then-done, answered-done}
 use Rattle.laws.specs.Laws.{Agree, not-got, Stays, Faithful, Bound, bind-inv, part-faithful, First, each-inv, Filled, part-inv, within-inv}
 use Rattle.laws.specs.Faithful.{front-faithful, region-end, region, region-inv}
 use Rattle.laws.specs.Longer.{unlessEnd-inv, AtEnd, Before, file-inv}
-
--- ── where the chunks stand: places as they are read, not as they would be written ──
-
--- a chunk's field, its first byte, and the end
-pub record Spot : Type 0 where
-  pub field : ℕ
-  pub start : ℕ
-  pub end : ℕ
-
-unfoldable pub spotsFrom : ℕ → List (Due × ℕ) → List Spot
-spotsFrom at [] = []
-spotsFrom at (d ∷ ds) = record { field = d .0 .field; start = at; end = at + d .1 } ∷ spotsFrom (at + d .1) ds
-
-abbrev withFront : Out Front → (Front → ℕ → List Spot) → List Spot
-withFront (got d m) k = k d m
-withFront (no n p) k = []
-
--- the chunks of a pair whose data region begins at m
-unfoldable pub pairSpots : State → Front → ℕ → List Spot
-pairSpots s d m = spotsFrom m (sized 0 (dues (withStrings s (d .strings)) (d .entries)) (d .ends))
-
--- the chunks of at most n pairs, from a place on
-unfoldable pub spotsOf : ℕ → State → List ℕ → ℕ → List Spot
-spotsOf zero s f at = []
-spotsOf (suc n) s f at =
-    if leb (length f) at then
-    [] else
-    withFront (front anyType s f at) λ d m. pairSpots s d m ++ spotsOf n (closed (afterFront s (d .strings) (d .entries))) f (m + lastOr 0 (d .ends))
-
-unfoldable pub spots : List ℕ → List Spot
-spots f = spotsOf mostPairs nothing f 0
-
--- byte k lies in a chunk of field i
-unfoldable pub inside? : ℕ → ℕ → List Spot → Bool
-inside? i k = any λ (p : Spot). eqb (p .field) i && leb (p .start) k && ltb k (p .end)
 
 -- ── spots that come later ──
 

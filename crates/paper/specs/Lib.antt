@@ -7,6 +7,7 @@ pub mod Lists
 pub mod Ledger
 pub mod Rules
 pub mod File
+pub mod Places
 pub mod Encode
 pub mod Listing
 pub mod Keeps
