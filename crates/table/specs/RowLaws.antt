@@ -1,0 +1,148 @@
+-- The laws of rows, once for every segment: what a push makes of its own segment, and that it leaves every other. Assumes nothing.
+use mathlib.Core.Path.{_≡_, refl, sym, ap, ap₂, _∙_, subst}
+use mathlib.Core.Logic.{⊎-elim, _⊎_, inl, inr, _≢_}
+use mathlib.Core.List.{List, [], _∷_, _++_}
+use Prim.Native.Nat.{ℕ, zero, suc, _+_, _*_, _≤_, _<_, zero-le, suc-le-suc}
+use native.Mathlib.Nat.{le-refl, le-of-lt, le-of-eq, le-step, not-suc-le-zero, le-of-suc-le-suc, eq-or-lt-of-le, mul-le-mul-left}
+use native.Mathlib.Numerals.{add-one}
+use native.Mathlib.Omega.{arith}
+use lib.ListN.{length, getD, set, length-append, length-set, List·getD-append}
+use lib.Seq.{sets, length-sets, getD-at, getD-set-same, getD-set-other}
+use Rattle.table.specs.Rows.{tab, cells, seg, Each, Push}
+
+pub lt-or-ge : (a b : ℕ) → (a < b) ⊎ (b ≤ a)
+lt-or-ge a zero = inr zero-le
+lt-or-ge zero (suc b) = inl (suc-le-suc zero-le)
+lt-or-ge (suc a) (suc b) = ⊎-elim (λ p. inl (suc-le-suc p)) (λ q. inr (suc-le-suc q)) (lt-or-ge a b)
+
+module _ {A : Type 0} where
+  pub length-tab : (n : ℕ) (f : ℕ → A) → length (tab n f) ≡ n
+  unfolding tab
+  length-tab zero f = refl
+  length-tab (suc n) f = length-append (tab n f) (f n ∷ []) ∙ ap (λ (k : ℕ). k + 1) (length-tab n f) ∙ add-one n
+
+  pub tab-cong : (n : ℕ) (f g : ℕ → A) → ((i : ℕ) → i < n → f i ≡ g i) → tab n f ≡ tab n g
+  unfolding tab
+  tab-cong zero f g h = refl
+  tab-cong (suc n) f g h = ap₂ (λ (xs : List A) (x : A). xs ++ (x ∷ [])) (tab-cong n f g (λ i l. h i (le-step l))) (h n (le-refl (suc n)))
+
+  pub getD-tab : (n : ℕ) (f : ℕ → A) (i : ℕ) (d : A) → i < n → getD (tab n f) i d ≡ f i
+  unfolding tab
+  getD-tab zero f i d h = absurd (not-suc-le-zero h)
+  getD-tab (suc n) f i d h =
+      ⊎-elim (λ (e : i ≡ n). rw e (getD-at (tab n f) (f n) [] d n (length-tab n f)))
+      (λ (l : i < n). List·getD-append (tab n f) (f n ∷ []) d i (rw length-tab l) ∙ getD-tab n f i d l)
+      (eq-or-lt-of-le (le-of-suc-le-suc h))
+
+-- two tables that agree over a run of cells have the same numbers there
+pub cells-cong : (l l′ : List ℕ) (at w : ℕ) → ((j : ℕ) → at ≤ j → j < at + w → getD l′ j 0 ≡ getD l j 0) → cells l′ at w ≡ cells l at w
+unfolding cells
+cells-cong l l′ at zero h = refl
+cells-cong l l′ at (suc w) h = ap₂ (λ (x : ℕ) (xs : List ℕ). x ∷ xs) (h at (le-refl at) (omega arith)) (cells-cong l l′ (suc at) w (λ j p q. h j (le-of-lt p) (omega arith)))
+
+-- a run of stores leaves the cells outside it
+pub sets-other : (vs l : List ℕ) (at j : ℕ) → (at ≤ j → at + length vs ≤ j) → getD (sets l at vs) j 0 ≡ getD l j 0
+sets-other [] l at j h = refl
+sets-other (v ∷ vs) l at j h =
+    sets-other vs (set l at v) (suc at) j (λ p. let q : at + suc (length vs) ≤ j = h (le-of-lt p) in omega arith)
+    ∙ getD-set-other l at j v 0 (λ e. let q : at + suc (length vs) ≤ j = h (le-of-eq (sym e)) in omega arith)
+
+-- and has its numbers in it
+pub cells-sets : (vs l : List ℕ) (at : ℕ) → at + length vs ≤ length l → cells (sets l at vs) at (length vs) ≡ vs
+unfolding cells
+cells-sets [] l at h = refl
+cells-sets (v ∷ vs) l at h =
+    ap₂ (λ (x : ℕ) (xs : List ℕ). x ∷ xs)
+    (sets-other vs (set l at v) (suc at) at (λ p. omega arith) ∙ getD-set-same l at v 0 (omega arith))
+    (cells-sets vs (set l at v) (suc at) (rw length-set (omega arith)))
+
+module _ (c base w : ℕ) (l l′ : List ℕ) (same : (j : ℕ) → base ≤ j → j < base + w * getD l c 0 → getD l′ j 0 ≡ getD l j 0) where
+  rows-kept : {A : Type 0} (of : List ℕ → A) → tab (getD l c 0) (λ i. of (cells l′ (base + w * i) w)) ≡ seg of c base w l
+  unfolding seg
+  rows-kept of =
+      tab-cong (getD l c 0) (λ i. of (cells l′ (base + w * i) w)) (λ i. of (cells l (base + w * i) w))
+      (λ i h. ap of (cells-cong l l′ (base + w * i) w (λ j p q. same j (omega arith) (omega (arith, mul-le-mul-left w h)))))
+
+  pub seg-kept : {A : Type 0} (of : List ℕ → A) → getD l′ c 0 ≡ getD l c 0 → seg of c base w l′ ≡ seg of c base w l
+  unfolding seg
+  seg-kept of e = ap (λ (n : ℕ). tab n (λ i. of (cells l′ (base + w * i) w))) e ∙ rows-kept of
+
+  pub seg-more : {A : Type 0} (of : List ℕ → A) (vs : List ℕ) → getD l′ c 0 ≡ getD l c 0 + 1 → cells l′ (base + w * getD l c 0) w ≡ vs → seg of c base w l′ ≡ seg of c base w l ++ (of vs ∷ [])
+  unfolding seg tab
+  seg-more {A} of vs e is =
+      ap (λ (n : ℕ). tab n (λ i. of (cells l′ (base + w * i) w))) (e ∙ add-one (getD l c 0))
+      ∙ ap₂ (λ (xs : List A) (x : List ℕ). xs ++ (of x ∷ [])) (rows-kept of) is
+
+  pub each-kept : (P : List ℕ → Type 0) → getD l′ c 0 ≡ getD l c 0 → Each P c base w l → Each P c base w l′
+  each-kept P e h =
+      record {
+        row = λ i lt. let lt′ : i < getD l c 0 = omega arith in
+            subst P (sym (cells-cong l l′ (base + w * i) w (λ j p q. same j (omega arith) (omega (arith, mul-le-mul-left w lt′))))) (h .row i lt′);
+      }
+
+  pub each-more : (P : List ℕ → Type 0) (vs : List ℕ) → getD l′ c 0 ≡ getD l c 0 + 1 → cells l′ (base + w * getD l c 0) w ≡ vs → P vs → Each P c base w l → Each P c base w l′
+  each-more P vs e is new h =
+      record {
+        row = λ i lt. ⊎-elim
+            (λ (q : i ≡ getD l c 0). subst P (sym is ∙ ap (λ (k : ℕ). cells l′ (base + w * k) w) (sym q)) new)
+            (λ (lt′ : i < getD l c 0). subst P (sym (cells-cong l l′ (base + w * i) w (λ j p q. same j (omega arith) (omega (arith, mul-le-mul-left w lt′))))) (h .row i lt′))
+            (eq-or-lt-of-le (le-of-suc-le-suc (rw (e, add-one) at lt)));
+      }
+
+-- row i of a segment
+pub seg-at : {A : Type 0} (of : List ℕ → A) (c base w : ℕ) (l : List ℕ) (i : ℕ) (d : A) → i < length (seg of c base w l) → getD (seg of c base w l) i d ≡ of (cells l (base + w * i) w)
+unfolding seg
+seg-at of c base w l i d h = getD-tab (getD l c 0) (λ i. of (cells l (base + w * i) w)) i d (rw length-tab at h)
+
+pub seg-none : {A : Type 0} (of : List ℕ → A) (c base w : ℕ) (l : List ℕ) → getD l c 0 ≡ 0 → seg of c base w l ≡ []
+unfolding seg tab
+seg-none of c base w l e = ap (λ (n : ℕ). tab n (λ i. of (cells l (base + w * i) w))) e
+
+module _ {c base w : ℕ} {vs l l′ : List ℕ} (p : Push c base w vs l l′) where
+  -- where the row goes
+  abbrev at : ℕ
+  at = base + w * getD l c 0
+
+  pub push-other : (j : ℕ) → j ≢ c → (base + w * getD l c 0 ≤ j → base + w * getD l c 0 + w ≤ j) → getD l′ j 0 ≡ getD l j 0
+  push-other j ne apart =
+      rw (p .is)
+      (getD-set-other (sets l at vs) c j (getD l c 0 + 1) 0 ne
+      ∙ sets-other vs l at j (λ r. let q : at + w ≤ j = apart r in omega (arith, p .wide)))
+
+  pub push-long : length l′ ≡ length l
+  push-long = rw (p .is) (length-set (sets l at vs) c (getD l c 0 + 1) ∙ length-sets l at vs)
+
+  pub push-count : getD l′ c 0 ≡ getD l c 0 + 1
+  push-count = rw (p .is) (getD-set-same (sets l at vs) c (getD l c 0 + 1) 0 (rw length-sets (omega arith)))
+
+  pub push-cells : cells l′ at w ≡ vs
+  push-cells =
+      ap (λ (t : List ℕ). cells t at w) (p .is)
+      ∙ cells-cong (sets l at vs) (set (sets l at vs) c (getD l c 0 + 1)) at w
+      (λ j a b. getD-set-other (sets l at vs) c j (getD l c 0 + 1) 0 (λ e. omega arith))
+      ∙ ap (λ (k : ℕ). cells (sets l at vs) at k) (sym (p .wide))
+      ∙ cells-sets vs l at (omega arith)
+
+  pub push-mine : {A : Type 0} (of : List ℕ → A) → seg of c base w l′ ≡ seg of c base w l ++ (of vs ∷ [])
+  push-mine of =
+      seg-more c base w l l′ (λ j a b. push-other j (λ e. omega arith) (λ r. omega arith)) of vs push-count push-cells
+
+  pub push-each : (P : List ℕ → Type 0) → P vs → Each P c base w l → Each P c base w l′
+  push-each P new h = each-more c base w l l′ (λ j a b. push-other j (λ e. omega arith) (λ r. omega arith)) P vs push-count push-cells new h
+
+  -- another segment, of at most cap rows, that the push does not reach
+  module _ (c′ base′ w′ cap : ℕ) (ne : c′ ≢ c) (low′ : c′ < base) (high : c < base′) (few : getD l c′ 0 ≤ cap) (apart : base′ < base + w * getD l c 0 + w → base′ + w′ * cap ≤ base + w * getD l c 0) where
+    kept-cells : (j : ℕ) → base′ ≤ j → j < base′ + w′ * getD l c′ 0 → getD l′ j 0 ≡ getD l j 0
+    kept-cells j a b =
+        push-other j (λ e. omega arith)
+        (λ r. ⊎-elim (λ (s : base′ < at + w). let t : base′ + w′ * cap ≤ at = apart s in omega (arith, mul-le-mul-left w′ few))
+        (λ (s : at + w ≤ base′). omega arith)
+        (lt-or-ge base′ (at + w)))
+
+  pub push-kept : {A : Type 0} (of : List ℕ → A) (c′ base′ w′ cap : ℕ) → c′ ≢ c → c′ < base → c < base′ → getD l c′ 0 ≤ cap → (base′ < base + w * getD l c 0 + w → base′ + w′ * cap ≤ base + w * getD l c 0) → seg of c′ base′ w′ l′ ≡ seg of c′ base′ w′ l
+  push-kept of c′ base′ w′ cap ne low′ high few apart =
+      seg-kept c′ base′ w′ l l′ (kept-cells c′ base′ w′ cap ne low′ high few apart) of (push-other c′ ne (λ r. omega arith))
+
+  pub push-each-kept : (P : List ℕ → Type 0) (c′ base′ w′ cap : ℕ) → c′ ≢ c → c′ < base → c < base′ → getD l c′ 0 ≤ cap → (base′ < base + w * getD l c 0 + w → base′ + w′ * cap ≤ base + w * getD l c 0) → Each P c′ base′ w′ l → Each P c′ base′ w′ l′
+  push-each-kept P c′ base′ w′ cap ne low′ high few apart all =
+      each-kept c′ base′ w′ l l′ (kept-cells c′ base′ w′ cap ne low′ high few apart) P (push-other c′ ne (λ r. omega arith)) all

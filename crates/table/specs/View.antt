@@ -1,0 +1,164 @@
+-- What the work table says, over the bytes that it was read from: the state that the definitions speak of. Only this crate
+-- knows a cell's number. Assumes nothing.
+use Prim.Native.Nat.{ℕ, zero, suc, _+_, _*_, _^_, _/_, _%_, _<_, _≤_}
+use mathlib.Core.List.{List, [], _∷_, _++_}
+use mathlib.Core.Bool.{Bool, true, false, _&&_}
+use mathlib.Core.Option.{Option, none, some}
+use mathlib.Core.Path.{_≡_}
+use lib.Dec.{leb, ltb, eqb}
+use lib.ListN.{length, getD}
+use lib.Seq.{slice}
+use Rattle.paper.specs.Reader.{if_then_else_}
+use Rattle.paper.specs.Numbers.{signed}
+use Rattle.paper.specs.Ledger.{Kind, constant, plain, array, many, Typ, Field, Range, Due, State}
+use Rattle.paper.specs.Places.{Spot}
+use Rattle.table.specs.Rows.{seg, Each}
+
+-- ── the layout of 16,384 numbers ──
+--
+--   cells          what stands there                                          rows of
+--      0           number of strings
+--      1           number of types
+--      2           number of fields
+--      3           number of ranges
+--      4           number of chunks that are due in this block
+--      5           number of chunks of the blocks before
+--      6           number of blocks before this one
+--     16 ..  2063  strings: first byte, end                                   1,024 x 2
+--   2064 ..  2191  types: name's first byte, its end, super type + 1, base       32 x 4
+--   2192 ..  4239  fields: name's first byte, its end, owner, kind, two numbers 128 x 16
+--   4240 ..  7311  ranges: type and block, start and count, first             1,024 x 3
+--   7312 ..  7823  chunks due: field, values, size in two                       128 x 4
+--   7824 .. 16015  chunks: field and first byte, end                          4,096 x 2
+
+-- ── rows ──
+
+-- 0 is none, and u + 1 is u
+abbrev pub maybe : ℕ → Option ℕ
+maybe zero = none
+maybe (suc u) = some u
+
+-- a number of two cells
+abbrev pub wide : ℕ → ℕ → ℕ
+wide lo hi = lo + 4294967296 * hi
+
+abbrev pub textOf : List ℕ → List ℕ → List ℕ
+textOf f r = slice (getD r 0 0) (getD r 1 0) f
+
+abbrev pub typOf : List ℕ → Typ
+typOf r = record { super = maybe (getD r 2 0); base = getD r 3 0 }
+
+-- a kind by its first number k, of which 32 stands for all above; by a, a constant's bits or an array's length; and by e, its
+-- last number, which is k itself where there is only one
+unfoldable pub kindFrom : ℕ → ℕ → ℕ → Kind
+kindFrom k a e =
+    if leb k 3 then
+    constant k (signed (2 ^ k) a) else
+    if eqb k 4 then
+    constant k (signed 8 a) else
+    if eqb k 15 then
+    array a e else
+    if leb 17 k && leb k 19 then
+    many k e else
+    plain e
+
+abbrev pub fldOf : List ℕ → Field
+fldOf r = record { owner = getD r 2 0; kind = kindFrom (getD r 3 0) (wide (getD r 4 0) (getD r 5 0)) (wide (getD r 6 0) (getD r 7 0)) }
+
+abbrev pub rangeOf : List ℕ → Range
+rangeOf r = record { type = getD r 0 0 % 32; block = getD r 0 0 / 32; start = getD r 1 0 % 65536; first = getD r 2 0; count = getD r 1 0 / 65536 }
+
+-- a chunk that is due, and its size
+abbrev pub dueOf : List ℕ → Due × ℕ
+dueOf r = (record { field = getD r 0 0; values = getD r 1 0 }, wide (getD r 2 0) (getD r 3 0))
+
+abbrev pub spotOf : List ℕ → Spot
+spotOf r = record { field = getD r 0 0 % 128; start = getD r 0 0 / 128; end = getD r 1 0 }
+
+-- ── segments ──
+
+unfoldable pub strsOf : List ℕ → List ℕ → List (List ℕ)
+strsOf f l = seg (textOf f) 0 16 2 l
+
+unfoldable pub namesOf : List ℕ → List ℕ → List (List ℕ)
+namesOf f l = seg (textOf f) 1 2064 4 l
+
+unfoldable pub typesOf : List ℕ → List Typ
+typesOf l = seg typOf 1 2064 4 l
+
+unfoldable pub titlesOf : List ℕ → List ℕ → List (List ℕ)
+titlesOf f l = seg (textOf f) 2 2192 16 l
+
+unfoldable pub fldsOf : List ℕ → List Field
+fldsOf l = seg fldOf 2 2192 16 l
+
+unfoldable pub logOf : List ℕ → List Range
+logOf l = seg rangeOf 3 4240 3 l
+
+unfoldable pub duesOf : List ℕ → List (Due × ℕ)
+duesOf l = seg dueOf 4 7312 4 l
+
+unfoldable pub chunksOf : List ℕ → List Spot
+chunksOf l = seg spotOf 5 7824 2 l
+
+abbrev pub blockOf : List ℕ → ℕ
+blockOf l = getD l 6 0
+
+-- what is known of the bytes f
+abbrev pub view : List ℕ → List ℕ → State
+view f l =
+    record {
+      strings = strsOf f l;
+      typeNames = namesOf f l;
+      types = typesOf l;
+      fieldNames = titlesOf f l;
+      fields = fldsOf l;
+      log = logOf l;
+      block = getD l 6 0;
+    }
+
+-- ── what every function keeps ──
+
+-- of the table alone; the last lines hold of every table, and stand here so that they are found
+pub record Ok (l : List ℕ) : Type 0 where
+  pub long : length l ≡ 16384
+  pub strs-fit : getD l 0 0 ≤ 1024
+  pub types-fit : getD l 1 0 ≤ 32
+  pub flds-fit : getD l 2 0 ≤ 128
+  pub log-fit : getD l 3 0 ≤ 1024
+  pub dues-fit : getD l 4 0 ≤ 128
+  pub chunks-fit : getD l 5 0 ≤ 4096
+  pub types-count : length (typesOf l) ≡ getD l 1 0
+  pub flds-count : length (fldsOf l) ≡ getD l 2 0
+  pub log-count : length (logOf l) ≡ getD l 3 0
+  pub dues-count : length (duesOf l) ≡ getD l 4 0
+  pub chunks-count : length (chunksOf l) ≡ getD l 5 0
+
+-- a part of the bytes
+abbrev pub Within : List ℕ → List ℕ → Type 0
+Within f r = getD r 1 0 ≤ length f
+
+-- of the table with the bytes, of which there are so few that a cell holds a place
+pub record Holds (f l : List ℕ) : Type 0 where
+  pub ok : Ok l
+  pub small : length f < 4294967296
+  pub strs-in : Each (Within f) 0 16 2 l
+  pub names-in : Each (Within f) 1 2064 4 l
+  pub titles-in : Each (Within f) 2 2192 16 l
+  pub strs-count : length (strsOf f l) ≡ getD l 0 0
+  pub names-count : length (namesOf f l) ≡ getD l 1 0
+  pub titles-count : length (titlesOf f l) ≡ getD l 2 0
+
+-- all that the table says
+pub record Said : Type 0 where
+  pub state : State
+  pub due : List (Due × ℕ)
+  pub chunks : List Spot
+
+abbrev pub said : List ℕ → List ℕ → Said
+said f l = record { state = view f l; due = duesOf l; chunks = chunksOf l }
+
+-- a table that says s of the bytes
+pub record Now (f l : List ℕ) (s : Said) : Type 0 where
+  pub holds : Holds f l
+  pub says : said f l ≡ s
