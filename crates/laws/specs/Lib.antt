@@ -16,3 +16,13 @@ pub mod Damage
 pub mod Count
 pub mod Lengths
 pub mod Bounds
+pub mod Digits
+pub mod Before
+pub mod Words
+pub mod Hexes
+pub mod Cells
+pub mod Lines
+pub mod Turns
+pub mod Arrays
+pub mod Built
+pub mod Promises

@@ -1,0 +1,201 @@
+-- Check, listing and build, as calls: what they promise of each other. Assumes nothing.
+use mathlib.Core.Path.{_≡_, refl, sym, _∙_, ap, subst}
+use mathlib.Core.Bool.{Bool, true, false}
+use mathlib.Core.Logic.{_↔_}
+use mathlib.Core.List.{List, [], _∷_}
+use mathlib.Core.Option.{Option, none, some}
+use Prim.Native.Nat.{ℕ, zero, suc, _+_, _≤_, _<_}
+use native.Mathlib.Omega.{arith}
+use native.Mathlib.Nat.{le-refl}
+use lib.Dec.{leb}
+use lib.ListN.{length}
+use borrow.Author.Tests.{leb-true, le-leb, lt-leb}
+use Rattle.paper.specs.Reader.{if_then_else_, Out, got, no}
+use Rattle.paper.specs.Ledger.{Ledger, nothing}
+use Rattle.paper.specs.File.{file}
+use Rattle.paper.specs.Listing.{print}
+use Rattle.paper.specs.Encode.{encode}
+use Rattle.paper.specs.Keeps.{every, inTurn, pair?, keeps?}
+use Rattle.paper.specs.Calls.{Answer, done, refused, need, found, answered, read, check, fitted, listing, _>>=_, _>>_, build}
+use Rattle.laws.specs.Says.{Bytes}
+use Rattle.laws.specs.Columns.{not-done, bind-done, then-done, found-done, answered-done}
+use Rattle.laws.specs.Exact.{file-kept, file-taken, encode-bytes}
+use Rattle.paper.specs.Bounds.{mostBytes, tableLength}
+use Rattle.paper.specs.Rules.{afterPair}
+use Rattle.paper.specs.Scan.{scan, short, fileOf}
+use Rattle.laws.specs.Bools.{every-split, every-join}
+use Rattle.laws.specs.Built.{scan-kept, scan-taken}
+
+-- a file that is accepted, of which l is what it says
+pub record Accepted (f : List ℕ) (l : Ledger) : Type 0 where
+  pub bytes : Bytes f
+  pub reads : file f ≡ got l (length f)
+
+-- a file is accepted exactly when it is the encoding of a ledger that keeps the rules
+pub accepted-exactly : (f : List ℕ) (l : Ledger) → Accepted f l ↔ ((keeps? l ≡ true) × (f ≡ encode l))
+accepted-exactly f l = (
+  (λ a. let k = file-kept f l (length f) (a .bytes) (a .reads) in (k .1, sym (k .0))),
+  (λ k. record { bytes = rw (k .1) (encode-bytes l (k .0)); reads = rw (k .1) (file-taken l (k .0)) }),
+)
+
+-- ── the file with a given listing ──
+
+-- the listing of an accepted file is taken back to the file
+pub back : (f : List ℕ) (l : Ledger) → Accepted f l → fileOf (print l) ≡ some f
+unfolding fileOf short if_then_else_ keeps?
+back f l a =
+    let k = file-kept f l (length f) (a .bytes) (a .reads) in
+    let (x, (y, (z, _))) = every-split _ (k .1) in
+    rw (scan-taken l z (leb-true (length l) 32 y), x) (ap {B = Option (List ℕ)} some (k .0))
+
+-- what a text is taken to is accepted, and has this listing
+pub forth : (t f : List ℕ) → Bytes t → fileOf t ≡ some f → (l : Ledger) × Accepted f l × (print l ≡ t)
+unfolding fileOf short if_then_else_ keeps?
+forth t f b h = go (scan t) refl h
+  where
+    fits :
+        (l : Ledger) → (print l ≡ t) × (inTurn pair? afterPair nothing l ≡ true) × (length l ≤ 32) → (c : Bool) → leb (length (encode l)) mostBytes ≡ c
+        → (if c then some (encode l) else none) ≡ some f → (l : Ledger) × Accepted f l × (print l ≡ t)
+    fits l k true c q =
+        let z : encode l ≡ f = cc q in
+        (l, accepted-exactly f l .1 (every-join _ (c, (le-leb (length l) 32 (k .2), (k .1, tt))), sym z), k .0)
+    fits l k false c q = let z : _≡_ {A = ℕ} 0 1 = cc q in absurd (omega arith)
+
+    go : (o : Out Ledger) → scan t ≡ o → short o ≡ some f → (l : Ledger) × Accepted f l × (print l ≡ t)
+    go (no n p) x q = let z : _≡_ {A = ℕ} 0 1 = cc q in absurd (omega arith)
+    go (got l e) x q = fits l (scan-kept t l e b x) (leb (length (encode l)) mostBytes) refl q
+
+-- no two accepted files have the same listing
+pub one-file : (f g : List ℕ) (l m : Ledger) → Accepted f l → Accepted g m → print l ≡ print m → f ≡ g
+one-file f g l m a b e =
+    let x = back f l a in
+    let y = back g m b in
+    let z : some f ≡ some g = sym x ∙ ap fileOf e ∙ y in
+    cc z
+
+-- a text is taken to no file exactly when no accepted file has this listing
+pub none-exactly : (t : List ℕ) → Bytes t → (fileOf t ≡ none) ↔ ((f : List ℕ) (l : Ledger) → Accepted f l → print l ≡ t → ⊥)
+none-exactly t b = (there, λ h. here h (fileOf t) refl)
+  where
+    there : fileOf t ≡ none → (f : List ℕ) (l : Ledger) → Accepted f l → print l ≡ t → ⊥
+    there n f l a e =
+        let x : fileOf t ≡ some f = rw e at (back f l a) in
+        let z : _≡_ {A = ℕ} 0 1 = cc (x, n) in
+        omega arith
+
+    here : ((f : List ℕ) (l : Ledger) → Accepted f l → print l ≡ t → ⊥) → (o : Option (List ℕ)) → fileOf t ≡ o → fileOf t ≡ none
+    here h none x = x
+    here h (some f) x = let (l, a, e) = forth t f b x in absurd (h f l a e)
+
+-- ── the calls ──
+
+need-inv : (c : Bool) (n : ℕ) (A : Type 0) (k : Answer A) (a : A) → (need c n >> k) ≡ done a → (c ≡ true) × (k ≡ done a)
+unfolding need _>>_ _>>=_
+need-inv true n A k a q = (refl, q)
+need-inv false n A k a q = not-done q
+
+-- what is written fits, and is written whole
+pub fitted-inv : (room : ℕ) (t u : List ℕ) → fitted room t ≡ done u → (t ≡ u) × (length t ≤ room)
+unfolding fitted
+fitted-inv room t u q =
+    let (a, b) = need-inv (leb (length t) room) 19 (List ℕ) _ u q in
+    (cc b, leb-true (length t) room a)
+
+pub fitted-done : (room : ℕ) (t : List ℕ) → length t ≤ room → fitted room t ≡ done t
+unfolding fitted need _>>_ _>>=_
+fitted-done room t h = rw (le-leb (length t) room h)
+
+pub listing-inv : (room table : ℕ) (f t : List ℕ) → Bytes f → listing room table f ≡ done t → (l : Ledger) × Accepted f l × (print l ≡ t)
+unfolding listing read
+listing-inv room table f t b q =
+    let (l, x, y) = bind-done _ _ t q in
+    let (e, z) = answered-done _ l (then-done _ _ l x) in
+    let k = file-kept f l e b z in
+    (l, record { bytes = b; reads = z ∙ ap (got l) (k .2) }, fitted-inv room (print l) t y .0)
+
+pub listing-done : (room table : ℕ) (f : List ℕ) (l : Ledger) → tableLength ≤ table → length (print l) ≤ room → Accepted f l → listing room table f ≡ done (print l)
+unfolding listing read need _>>=_ _>>_ answered
+listing-done room table f l h r a = rw (le-leb tableLength table h, a .reads) (fitted-done room (print l) r)
+
+-- given room, building from an accepted file's listing gives that file again
+pub build-listing :
+    (room table room′ table′ : ℕ) (f t : List ℕ) → Bytes f → listing room table f ≡ done t → tableLength ≤ table′ → length f ≤ room′ → build room′ table′ t ≡ done f
+unfolding build need found _>>=_ _>>_
+build-listing room table room′ table′ f t b q h r =
+    let (l, a, e) = listing-inv room table f t b q in
+    let x : fileOf t ≡ some f = rw e at (back f l a) in
+    rw (le-leb tableLength table′ h, x) (fitted-done room′ f r)
+
+-- and the listing of a built file is the listing it was built from
+pub listing-build :
+    (room table room′ : ℕ) (t f : List ℕ) → Bytes t → build room table t ≡ done f → length t ≤ room′ → (listing room′ table f ≡ done t) × Bytes f × (length f ≤ room)
+unfolding build
+listing-build room table room′ t f b q r =
+    let (h, q₁) = need-inv (leb tableLength table) 15 (List ℕ) _ f q in
+    let (g, x, q₂) = bind-done _ _ f q₁ in
+    let (z, fits) = fitted-inv room g f q₂ in
+    let (l, a, e) = forth t f b (found-done _ 20 g x ∙ ap {B = Option (List ℕ)} some z) in
+    let room-for : length (print l) ≤ room′ = rw e r in
+    (rw e at (listing-done room′ table f l (leb-true tableLength table h) room-for a), a .bytes, rw z at fits)
+
+-- what build answers, by the file that a text is taken to
+outcome : ℕ → Option (List ℕ) → Answer (List ℕ)
+outcome room o = found o 20 >>= fitted room
+
+build-outcome : (room table : ℕ) (t : List ℕ) → tableLength ≤ table → build room table t ≡ outcome room (fileOf t)
+unfolding build outcome need _>>_ _>>=_
+build-outcome room table t h = rw (le-leb tableLength table h)
+
+not-20 : (room : ℕ) (f : List ℕ) → outcome room (some f) ≡ refused 20 → ⊥
+unfolding outcome found need fitted _>>_ _>>=_
+not-20 room f q = go (leb (length f) room) q
+  where
+    go : (b : Bool) → (need b 19 >> done f) ≡ refused 20 → ⊥
+    go true q = let z : _≡_ {A = ℕ} 0 1 = cc q in omega arith
+    go false q = let z : _≡_ {A = ℕ} 19 20 = cc q in omega arith
+
+-- build refuses by 20 exactly when no accepted file has this listing
+pub build-refuses :
+    (room table : ℕ) (t : List ℕ) → Bytes t → tableLength ≤ table
+    → (build room table t ≡ refused 20) ↔ ((f : List ℕ) (room′ : ℕ) → Bytes f → listing room′ table f ≡ done t → ⊥)
+unfolding outcome found _>>=_
+build-refuses room table t b h = (there, λ n. build-outcome room table t h ∙ here n (fileOf t) refl)
+  where
+    there : build room table t ≡ refused 20 → (f : List ℕ) (room′ : ℕ) → Bytes f → listing room′ table f ≡ done t → ⊥
+    there q f room′ bf x =
+        let (l, a, e) = listing-inv room′ table f t bf x in
+        let y : fileOf t ≡ some f = rw e at (back f l a) in
+        not-20 room f (ap (outcome room) (sym y) ∙ sym (build-outcome room table t h) ∙ q)
+
+    here : ((f : List ℕ) (room′ : ℕ) → Bytes f → listing room′ table f ≡ done t → ⊥) → (o : Option (List ℕ)) → fileOf t ≡ o → outcome room o ≡ refused 20
+    here n none x = refl
+    here n (some f) x =
+        let (l, a, e) = forth t f b x in
+        let r : length (print l) ≤ length t = rw e (le-refl (length t)) in
+        absurd (n f (length t) (a .bytes) (rw e at (listing-done (length t) table f l h r a)))
+
+-- ── check ──
+
+check-inv : (table : ℕ) (f : List ℕ) → check table f ≡ done 0 → (l : Ledger) × (e : ℕ) × (file f ≡ got l e)
+unfolding check read
+check-inv table f q =
+    let (l, x, _) = bind-done _ _ 0 q in
+    let (e, y) = answered-done _ l (then-done _ _ l x) in
+    (l, e, y)
+
+check-done : (table : ℕ) (f : List ℕ) (l : Ledger) → tableLength ≤ table → Accepted f l → check table f ≡ done 0
+unfolding check read need answered _>>=_ _>>_
+check-done table f l h a = rw (le-leb tableLength table h, a .reads)
+
+-- check accepts exactly the encodings of the ledgers that keep the rules
+pub check-exactly : (table : ℕ) (f : List ℕ) → tableLength ≤ table → Bytes f → (check table f ≡ done 0) ↔ ((l : Ledger) × (keeps? l ≡ true) × (f ≡ encode l))
+check-exactly table f h b = (there, here)
+  where
+    there : check table f ≡ done 0 → (l : Ledger) × (keeps? l ≡ true) × (f ≡ encode l)
+    there q =
+        let (l, e, y) = check-inv table f q in
+        let k = file-kept f l e b y in
+        (l, k .1, sym (k .0))
+
+    here : (l : Ledger) × (keeps? l ≡ true) × (f ≡ encode l) → check table f ≡ done 0
+    here (l, k, e) = check-done table f l h (accepted-exactly f l .1 (k, e))
