@@ -120,7 +120,7 @@ fold-grows after h (a ∷ l) s = grows-trans (h s a) (fold-grows after h l (afte
 
 head-grows : (s : State) (h : Head) → Grows s (afterHead s h)
 unfolding afterHead
-head-grows s h = 
+head-grows s h =
     record {
       typeNames = begins-more (s .typeNames) (newName s h);
       types = begins-more (s .types) (newType s h);
@@ -131,7 +131,7 @@ head-grows s h =
 
 field-grows : (t : ℕ) (s : State) (g : New) → Grows s (afterNew t s g)
 unfolding afterNew
-field-grows t s g = 
+field-grows t s g =
     record {
       typeNames = begins-refl _;
       types = begins-refl _;

@@ -1,0 +1,64 @@
+//! A short notation for bytes written by hand.
+//!
+//! Words are parted by blanks. A word is hex digits, hex digits repeated
+//! (`80*8`), or the name of a piece:
+//!
+//! - `P`: a string block of the strings a, b, c, d, e (numbers 1 to 5)
+//! - `Q`: a string block of the strings a, b (numbers 1, 2)
+//! - `D`, `E`: the paper's files of these names
+//! - `'word`: the bytes of the word itself
+
+/// The paper's file D.
+pub const FILE_D: &str = "01 00000004 64617465 01 01 00 02 00 01 00 0B 01 0A 01 FF*9";
+/// What file E has behind D.
+pub const BEHIND_D: &str = "00 01 01 01 01 02 80 02";
+
+const PIECE_P: &str = "05 00000001 00000002 00000003 00000004 00000005 6162636465";
+const PIECE_Q: &str = "02 00000001 00000002 6162";
+
+/// The bytes of a text in this notation.
+///
+/// # Panics
+///
+/// If the text is not in this notation; all of them stand in this package.
+pub fn bytes(text: &str) -> Vec<u8> {
+    let mut out = Vec::new();
+    for word in text.split_whitespace() {
+        match word {
+            "P" => out.extend(bytes(PIECE_P)),
+            "Q" => out.extend(bytes(PIECE_Q)),
+            "D" => out.extend(bytes(FILE_D)),
+            "E" => {
+                out.extend(bytes(FILE_D));
+                out.extend(bytes(BEHIND_D));
+            }
+            _ => match word.strip_prefix('\'') {
+                Some(plain) => out.extend_from_slice(plain.as_bytes()),
+                None => repeated(word, &mut out),
+            },
+        }
+    }
+    out
+}
+
+fn repeated(word: &str, out: &mut Vec<u8>) {
+    let (digits, times) = match word.split_once('*') {
+        Some((digits, times)) => (digits, times.parse().expect("a number of times")),
+        None => (word, 1),
+    };
+    let plain = hex(digits);
+    for _ in 0..times {
+        out.extend_from_slice(&plain);
+    }
+}
+
+fn hex(digits: &str) -> Vec<u8> {
+    assert!(
+        digits.len().is_multiple_of(2),
+        "odd number of digits in {digits}"
+    );
+    (0..digits.len())
+        .step_by(2)
+        .map(|at| u8::from_str_radix(&digits[at..at + 2], 16).expect("hex digits"))
+        .collect()
+}

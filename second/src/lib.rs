@@ -1,0 +1,33 @@
+//! A reader and writer of SKilL ledgers, written from the paper alone.
+//!
+//! It is what the proved library is held against, so it shares nothing with
+//! it: no code, no tables, no ideas of how to go about it. The five calls are
+//! [`check`], [`objects`], [`column`], [`listing`] and [`build`]; they work
+//! over lent memory and leave it as the paper says. [`generate`] makes the
+//! files and listings to compare with, [`big`] the ones to measure with.
+
+#![forbid(unsafe_code)]
+
+pub mod big;
+pub mod bounds;
+mod builder;
+mod calls;
+mod column;
+mod cursor;
+pub mod draft;
+pub mod generate;
+pub mod kind;
+pub mod ledger;
+mod listing;
+pub mod names;
+pub mod programs;
+pub mod reader;
+pub mod refusal;
+pub mod tally;
+mod text;
+pub mod v64;
+mod values;
+pub mod vectors;
+
+pub use calls::{build, check, column, listing, objects};
+pub use refusal::Refusal;

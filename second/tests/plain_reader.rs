@@ -1,0 +1,448 @@
+//! A slow reader in another style, held against the fast one.
+//!
+//! It keeps one list of all entries read so far and works everything out from
+//! it whenever it is asked: which types there are, their fields, their
+//! objects. Values are read one by one and byte by byte. No ranges are merged,
+//! no names numbered, no runs skipped.
+
+mod common;
+
+use second::generate::{self, FILES, SEED};
+use second::Refusal;
+
+/// A refusal as number and place.
+type Wrong = (u8, usize);
+
+#[derive(Clone)]
+struct Field {
+    name: Vec<u8>,
+    /// Kind, then length or element kind where there are any; a constant's
+    /// value is left out.
+    kind: Vec<u64>,
+}
+
+#[derive(Clone)]
+struct Entry {
+    block: usize,
+    name: Vec<u8>,
+    new: bool,
+    above: Option<Vec<u8>>,
+    start: u64,
+    count: u64,
+    new_fields: Vec<Field>,
+}
+
+#[derive(Default)]
+struct Plain {
+    strings: Vec<Vec<u8>>,
+    entries: Vec<Entry>,
+}
+
+/// A v64 in `file[..end]`; the byte missing and the padded coding have numbers
+/// of the caller's.
+fn v64(file: &[u8], at: &mut usize, end: usize, short: u8) -> Result<(u64, usize), Wrong> {
+    let place = *at;
+    let mut value = 0u64;
+    for index in 0..9 {
+        if *at >= end {
+            return Err((short, place));
+        }
+        let byte = file[*at];
+        *at += 1;
+        let (bits, last) = match index {
+            8 => (byte, true),
+            _ => (byte & 0x7F, byte & 0x80 == 0),
+        };
+        value |= u64::from(bits) << (7 * index);
+        if last {
+            return match (index, byte) {
+                (1.., 0) => Err((2, place)),
+                _ => Ok((value, place)),
+            };
+        }
+    }
+    unreachable!("the ninth byte is the last")
+}
+
+fn skip(at: &mut usize, end: usize, width: usize, short: u8) -> Result<(), Wrong> {
+    if end - *at < width {
+        return Err((short, *at));
+    }
+    *at += width;
+    Ok(())
+}
+
+impl Plain {
+    fn string(&self, number: u64) -> Option<&Vec<u8>> {
+        self.strings
+            .get(usize::try_from(number).ok()?.checked_sub(1)?)
+    }
+
+    fn types(&self) -> Vec<&Vec<u8>> {
+        let new = self.entries.iter().filter(|entry| entry.new);
+        new.map(|entry| &entry.name).collect()
+    }
+
+    fn of<'a>(&'a self, name: &'a [u8]) -> impl Iterator<Item = &'a Entry> {
+        self.entries.iter().filter(move |entry| entry.name == name)
+    }
+
+    fn above(&self, name: &[u8]) -> Option<Vec<u8>> {
+        self.of(name).find(|entry| entry.new)?.above.clone()
+    }
+
+    fn base(&self, name: &[u8]) -> Vec<u8> {
+        match self.above(name) {
+            Some(above) => self.base(&above),
+            None => name.to_vec(),
+        }
+    }
+
+    fn fields(&self, name: &[u8]) -> Vec<Field> {
+        self.of(name)
+            .flat_map(|entry| entry.new_fields.clone())
+            .collect()
+    }
+
+    fn objects(&self, name: &[u8]) -> u64 {
+        self.of(name).map(|entry| entry.count).sum()
+    }
+
+    /// Whether the base pool's object of this number is of the type.
+    fn has_object(&self, name: &[u8], number: u64) -> bool {
+        let base = self.base(name);
+        self.of(name).any(|entry| {
+            let earlier = self.of(&base).filter(|above| above.block < entry.block);
+            let before: u64 = earlier.map(|above| above.count).sum();
+            let first = before + entry.start + 1;
+            (first..first + entry.count).contains(&number)
+        })
+    }
+
+    fn range_rule(&self, block: usize, above: &[u8], start: u64, count: u64) -> bool {
+        if count == 0 {
+            return start == 0;
+        }
+        let here = |name: &[u8]| self.of(name).find(|entry| entry.block == block).cloned();
+        let Some(upper) = here(above) else {
+            return false;
+        };
+        let inside = start >= upper.start && start + count <= upper.start + upper.count;
+        let siblings = self.entries.iter().filter(|entry| {
+            entry.block == block && self.above(&entry.name).as_deref() == Some(above)
+        });
+        let mut siblings = siblings;
+        inside && siblings.all(|other| other.count == 0 || start >= other.start + other.count)
+    }
+}
+
+fn read(file: &[u8]) -> Result<(), Wrong> {
+    if file.len() > 1_048_576 {
+        return Err((3, 0));
+    }
+    let mut plain = Plain::default();
+    let mut at = 0;
+    let mut block = 0;
+    while at < file.len() {
+        if block == 32 {
+            return Err((3, at));
+        }
+        strings(&mut plain, file, &mut at)?;
+        types(&mut plain, file, &mut at, block)?;
+        block += 1;
+    }
+    Ok(())
+}
+
+fn strings(plain: &mut Plain, file: &[u8], at: &mut usize) -> Result<(), Wrong> {
+    let (count, place) = v64(file, at, file.len(), 1)?;
+    if plain.strings.len() as u128 + u128::from(count) > 1_024 {
+        return Err((3, place));
+    }
+    let mut ends = vec![0];
+    for _ in 0..count {
+        let place = *at;
+        skip(at, file.len(), 4, 1)?;
+        let end = u32::from_be_bytes(file[place..place + 4].try_into().unwrap()) as usize;
+        if end < *ends.last().unwrap() {
+            return Err((4, place));
+        }
+        ends.push(end);
+    }
+    let bytes = *at;
+    skip(at, file.len(), *ends.last().unwrap(), 1)?;
+    for pair in ends.windows(2) {
+        plain
+            .strings
+            .push(file[bytes + pair[0]..bytes + pair[1]].to_vec());
+    }
+    Ok(())
+}
+
+/// A chunk to be read: kind, number of values, end offset.
+type Chunk = (Vec<u64>, u64, u64);
+
+fn types(plain: &mut Plain, file: &[u8], at: &mut usize, block: usize) -> Result<(), Wrong> {
+    let mut chunks: Vec<Chunk> = Vec::new();
+    let mut kinds: Vec<(u64, usize)> = Vec::new();
+    let (entries, place) = v64(file, at, file.len(), 1)?;
+    if entries > 65_535 {
+        return Err((3, place));
+    }
+    for _ in 0..entries {
+        entry(plain, file, at, block, &mut chunks, &mut kinds)?;
+    }
+    let region = *at;
+    let length = chunks.last().map_or(0, |chunk| chunk.2);
+    if length > (file.len() - region) as u64 {
+        return Err((1, region));
+    }
+    for (kind, place) in kinds {
+        if kind - 32 >= plain.types().len() as u64 {
+            return Err((10, place));
+        }
+    }
+    for (kind, values, end) in chunks {
+        let end = region + end as usize;
+        for _ in 0..values {
+            value(plain, file, at, end, &kind)?;
+        }
+        if *at < end {
+            return Err((12, *at));
+        }
+    }
+    Ok(())
+}
+
+fn entry(
+    plain: &mut Plain,
+    file: &[u8],
+    at: &mut usize,
+    block: usize,
+    chunks: &mut Vec<Chunk>,
+    kinds: &mut Vec<(u64, usize)>,
+) -> Result<(), Wrong> {
+    let (number, place) = v64(file, at, file.len(), 1)?;
+    let name = plain.string(number).ok_or((5, place))?.clone();
+    let new = plain.of(&name).next().is_none();
+    if new && plain.types().len() == 32 {
+        return Err((3, place));
+    }
+    if plain.of(&name).any(|entry| entry.block == block) {
+        return Err((6, place));
+    }
+    let mut above = plain.above(&name);
+    if new {
+        let (number, place) = v64(file, at, file.len(), 1)?;
+        if number != 0 {
+            let wanted = plain.string(number).ok_or((5, place))?.clone();
+            plain.of(&wanted).next().ok_or((7, place))?;
+            above = Some(wanted);
+        }
+    }
+    let mut start = 0;
+    if above.is_some() {
+        let (number, place) = v64(file, at, file.len(), 1)?;
+        if number > 65_535 {
+            return Err((3, place));
+        }
+        start = number;
+    }
+    let (count, place) = v64(file, at, file.len(), 1)?;
+    let bases = plain
+        .entries
+        .iter()
+        .filter(|entry| plain.above(&entry.name).is_none());
+    let all: u64 = bases.map(|entry| entry.count).sum();
+    if count > 65_535 || above.is_none() && all + count > 65_535 {
+        return Err((3, place));
+    }
+    if above
+        .as_ref()
+        .is_some_and(|above| !plain.range_rule(block, above, start, count))
+    {
+        return Err((21, place));
+    }
+    if new {
+        restrictions(file, at)?;
+    }
+    let known = plain.fields(&name);
+    plain.entries.push(Entry {
+        block,
+        name: name.clone(),
+        new,
+        above,
+        start,
+        count,
+        new_fields: Vec::new(),
+    });
+    let (fields, place) = v64(file, at, file.len(), 1)?;
+    let given = if count > 0 { known.len() as u64 } else { 0 };
+    let declared: usize = plain
+        .entries
+        .iter()
+        .map(|entry| entry.new_fields.len())
+        .sum();
+    if fields < given {
+        return Err((11, place));
+    }
+    if u128::from(fields - given) + declared as u128 > 128 {
+        return Err((3, place));
+    }
+    for index in 0..fields {
+        let (kind, values) = if index < given {
+            (known[index as usize].kind.clone(), count)
+        } else {
+            let field = new_field(plain, file, at, &name, kinds)?;
+            plain
+                .entries
+                .last_mut()
+                .unwrap()
+                .new_fields
+                .push(field.clone());
+            (field.kind, plain.objects(&name))
+        };
+        let (end, place) = v64(file, at, file.len(), 1)?;
+        if chunks.last().is_some_and(|chunk| end < chunk.2) {
+            return Err((4, place));
+        }
+        chunks.push((kind, values, end));
+    }
+    Ok(())
+}
+
+fn restrictions(file: &[u8], at: &mut usize) -> Result<(), Wrong> {
+    match v64(file, at, file.len(), 1)? {
+        (0, _) => Ok(()),
+        (_, place) => Err((9, place)),
+    }
+}
+
+fn new_field(
+    plain: &Plain,
+    file: &[u8],
+    at: &mut usize,
+    owner: &[u8],
+    kinds: &mut Vec<(u64, usize)>,
+) -> Result<Field, Wrong> {
+    restrictions(file, at)?;
+    let (kind, place) = v64(file, at, file.len(), 1)?;
+    let mut numbers = vec![kind];
+    let mut element = (kind, place);
+    match kind {
+        0..=3 => skip(at, file.len(), 1 << kind, 1)?,
+        4 => drop(v64(file, at, file.len(), 1)?),
+        5 | 16 | 20..=31 => return Err((10, place)),
+        15 | 17..=19 => {
+            if kind == 15 {
+                let (length, place) = v64(file, at, file.len(), 1)?;
+                if length > 65_535 {
+                    return Err((3, place));
+                }
+                numbers.push(length);
+            }
+            element = v64(file, at, file.len(), 1)?;
+            numbers.push(element.0);
+            if matches!(element.0, 0..=5 | 15..=31) {
+                return Err((10, element.1));
+            }
+        }
+        _ => {}
+    }
+    if element.0 >= 32 {
+        kinds.push(element);
+    }
+    let (number, place) = v64(file, at, file.len(), 1)?;
+    let name = plain.string(number).ok_or((5, place))?.clone();
+    if plain.fields(owner).iter().any(|field| field.name == name) {
+        return Err((6, place));
+    }
+    Ok(Field {
+        name,
+        kind: numbers,
+    })
+}
+
+fn value(
+    plain: &Plain,
+    file: &[u8],
+    at: &mut usize,
+    end: usize,
+    kind: &[u64],
+) -> Result<(), Wrong> {
+    match *kind {
+        [0..=4] => Ok(()),
+        [15, length, element] => {
+            for _ in 0..length {
+                one(plain, file, at, end, element)?;
+            }
+            Ok(())
+        }
+        [17..=19, element] => {
+            let (length, place) = v64(file, at, end, 12)?;
+            if length > 65_535 {
+                return Err((3, place));
+            }
+            for _ in 0..length {
+                one(plain, file, at, end, element)?;
+            }
+            Ok(())
+        }
+        [single] => one(plain, file, at, end, single),
+        _ => unreachable!("kinds have these forms"),
+    }
+}
+
+fn one(plain: &Plain, file: &[u8], at: &mut usize, end: usize, kind: u64) -> Result<(), Wrong> {
+    match kind {
+        6 => {
+            let place = *at;
+            skip(at, end, 1, 12)?;
+            match file[place] {
+                0x00 | 0xFF => Ok(()),
+                _ => Err((13, place)),
+            }
+        }
+        7 => skip(at, end, 1, 12),
+        8 => skip(at, end, 2, 12),
+        9 | 12 => skip(at, end, 4, 12),
+        10 | 13 => skip(at, end, 8, 12),
+        11 => v64(file, at, end, 12).map(drop),
+        14 => match v64(file, at, end, 12)? {
+            (number, place) if number > plain.strings.len() as u64 => Err((14, place)),
+            _ => Ok(()),
+        },
+        _ => {
+            let (number, place) = v64(file, at, end, 12)?;
+            let owner = plain.types()[kind as usize - 32];
+            if number != 0 && !plain.has_object(owner, number) {
+                return Err((14, place));
+            }
+            Ok(())
+        }
+    }
+}
+
+#[test]
+fn both_readers_agree_on_number_and_place() {
+    for seed in [SEED, 11] {
+        for case in generate::files(seed, FILES) {
+            let slow = read(&case.bytes);
+            let fast = second::reader::read(&case.bytes).map(drop);
+            let fast = fast.map_err(|Refusal { number, place }| (number, place as usize));
+            assert_eq!(fast, slow, "{}", case.label);
+        }
+    }
+}
+
+/// The slow reader is no copy of the fast one's answers: it gives the paper's.
+#[test]
+fn the_slow_reader_gives_the_answers_of_the_rules() {
+    for case in generate::fixed_files() {
+        if let Some(expected) = case.expected {
+            let answer = read(&case.bytes).err().map_or(0, |(number, _)| number);
+            assert_eq!(answer, expected, "{}", case.label);
+        }
+    }
+    assert_eq!(read(&common::bytes("E")), Ok(()));
+}
