@@ -79,7 +79,7 @@ AlikeChunks i (d ∷ ds) [] (c ∷ cs) = ⊥
 AlikeChunks i (d ∷ ds) (c ∷ cs) [] = ⊥
 AlikeChunks i (d ∷ ds) (c ∷ cs) (c′ ∷ cs′) = ((d .field ≡ i → ⊥) → c ≡ c′) × AlikeChunks i ds cs cs′
 
-abbrev chunksOf : State → List (Due × ℕ) → Reader (List Chunk)
+abbrev pub chunksOf : State → List (Due × ℕ) → Reader (List Chunk)
 chunksOf s ds = each (λ (u : Unit {0}). chunk s) (λ u c. u) ds tt
 
 -- in a region that begins at m, from `at` on, f and g differ only in spots of field i
@@ -192,15 +192,15 @@ unfolding give
 give-inv a f at v e q = (cc q, cc q)
 
 -- a pair that was read: its front, and its region
-record Parts (s : State) (f : List ℕ) (at : ℕ) (p : Pair) (e : ℕ) : Type 0 where
-  d : Front
-  next : ℕ
-  first : front anyType s f at ≡ got d next
-  region : dataRegion (afterFront s (d .strings) (d .entries)) (dues (withStrings s (d .strings)) (d .entries)) (d .ends) f next ≡ got (p .chunks) e
-  strings : p .strings ≡ d .strings
-  entries : p .entries ≡ d .entries
+pub record Parts (s : State) (f : List ℕ) (at : ℕ) (p : Pair) (e : ℕ) : Type 0 where
+  pub d : Front
+  pub next : ℕ
+  pub first : front anyType s f at ≡ got d next
+  pub region : dataRegion (afterFront s (d .strings) (d .entries)) (dues (withStrings s (d .strings)) (d .entries)) (d .ends) f next ≡ got (p .chunks) e
+  pub strings : p .strings ≡ d .strings
+  pub entries : p .entries ≡ d .entries
 
-parts : (s : State) (f : List ℕ) (at : ℕ) (p : Pair) (e : ℕ) → pair s f at ≡ got p e → Parts s f at p e
+pub parts : (s : State) (f : List ℕ) (at : ℕ) (p : Pair) (e : ℕ) → pair s f at ≡ got p e → Parts s f at p e
 unfolding pair pairFrom
 parts s f at p e q =
     let P = bind-inv (front anyType s) _ f at p e q in
@@ -238,11 +238,11 @@ follow : ℕ → State → Pair → Reader Ledger
 follow n s p = pairs n (afterPair s p) >>= λ ps. give (p ∷ ps)
 
 -- pairs that were read: none at the end of the file, or one and more
-data Went (n : ℕ) (s : State) (f : List ℕ) (at : ℕ) : Ledger → ℕ → Type 0 where
+pub data Went (n : ℕ) (s : State) (f : List ℕ) (at : ℕ) : Ledger → ℕ → Type 0 where
   ended : {l : Ledger} {e : ℕ} → length f ≤ at → l ≡ [] → Went n s f at l e
   went : {l : Ledger} {e : ℕ} (p : Pair) (m : ℕ) (ps : Ledger) → at < length f → pair s f at ≡ got p m → pairs n (afterPair s p) f m ≡ got ps e → l ≡ p ∷ ps → Went n s f at l e
 
-went-through : (n : ℕ) (s : State) (f : List ℕ) (at : ℕ) (l : Ledger) (e : ℕ) → pairs (suc n) s f at ≡ got l e → Went n s f at l e
+pub went-through : (n : ℕ) (s : State) (f : List ℕ) (at : ℕ) (l : Ledger) (e : ℕ) → pairs (suc n) s f at ≡ got l e → Went n s f at l e
 unfolding pairs toEnd follow
 went-through n s f at l e q = go (unlessEnd-inv [] (pair s >>= follow n s) f at l e q)
   where
@@ -255,7 +255,7 @@ went-through n s f at l e q = go (unlessEnd-inv [] (pair s >>= follow n s) f at 
         went (P .value) (P .next) (F .value) (b .before) (P .first) (F .first ∙ ap (λ (x : ℕ). got (F .value) x) (sym (G .1))) (G .0)
 
 -- the spots of one pair and more
-spots-more :
+pub spots-more :
     (n : ℕ) (s : State) (f : List ℕ) (at : ℕ) (p : Pair) (e : ℕ) (P : Parts s f at p e) → at < length f
     → spotsOf (suc n) s f at ≡ pairSpots s (P .d) (P .next) ++ spotsOf n (afterPair s p) f e
 unfolding spotsOf if_then_else_
@@ -263,7 +263,7 @@ spots-more n s f at p e P lt =
     let z = region-end _ _ (P .d .ends) f (P .next) (p .chunks) e (P .region) in
     rw (lt-leb (length f) at lt, P .first, after-parts s p (P .d) (P .strings) (P .entries), ← z .0)
 
-spots-end : (n : ℕ) (s : State) (f : List ℕ) (at : ℕ) → length f ≤ at → spotsOf n s f at ≡ []
+pub spots-end : (n : ℕ) (s : State) (f : List ℕ) (at : ℕ) → length f ≤ at → spotsOf n s f at ≡ []
 unfolding spotsOf if_then_else_
 spots-end zero s f at h = refl
 spots-end (suc n) s f at h = rw (le-leb (length f) at h)

@@ -27,7 +27,7 @@ use Rattle.laws.specs.Exact.{file-kept}
 
 -- ── a chunk that is due is of a declared field ──
 
-abbrev Under : ℕ → List Due → Type 0
+abbrev pub Under : ℕ → List Due → Type 0
 Under m [] = Unit {0}
 Under m (d ∷ ds) = (d .field < m) × Under m ds
 
@@ -100,17 +100,17 @@ plain-chunk : (s : State) (d : Due) (c : Chunk) (k : ℕ) → fieldAt s (d .fiel
 unfolding chunk?
 plain-chunk s d c k z a = let (_, b) = and-split (eqb (length c) (d .values)) (all (value? s (fieldAt s (d .field) .kind)) c) a in rw z at b
 
-after-begins : (s : State) (p : Pair) (l : Ledger) → Begins (afterFront s (p .strings) (p .entries) .fields) (fold afterPair (afterPair s p) l .fields)
+pub after-begins : (s : State) (p : Pair) (l : Ledger) → Begins (afterFront s (p .strings) (p .entries) .fields) (fold afterPair (afterPair s p) l .fields)
 unfolding afterPair closed
 after-begins s p l = fold-grows afterPair pair-grows l (afterPair s p) .fields
 
-front-under : (s : State) (p : Pair) → Under (length (afterFront s (p .strings) (p .entries) .fields)) (dues (withStrings s (p .strings)) (p .entries))
+pub front-under : (s : State) (p : Pair) → Under (length (afterFront s (p .strings) (p .entries) .fields)) (dues (withStrings s (p .strings)) (p .entries))
 unfolding afterFront
 front-under s p = dues-under (p .entries) (withStrings s (p .strings))
 
 module _ (j k : ℕ) (F : List Field) (plain-j : getD F j noField .kind ≡ plain k) where
   -- a field that is declared keeps its kind
-  kind-there : (s : State) → Begins (s .fields) F → j < length (s .fields) → fieldAt s j .kind ≡ plain k
+  pub kind-there : (s : State) → Begins (s .fields) F → j < length (s .fields) → fieldAt s j .kind ≡ plain k
   unfolding fieldAt
   kind-there s b lt = ap (λ (d : Field). d .kind) (sym (List·getD-append (s .fields) (b .rest) noField j lt)) ∙ ap (λ (l : List Field). getD l j noField .kind) (sym (b .is)) ∙ plain-j
 

@@ -26,3 +26,4 @@ pub mod Turns
 pub mod Arrays
 pub mod Built
 pub mod Promises
+pub mod Refill
