@@ -1,0 +1,209 @@
+-- A v64 of two bytes or more, read byte by byte. Assumes nothing.
+use mathlib.Core.Path.{_≡_, refl, sym, ap, _∙_}
+use mathlib.Core.Bool.{Bool, true, false}
+use mathlib.Core.List.{List, [], _∷_}
+use Prim.Native.Nat.{ℕ, zero, suc, _+_, _-_, _*_, _^_, _≤_, _<_}
+use native.Mathlib.Omega.{arith}
+use native.Mathlib.Nat.{mul-add, mul-assoc, pow-suc, one-le-pow, mul-le-mul-left, lt-of-not-le}
+use native.Mathlib.Decide.{decLe}
+use lib.Dec.{leb, ltb, lit<}
+use lib.ListN.{length, getD}
+use lib.Seq.{drop-cons}
+use borrow.Author.Tests.{le-leb, lt-leb, lt-ltb, le-ltb}
+use Rattle.paper.specs.Reader.{
+  Out,
+  got,
+  no,
+  andThen,
+  Reader,
+  if_then_else_,
+  _>>=_,
+  give,
+  hold,
+  must,
+  fromStart,
+  started,
+  bytes,
+  Rule,
+  _orNo_,
+}
+use Rattle.paper.specs.Numbers.{highFirst, fixed, coding, lowFirst, lastIsNot0, shortest, v64}
+use Rattle.numbers.specs.Begun.{Begun}
+use Rattle.numbers.specs.Cursors.{Read, answer-got, answer-no}
+use Rattle.numbers.specs.declared.Number.the-variants.{Got, No}
+
+-- ── one byte ──
+
+one-byte : (f : List ℕ) (p : ℕ) → p < length f → fixed 1 f p ≡ got (getD f p 0) (p + 1)
+unfolding fixed bytes _>>=_ give if_then_else_ highFirst
+one-byte f p h = rw (le-leb (p + 1) (length f) (omega arith), drop-cons f p 0 h) (ap (λ (n : ℕ). got n (p + 1)) (omega arith))
+
+no-byte : (f : List ℕ) (p : ℕ) → length f ≤ p → fixed 1 f p ≡ no 1 p
+unfolding fixed bytes _>>=_ give if_then_else_
+no-byte f p h = rw (lt-leb (p + 1) (length f) (omega arith))
+
+-- ── the coding by cases, as code meets them ──
+
+clash {ℓ} : {X : Type ℓ} → _≡_ {A = ℕ} 0 1 → X
+clash z = absurd (omega arith)
+
+module _ (f : List ℕ) (p : ℕ) where
+  cut : (k : ℕ) → length f ≤ p → coding k f p ≡ no 1 p
+  unfolding coding _>>=_
+  cut zero h = rw (no-byte f p h)
+  cut (suc k) h = rw (no-byte f p h)
+
+  -- the last byte: the ninth, or one whose top bit is not set
+  last : (k : ℕ) → p < length f → (0 < k → getD f p 0 < 128) → coding k f p ≡ got (getD f p 0 ∷ []) (p + 1)
+  unfolding coding _>>=_ give if_then_else_
+  last zero h lt = rw (one-byte f p h)
+  last (suc k) h lt = rw (one-byte f p h, lt-leb 128 (getD f p 0) (lt (omega arith)))
+
+  more :
+      (k : ℕ) → p < length f → 128 ≤ getD f p 0
+      → coding (suc k) f p ≡ andThen (coding k f (p + 1)) (λ bs e. got (getD f p 0 ∷ bs) e)
+  unfolding coding _>>=_ give if_then_else_
+  more k h le = rw (one-byte f p h, le-leb 128 (getD f p 0) le)
+
+  -- a coding has a byte
+  has-byte : (k e : ℕ) → coding k f p ≡ got [] e → ⊥
+  unfolding coding _>>=_ give if_then_else_
+  has-byte k e h = at-place (decLe (length f) p)
+    where
+      after : (b : ℕ) (o : Out (List ℕ)) → andThen o (λ bs m. got (b ∷ bs) m) ≡ got [] e → ⊥
+      after b (got bs m) q = clash (cc q)
+      after b (no n m) q = clash (cc q)
+
+      with-byte : (k : ℕ) → coding k f p ≡ got [] e → p < length f → Dec (128 ≤ getD f p 0) → ⊥
+      with-byte zero q lt d = let z = sym (last zero lt (λ i. absurd (omega arith))) ∙ q in clash (cc z)
+      with-byte (suc k) q lt (Dec.yes d) = after _ (coding k f (p + 1)) (sym (more k lt d) ∙ q)
+      with-byte (suc k) q lt (Dec.no d) = let z = sym (last (suc k) lt (λ i. lt-of-not-le d)) ∙ q in clash (cc z)
+
+      at-place : Dec (length f ≤ p) → ⊥
+      at-place (Dec.yes d) = let z = sym (cut k d) ∙ h in clash (cc z)
+      at-place (Dec.no d) = with-byte k h (lt-of-not-le d) (decLe 128 (getD f p 0))
+
+-- ── from a coding to its number ──
+
+-- what the rest of a coding makes of the bytes before it: x is their value, and w what the rest counts for
+unfoldable pub finish : ℕ → ℕ → ℕ → Out (List ℕ) → Out ℕ
+finish at x w (got bs e) = if lastIsNot0 bs then got (x + w * lowFirst bs) e else no 2 at
+finish at x w (no n p) = no n at
+
+-- a byte more before the rest
+with-next :
+    (at x w b : ℕ) (o : Out (List ℕ)) → ((e : ℕ) → o ≡ got [] e → ⊥)
+    → finish at x w (andThen o (λ bs e. got (b ∷ bs) e)) ≡ finish at (x + w * (b - 128)) (w * 128) o
+unfolding finish lastIsNot0 lowFirst
+with-next at x w b (got [] e) h = absurd (h e refl)
+with-next at x w b (got (c ∷ bs) e) h =
+    let v : x + w * (b - 128 + 128 * lowFirst (c ∷ bs)) ≡ x + w * (b - 128) + w * 128 * lowFirst (c ∷ bs) =
+    rw (mul-add, mul-assoc w 128 (lowFirst (c ∷ bs))) (omega arith) in
+    rw v
+with-next at x w b (no n p) h = refl
+
+-- the whole coding, held to the rule
+abbrev held : ℕ → Out (List ℕ) → Out ℕ
+held at o = andThen (andThen (fromStart at o) (λ bs e. hold ((shortest bs orNo 2) ∷ []) at (got bs e))) (λ bs e. got (lowFirst bs) e)
+
+v64-held : (f : List ℕ) (at : ℕ) → v64 f at ≡ held at (coding 8 f at)
+unfolding v64 must started _>>=_ give
+v64-held f at = refl
+
+with-first :
+    (at b : ℕ) (o : Out (List ℕ)) → ((e : ℕ) → o ≡ got [] e → ⊥)
+    → held at (andThen o (λ bs e. got (b ∷ bs) e)) ≡ finish at (b - 128) 128 o
+unfolding finish shortest lowFirst if_then_else_
+with-first at b (got [] e) h = absurd (h e refl)
+with-first at b (got (c ∷ bs) e) h = by-rule (lastIsNot0 (c ∷ bs))
+  where
+    by-rule :
+        (t : Bool)
+        → andThen (hold ((t orNo 2) ∷ []) at (got (b ∷ c ∷ bs) e)) (λ a m. got (lowFirst a) m)
+        ≡ (if t then got (b - 128 + 128 * lowFirst (c ∷ bs)) e else no 2 at)
+    by-rule true = refl
+    by-rule false = refl
+with-first at b (no n p) h = refl
+
+-- ── the first byte ──
+
+pub none-there : (f : List ℕ) (at : ℕ) → length f ≤ at → Read v64 (2 ^ 64) f at (No (record { number = 1; place = at }))
+none-there f at h = answer-no (v64-held f at ∙ rw (cut f at 8 h)) (lit< tt)
+
+pub one-there :
+    (f : List ℕ) (at b : ℕ) → at < length f → b ≡ getD f at 0 → b < 128
+    → Read v64 (2 ^ 64) f at (Got b (record { at = at + 1 }))
+unfolding shortest lastIsNot0 lowFirst
+one-there f at b room is h =
+    answer-got (v64-held f at ∙ rw (last f at 8 room (λ i. rw (sym is) h), sym is)) (omega arith) (omega arith)
+
+-- ── the loop: x is the value of the bytes before p, w what the rest counts for, and `left` how many may come before the ninth ──
+
+pub record Reading (f : List ℕ) (at x w p left : ℕ) : Type 0 where
+  pub means : v64 f at ≡ finish at x w (coding left f p)
+  pub below : x < w
+  pub power : w * 128 ^ left ≡ 2 ^ 56
+
+pub reading-start : {f : List ℕ} {at low : ℕ} → Begun f at low → Reading f at low 128 (at + 1) 7
+reading-start {f} {at} {low} B =
+    let b : getD f at 0 - 128 ≡ low = omega (arith, B .byte) in
+    record {
+      means =
+          v64-held f at
+          ∙ rw (more f at 7 (B .room) (omega (arith, B .byte)), with-first at (getD f at 0) (coding 7 f (at + 1)) (has-byte f (at + 1) 7), b);
+      below = B .small;
+      power = refl;
+    }
+
+weight-most : (w k : ℕ) → w * 128 ^ k ≡ 2 ^ 56 → w ≤ 2 ^ 56
+weight-most w k h = omega (arith, mul-le-mul-left w (one-le-pow k 128 (lit< tt)))
+
+weight-next : (w k : ℕ) → w * 128 ^ suc k ≡ 2 ^ 56 → w * 128 * 128 ^ k ≡ 2 ^ 56
+weight-next w k h = let z : w * (128 ^ k * 128) ≡ 2 ^ 56 = rw (pow-suc 128 k) at h in omega arith
+
+module _ {f : List ℕ} {at x w p left : ℕ} (R : Reading f at x w p left) where
+  -- every product and sum of the loop fits
+  pub fits : (b : ℕ) → b < 256 → (w * b < 2 ^ 64) × (x + w * b < 2 ^ 64) × (w * 128 < 2 ^ 64)
+  fits b h =
+      let below = R .below in
+      let most = weight-most w left (R .power) in
+      let m = mul-le-mul-left {m = b} {n = 255} w (omega arith) in
+      (omega arith, omega arith, omega arith)
+
+  pub reading-cut : length f ≤ p → Read v64 (2 ^ 64) f at (No (record { number = 1; place = at }))
+  unfolding finish
+  reading-cut h = answer-no (R .means ∙ rw (cut f p left h)) (lit< tt)
+
+  module _ (b : ℕ) (room : p < length f) (is : b ≡ getD f p 0) where
+    stops : (0 < left → b < 128) → v64 f at ≡ finish at x w (got (b ∷ []) (p + 1))
+    stops h = R .means ∙ rw (last f p left room (λ i. rw (sym is) (h i)), sym is)
+
+    pub reading-padded : (q : ℕ) → q ≡ at → b ≡ 0 → Read v64 (2 ^ 64) f at (No (record { number = 2; place = q }))
+    unfolding finish lastIsNot0 if_then_else_
+    reading-padded q here z =
+        rw here (answer-no (stops (λ i. omega arith) ∙ rw (le-ltb 0 b (omega arith))) (lit< tt))
+
+    pub reading-last :
+        (y : ℕ) → y ≡ x + w * b → 0 < b → (0 < left → b < 128) → b < 256
+        → Read v64 (2 ^ 64) f at (Got y (record { at = p + 1 }))
+    unfolding finish lastIsNot0 lowFirst if_then_else_
+    reading-last y sum z h small =
+        rw sum (answer-got (stops h ∙ rw (lt-ltb 0 b z)) (omega arith) (fits b small .1))
+
+    pub reading-next :
+        (y : ℕ) → y ≡ x + w * (b - 128) → 0 < left → 128 ≤ b → b < 256 → Reading f at y (w * 128) (p + 1) (left - 1)
+    reading-next y sum some le small = rw sum (go left R some)
+      where
+        go : (k : ℕ) → Reading f at x w p k → 0 < k → Reading f at (x + w * (b - 128)) (w * 128) (p + 1) (k - 1)
+        go zero S h = absurd (omega arith)
+        go (suc k) S h =
+            let below = S .below in
+            let m = mul-le-mul-left {m = b - 128} {n = 127} w (omega arith) in
+            let one-less : suc k - 1 ≡ k = omega arith in
+            record {
+              means =
+                  S .means
+                  ∙ rw (more f p k room (rw (sym is) le), sym is, with-next at x w b (coding k f (p + 1)) (has-byte f (p + 1) k), one-less);
+              below = omega arith;
+              power = rw one-less (weight-next w k (S .power));
+            }

@@ -1,0 +1,12 @@
+use borrow.Author.Needs.{needs}
+use mathlib.Core.Path.{refl, _∙_}
+use mir.Facts.{toZ-ofZ}
+use Rattle.numbers.proofs.sign.signed8.Statement.{statement}
+use Rattle.numbers.proofs.sign.signed8.Tie as tie
+
+pub signed8-spec : {M : Type 1} → statement M
+signed8-spec =
+    tie.close
+    (tie.spec
+    (λ c κs. search needs)
+    (λ c. toZ-ofZ (record { sfits = c .from-bits .ok }) ∙ c .from-bits .ensures 8 refl))

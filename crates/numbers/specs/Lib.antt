@@ -1,0 +1,4 @@
+pub mod Cursors
+pub mod Begun
+pub mod Signs
+pub mod Lengths

@@ -1,0 +1,164 @@
+// Numbers in lent bytes. Here they are read, at a cursor; `sign` has their signs, and `write` puts them into a buffer.
+pub mod sign;
+pub mod write;
+
+ghost use mathlib.Core.Path.{_≡_};
+ghost use Prim.Native.Nat.{_^_, _≤_, _<_};
+ghost use Rattle.paper.specs.Numbers.{fixed, v64};
+ghost use Rattle.numbers.specs.Cursors.{Read, refusalOf};
+ghost use Rattle.numbers.specs.Begun.{Begun};
+
+// A place in the bytes, handed on by value.
+pub struct Cursor {
+    pub at: usize,
+}
+
+// A refusal: its number, and the place where what broke the rule began.
+pub struct Refusal {
+    pub number: u64,
+    pub place: usize,
+}
+
+impl Refusal {
+    // The bytes end within a number.
+    pub const SHORT: u64 = 1;
+
+    // A v64 has more bytes than it needs.
+    pub const PADDED: u64 = 2;
+}
+
+// A number that was read, with the cursor behind it, or the refusal.
+pub enum Number {
+    Got(u64, Cursor),
+    No(Refusal),
+}
+
+// The refusal of an answer that is one. An answer that is none has number 0, which no rule has.
+pub fn refused(n: Number) -> Refusal
+    ensures { λ r. ⌜ r ≡ refusalOf n ⌝ }
+{
+    match n {
+        Number::Got(_, c) => Refusal {
+            number: 0,
+            place: c.at,
+        },
+        Number::No(r) => r,
+    }
+}
+
+fn refuse(number: u64, place: usize) -> Number
+    ensures { λ r. ⌜ r ≡ Number.No (record { number = number; place = place }) ⌝ }
+{
+    Number::No(Refusal { number, place })
+}
+
+// A byte as a number. Its bound, said once, spares each reader a fact.
+fn wide(b: u8) -> u64
+    ensures { λ r. ⌜ (r ≡ b) × (r < 256) ⌝ }
+{
+    b as u64
+}
+
+// `width` bytes, highest first.
+fn fixed_at(s: &[u8], at: usize, width: usize) -> Number
+    requires { ⌜ width ≤ 8 ⌝ }
+    ensures { λ r. ⌜ Read (fixed width) (256 ^ width) (now (s .entry)) at r ⌝ }
+{
+    if s.len() < at {
+        return refuse(Refusal::SHORT, at);
+    }
+    if s.len() - at < width {
+        return refuse(Refusal::SHORT, at);
+    }
+    let mut x: u64 = 0;
+    let mut i: usize = 0;
+    while i < width {
+        let b = wide(s[at + i]);
+        x = x * 256 + b;
+        i += 1;
+    }
+    Number::Got(x, Cursor { at: at + width })
+}
+
+// The v64 that begins at `at` with a byte that another follows, and whose low seven bits are `low`: its other bytes. Each
+// but the ninth has seven bits, and none of them may be 00 where it is the last.
+fn v64_on(s: &[u8], at: usize, low: u64) -> Number
+    requires { ⌜ Begun (now s) at low ⌝ }
+    ensures { λ r. ⌜ Read v64 (2 ^ 64) (now (s .entry)) at r ⌝ }
+{
+    let mut x = low;
+    let mut weight: u64 = 128;
+    let mut p = at + 1;
+    let mut left: u64 = 7;
+    while 0 < left {
+        if s.len() <= p {
+            return refuse(Refusal::SHORT, at);
+        }
+        let b = wide(s[p]);
+        if b == 0 {
+            return refuse(Refusal::PADDED, at);
+        }
+        p += 1;
+        if b < 128 {
+            let high = weight * b;
+            let sum = x + high;
+            return Number::Got(sum, Cursor { at: p });
+        }
+        let part = weight * (b - 128);
+        x += part;
+        weight *= 128;
+        left -= 1;
+    }
+    if s.len() <= p {
+        return refuse(Refusal::SHORT, at);
+    }
+    let b = wide(s[p]);
+    if b == 0 {
+        return refuse(Refusal::PADDED, at);
+    }
+    let next = p + 1;
+    let top = weight * b;
+    let sum = x + top;
+    Number::Got(sum, Cursor { at: next })
+}
+
+impl Cursor {
+    // One byte is the case to be fast in: most numbers of a file have no more.
+    pub fn v64(self, s: &[u8]) -> Number
+        ensures { λ r. ⌜ Read v64 (2 ^ 64) (now (s .entry)) (self .at) r ⌝ }
+    {
+        let at = self.at;
+        if s.len() <= at {
+            return refuse(Refusal::SHORT, at);
+        }
+        let b = wide(s[at]);
+        if b < 128 {
+            return Number::Got(b, Cursor { at: at + 1 });
+        }
+        v64_on(s, at, b - 128)
+    }
+
+    pub fn be1(self, s: &[u8]) -> Number
+        ensures { λ r. ⌜ Read (fixed 1) (256 ^ 1) (now (s .entry)) (self .at) r ⌝ }
+    {
+        fixed_at(s, self.at, 1)
+    }
+
+    pub fn be2(self, s: &[u8]) -> Number
+        ensures { λ r. ⌜ Read (fixed 2) (256 ^ 2) (now (s .entry)) (self .at) r ⌝ }
+    {
+        fixed_at(s, self.at, 2)
+    }
+
+    pub fn be4(self, s: &[u8]) -> Number
+        ensures { λ r. ⌜ Read (fixed 4) (256 ^ 4) (now (s .entry)) (self .at) r ⌝ }
+    {
+        fixed_at(s, self.at, 4)
+    }
+
+    pub fn be8(self, s: &[u8]) -> Number
+        ensures { λ r. ⌜ Read (fixed 8) (256 ^ 8) (now (s .entry)) (self .at) r ⌝ }
+    {
+        fixed_at(s, self.at, 8)
+    }
+}

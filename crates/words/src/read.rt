@@ -1,0 +1,277 @@
+// Words read from a text, from a place in it. A reader answers what stands there with the place behind it, or `Bad`.
+ghost use mathlib.Core.Path.{_≡_};
+ghost use Prim.Native.Nat.{_≤_, _<_};
+ghost use Rattle.paper.specs.Scan.{byteIs, literal, ended, tooLarge?, natural, integer, orNone, nibble, hexOn};
+ghost use Rattle.words.specs.Answers.{outStep, outNumber, outBits, outMaybe, Peeked, Digit, Unhexed};
+use crate::HALF;
+use crate::MOST;
+
+const DASH: u64 = 45;
+
+// A place in a text.
+pub struct Place {
+    pub at: usize,
+}
+
+// The place behind bytes that had to stand there.
+pub enum Step {
+    To(Place),
+    Bad,
+}
+
+// A number and the place behind it.
+pub enum Number {
+    Got(u64, Place),
+    Bad,
+}
+
+// A number, or a dash for none.
+pub enum Maybe {
+    Dash,
+    Some(u64),
+}
+
+// The same and the place behind it.
+pub enum MaybeNumber {
+    Got(Maybe, Place),
+    Bad,
+}
+
+// Behind the hex digits that were read, and behind the bytes that were laid.
+pub struct Bytes {
+    pub next: Place,
+    pub at: usize,
+}
+
+// The byte at a place. Past the end there is none, and 256 is no byte: so a reader has no test of the length.
+fn peek(t: &[u8], at: usize) -> u64
+    ensures { λ r. ⌜ Peeked (now (t .entry)) at r ⌝ }
+{
+    if at < t.len() {
+        return t[at] as u64;
+    }
+    256
+}
+
+// A digit's value, 10 for any other byte: 0 to 9 are the bytes 48 to 57.
+fn digit(b: u64) -> u64
+    ensures { λ r. ⌜ Digit b r ⌝ }
+{
+    if b < 48 {
+        return 10;
+    }
+    if 57 < b {
+        return 10;
+    }
+    b - 48
+}
+
+// One digit more does not fit 64 bits: held against the largest number, as 10 * v + d itself may not fit.
+fn too_large(v: u64, d: u64) -> bool
+    requires { ⌜ d < 10 ⌝ }
+    ensures { λ r. ⌜ r ≡ tooLarge? v d ⌝ }
+{
+    if v < MOST / 10 {
+        return false;
+    }
+    if MOST / 10 < v {
+        return true;
+    }
+    MOST % 10 < d
+}
+
+// A hex digit's value, 16 for any other byte: a to f are the bytes 97 to 102.
+fn nibble(b: u64) -> u64
+    ensures { λ r. ⌜ (r ≡ nibble b) × (r ≤ 16) ⌝ }
+{
+    if b < 48 {
+        return 16;
+    }
+    if b <= 57 {
+        return b - 48;
+    }
+    if b < 97 {
+        return 16;
+    }
+    if b <= 102 {
+        return b - 87;
+    }
+    16
+}
+
+impl Place {
+    // The byte b.
+    pub fn byte(self, t: &[u8], b: u64) -> Step
+        requires { ⌜ b < 256 ⌝ }
+        ensures { λ r. ⌜ outStep r ≡ byteIs b (now (t .entry)) (self .at) ⌝ }
+    {
+        let at = self.at;
+        if peek(t, at) == b {
+            let next = at + 1;
+            return Step::To(Place { at: next });
+        }
+        Step::Bad
+    }
+
+    // These bytes.
+    pub fn literal(self, t: &[u8], w: &[u8]) -> Step
+        ensures { λ r. ⌜ outStep r ≡ literal (now (w .entry)) (now (t .entry)) (self .at) ⌝ }
+    {
+        let mut p = self.at;
+        let mut i: usize = 0;
+        while i < w.len() {
+            let b = peek(w, i);
+            if peek(t, p) != b {
+                return Step::Bad;
+            }
+            p += 1;
+            i += 1;
+        }
+        Step::To(Place { at: p })
+    }
+
+    // A decimal below 2 ^ 64. Behind a first 0 there is no more of it.
+    pub fn natural(self, t: &[u8]) -> Number
+        ensures { λ r. ⌜ outNumber r ≡ natural (now (t .entry)) (self .at) ⌝ }
+    {
+        let at = self.at;
+        let first = digit(peek(t, at));
+        if first == 10 {
+            return Number::Bad;
+        }
+        let next = at + 1;
+        if first == 0 {
+            return Number::Got(0, Place { at: next });
+        }
+        let mut v = first;
+        let mut p = next;
+        loop {
+            let d = digit(peek(t, p));
+            if d == 10 {
+                return Number::Got(v, Place { at: p });
+            }
+            if too_large(v, d) {
+                return Number::Bad;
+            }
+            v = 10 * v + d;
+            p += 1;
+        }
+    }
+
+    // A decimal and the byte that ends it.
+    pub fn natural_ended(self, t: &[u8], end: u64) -> Number
+        requires { ⌜ end < 256 ⌝ }
+        ensures { λ r. ⌜ outNumber r ≡ ended end natural (now (t .entry)) (self .at) ⌝ }
+    {
+        let Number::Got(n, c) = self.natural(t) else {
+            return Number::Bad;
+        };
+        let Step::To(e) = c.byte(t, end) else {
+            return Number::Bad;
+        };
+        Number::Got(n, e)
+    }
+
+    // The 64 bits of a signed decimal.
+    pub fn integer(self, t: &[u8]) -> Number
+        ensures { λ r. ⌜ outBits r ≡ integer (now (t .entry)) (self .at) ⌝ }
+    {
+        let at = self.at;
+        if peek(t, at) == DASH {
+            let next = at + 1;
+            let digits = Place { at: next };
+            let Number::Got(n, c) = digits.natural(t) else {
+                return Number::Bad;
+            };
+            if n == 0 {
+                return Number::Bad;
+            }
+            if HALF < n {
+                return Number::Bad;
+            }
+            return Number::Got(MOST - (n - 1), c);
+        }
+        let Number::Got(n, c) = self.natural(t) else {
+            return Number::Bad;
+        };
+        if HALF <= n {
+            return Number::Bad;
+        }
+        Number::Got(n, c)
+    }
+
+    // A decimal, or a dash for none.
+    pub fn or_none(self, t: &[u8]) -> MaybeNumber
+        ensures { λ r. ⌜ outMaybe r ≡ orNone (now (t .entry)) (self .at) ⌝ }
+    {
+        let at = self.at;
+        if peek(t, at) == DASH {
+            let next = at + 1;
+            return MaybeNumber::Got(Maybe::Dash, Place { at: next });
+        }
+        let Number::Got(n, c) = self.natural(t) else {
+            return MaybeNumber::Bad;
+        };
+        MaybeNumber::Got(Maybe::Some(n), c)
+    }
+
+    // A decimal or a dash, and the byte that ends it.
+    pub fn or_none_ended(self, t: &[u8], end: u64) -> MaybeNumber
+        requires { ⌜ end < 256 ⌝ }
+        ensures { λ r. ⌜ outMaybe r ≡ ended end orNone (now (t .entry)) (self .at) ⌝ }
+    {
+        let MaybeNumber::Got(m, c) = self.or_none(t) else {
+            return MaybeNumber::Bad;
+        };
+        let Step::To(e) = c.byte(t, end) else {
+            return MaybeNumber::Bad;
+        };
+        MaybeNumber::Got(m, e)
+    }
+
+    // A number in n hex digits. Sixteen are 64 bits, so more might not fit the answer.
+    pub fn hex(self, t: &[u8], n: usize) -> Number
+        requires { ⌜ n ≤ 16 ⌝ }
+        ensures { λ r. ⌜ outNumber r ≡ hexOn n 0 (now (t .entry)) (self .at) ⌝ }
+    {
+        let mut p = self.at;
+        let mut v: u64 = 0;
+        let mut i: usize = 0;
+        while i < n {
+            let d = nibble(peek(t, p));
+            if 16 <= d {
+                return Number::Bad;
+            }
+            v = 16 * v + d;
+            p += 1;
+            i += 1;
+        }
+        Number::Got(v, Place { at: p })
+    }
+
+    // Bytes in hex, as long as there are any, laid into a buffer from `at` on.
+    pub fn hex_bytes(self, t: &[u8], out: &mut [u8], at: usize) -> Bytes
+        ensures { λ r. ⌜ Unhexed (now (t .entry)) (self .at) (now (out .entry)) at (now (out .exit)) r ⌝ }
+    {
+        let mut p = self.at;
+        let mut q = at;
+        loop {
+            let a = nibble(peek(t, p));
+            if a == 16 {
+                return Bytes {
+                    next: Place { at: p },
+                    at: q,
+                };
+            }
+            let b = nibble(peek(t, p + 1));
+            if b == 16 {
+                return Bytes {
+                    next: Place { at: p },
+                    at: q,
+                };
+            }
+            q = lay::put(out, q, (a * 16 + b) as u8);
+            p += 2;
+        }
+    }
+}

@@ -1,0 +1,111 @@
+// Words laid into a lent buffer. What does not fit is counted and not stored, as in `lay`, so no writer has a precondition.
+ghost use mathlib.Core.Path.{_≡_};
+ghost use mathlib.Core.List.{[], _∷_};
+ghost use Prim.Native.Nat.{_/_, _%_, _^_, _<_};
+ghost use Rattle.lay.specs.Laid.{Laid};
+ghost use Rattle.paper.specs.Listing.{glyph, decimal, decimalℤ, hexDigits, hex};
+ghost use Rattle.paper.specs.Numbers.{signed, unsigned};
+use crate::HALF;
+use crate::MOST;
+
+// A digit of base ten or sixteen, in lower case.
+pub fn put_glyph(out: &mut [u8], at: usize, d: u64) -> usize
+    requires { ⌜ d < 16 ⌝ }
+    ensures { λ r. ⌜ Laid (now (out .entry)) at (glyph d ∷ []) (now (out .exit)) r ⌝ }
+{
+    if d < 10 {
+        return lay::put(out, at, (48 + d) as u8);
+    }
+    lay::put(out, at, (87 + d) as u8)
+}
+
+// The digits come last first, so they are set down in a local from its end, and laid all at once: twice as fast for a long
+// number as a recursion that lays each digit. 64 bits have at most 20 of them.
+pub fn put_decimal(out: &mut [u8], at: usize, x: u64) -> usize
+    ensures { λ r. ⌜ Laid (now (out .entry)) at (decimal x) (now (out .exit)) r ⌝ }
+{
+    let mut digits = [0u8; 20];
+    let mut first: usize = 19;
+    let mut left = x;
+    while 10 <= left {
+        digits[first] = (48 + left % 10) as u8;
+        left = left / 10;
+        first -= 1;
+    }
+    digits[first] = (48 + left) as u8;
+    lay::put_bytes(out, at, &digits[first..])
+}
+
+// The signed number of these 64 bits.
+pub fn put_integer(out: &mut [u8], at: usize, bits: u64) -> usize
+    ensures { λ r. ⌜ Laid (now (out .entry)) at (decimalℤ (signed 8 bits)) (now (out .exit)) r ⌝ }
+{
+    if bits < HALF {
+        return put_decimal(out, at, bits);
+    }
+    let next = lay::put(out, at, b'-');
+    put_decimal(out, next, MOST - bits + 1)
+}
+
+// The 64 bits of a signed number.
+fn bits_of(z: i64) -> u64
+    ensures { λ r. ⌜ r ≡ unsigned 8 z ⌝ }
+{
+    if z < 0 {
+        let up = -1 - z;
+        let less = up as u64;
+        return MOST - less;
+    }
+    z as u64
+}
+
+pub fn put_signed(out: &mut [u8], at: usize, z: i64) -> usize
+    ensures { λ r. ⌜ Laid (now (out .entry)) at (decimalℤ z) (now (out .exit)) r ⌝ }
+{
+    put_integer(out, at, bits_of(z))
+}
+
+// The digit of x in base 16 with k digits behind it.
+fn hex_digit(x: u64, k: usize) -> u64
+    ensures { λ r. ⌜ r ≡ x / 16 ^ k % 16 ⌝ }
+{
+    if k < 16 {
+        let shift = 4 * k;
+        return (x >> shift) % 16;
+    }
+    0
+}
+
+// The last n digits of x in hex.
+pub fn put_hex(out: &mut [u8], at: usize, n: usize, x: u64) -> usize
+    ensures { λ r. ⌜ Laid (now (out .entry)) at (hexDigits n x) (now (out .exit)) r ⌝ }
+{
+    let mut p = at;
+    let mut k = n;
+    while 0 < k {
+        k -= 1;
+        p = put_glyph(out, p, hex_digit(x, k));
+    }
+    p
+}
+
+// A byte in hex.
+fn put_pair(out: &mut [u8], at: usize, b: u8) -> usize
+    ensures { λ r. ⌜ Laid (now (out .entry)) at (hexDigits 2 b) (now (out .exit)) r ⌝ }
+{
+    let x = b as u64;
+    let next = put_glyph(out, at, x / 16);
+    put_glyph(out, next, x % 16)
+}
+
+pub fn put_hex_bytes(out: &mut [u8], at: usize, s: &[u8]) -> usize
+    ensures { λ r. ⌜ Laid (now (out .entry)) at (hex (now (s .entry))) (now (out .exit)) r ⌝ }
+{
+    let mut p = at;
+    let mut i: usize = 0;
+    while i < s.len() {
+        p = put_pair(out, p, s[i]);
+        i += 1;
+    }
+    p
+}
