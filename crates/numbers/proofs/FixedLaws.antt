@@ -9,7 +9,7 @@ use lib.Dec.{lit<}
 use lib.ListN.{length, getD, take, drop, length-append, length-drop}
 use lib.Seq.{take-suc, getD-drop}
 use borrow.Author.Tests.{le-leb, lt-leb}
-use Rattle.paper.specs.Reader.{Out, got, no, if_then_else_, bytes, _>>=_, give}
+use Rattle.paper.specs.Reader.{got, if_then_else_, bytes, _>>=_, give}
 use Rattle.paper.specs.Numbers.{highFirst, fixed}
 use Rattle.numbers.specs.Cursors.{Read, answer-got, answer-no}
 use Rattle.numbers.specs.declared.Number.the-variants.{Got, No}

@@ -1,11 +1,10 @@
 -- Two's complement, by the half of a width's range, in a machine's terms: `ofZ w64` are an i64's bits, and `toZ w64` reads
 -- them. Assumes nothing.
-use mathlib.Core.Path.{_≡_, refl, sym, ap, _∙_}
+use mathlib.Core.Path.{_≡_, refl, ap, _∙_}
 use mathlib.Core.Bool.{true, false}
 use Prim.Native.Nat.{ℕ, zero, suc, _+_, _-_, _^_, _/_, _≤_, _<_}
 use native.Mathlib.Omega.{arith}
 use native.Mathlib.Nat.{zero-add}
-use lib.Dec.{ltb}
 use lib.IntN.{ℤ, pos, negsuc, _-ℤ_, +ℤ-comm, -ℤ-one}
 use lib.Signed.{mag, ltZ}
 use mir.Syntax.{w64}

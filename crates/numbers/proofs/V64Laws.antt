@@ -1,4 +1,4 @@
--- A v64 of two bytes or more, read byte by byte. Assumes nothing.
+-- A v64, read byte by byte. Assumes nothing.
 use mathlib.Core.Path.{_≡_, refl, sym, ap, _∙_}
 use mathlib.Core.Bool.{Bool, true, false}
 use mathlib.Core.List.{List, [], _∷_}
@@ -6,27 +6,11 @@ use Prim.Native.Nat.{ℕ, zero, suc, _+_, _-_, _*_, _^_, _≤_, _<_}
 use native.Mathlib.Omega.{arith}
 use native.Mathlib.Nat.{mul-add, mul-assoc, pow-suc, one-le-pow, mul-le-mul-left, lt-of-not-le}
 use native.Mathlib.Decide.{decLe}
-use lib.Dec.{leb, ltb, lit<}
+use lib.Dec.{lit<}
 use lib.ListN.{length, getD}
 use lib.Seq.{drop-cons}
 use borrow.Author.Tests.{le-leb, lt-leb, lt-ltb, le-ltb}
-use Rattle.paper.specs.Reader.{
-  Out,
-  got,
-  no,
-  andThen,
-  Reader,
-  if_then_else_,
-  _>>=_,
-  give,
-  hold,
-  must,
-  fromStart,
-  started,
-  bytes,
-  Rule,
-  _orNo_,
-}
+use Rattle.paper.specs.Reader.{Out, got, no, andThen, if_then_else_, _>>=_, give, hold, must, fromStart, started, bytes, _orNo_}
 use Rattle.paper.specs.Numbers.{highFirst, fixed, coding, lowFirst, lastIsNot0, shortest, v64}
 use Rattle.numbers.specs.Begun.{Begun}
 use Rattle.numbers.specs.Cursors.{Read, answer-got, answer-no}
@@ -67,7 +51,6 @@ module _ (f : List ℕ) (p : ℕ) where
 
   -- a coding has a byte
   has-byte : (k e : ℕ) → coding k f p ≡ got [] e → ⊥
-  unfolding coding _>>=_ give if_then_else_
   has-byte k e h = at-place (decLe (length f) p)
     where
       after : (b : ℕ) (o : Out (List ℕ)) → andThen o (λ bs m. got (b ∷ bs) m) ≡ got [] e → ⊥
@@ -137,8 +120,9 @@ unfolding shortest lastIsNot0 lowFirst
 one-there f at b room is h =
     answer-got (v64-held f at ∙ rw (last f at 8 room (λ i. rw (sym is) h), sym is)) (omega arith) (omega arith)
 
--- ── the loop: x is the value of the bytes before p, w what the rest counts for, and `left` how many may come before the ninth ──
+-- ── the loop ──
 
+-- x is the value of the bytes before p, w what the rest counts for, and `left` how many bytes may come before the ninth
 pub record Reading (f : List ℕ) (at x w p left : ℕ) : Type 0 where
   pub means : v64 f at ≡ finish at x w (coding left f p)
   pub below : x < w

@@ -1,21 +1,9 @@
 -- Numbers laid byte by byte: what is left to write leads to the whole. Assumes nothing.
 use mathlib.Core.Path.{_≡_, refl, sym, ap, ap₂, _∙_}
-use mathlib.Core.List.{List, [], _∷_, _++_, append-nil}
+use mathlib.Core.List.{List, [], _∷_, append-nil}
 use Prim.Native.Nat.{ℕ, zero, suc, _+_, _-_, _*_, _^_, _/_, _%_, _≤_, _<_}
 use native.Mathlib.Omega.{arith}
-use native.Mathlib.Nat.{
-  pow-suc,
-  pow-succ',
-  one-le-pow,
-  lt-of-not-le,
-  mod-lt,
-  mod-eq-of-lt,
-  mod-mod,
-  div-eq-of-lt,
-  mul-add-div-right,
-  mul-add-mod-self-right,
-  add-zero,
-}
+use native.Mathlib.Nat.{pow-suc, pow-succ', one-le-pow, lt-of-not-le, mod-lt, mod-eq-of-lt, div-eq-of-lt, mul-add-div-right, mul-add-mod-self-right, add-zero}
 use native.Mathlib.Decide.{decLe}
 use lib.Arith.{mod-mul}
 use lib.Pow.{pow-add}

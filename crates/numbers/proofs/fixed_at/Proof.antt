@@ -1,7 +1,6 @@
 use borrow.Author.Needs.{needs}
 use native.Mathlib.Omega.{arith}
-use Prim.Native.Nat.{ℕ, _+_, _-_, _≤_}
-use lib.ListN.{length}
+use Prim.Native.Nat.{_-_}
 use Rattle.numbers.proofs.FixedLaws.{Summed, sum-none, sum-more, sum-fits, sum-whole, too-short}
 use Rattle.numbers.proofs.fixed_at.Statement.{statement}
 use Rattle.numbers.proofs.fixed_at.Tie as tie

@@ -1,15 +1,7 @@
 use borrow.Author.Needs.{needs}
 use native.Mathlib.Omega.{arith}
-use Prim.Native.Nat.{ℕ, _+_, _-_, _*_, _<_}
-use Rattle.numbers.proofs.V64Laws.{
-  Reading,
-  reading-start,
-  reading-cut,
-  reading-padded,
-  reading-last,
-  reading-next,
-  fits,
-}
+use Prim.Native.Nat.{_-_}
+use Rattle.numbers.proofs.V64Laws.{Reading, reading-start, reading-cut, reading-padded, reading-last, reading-next, fits}
 use Rattle.numbers.proofs.v64_on.Statement.{statement}
 use Rattle.numbers.proofs.v64_on.Tie as tie
 

@@ -1,7 +1,7 @@
 use borrow.Author.Needs.{needs}
 use native.Mathlib.Omega.{arith}
 use Prim.Native.Nat.{_-_}
-use Rattle.lay.specs.Laid.{most, laid-long}
+use Rattle.lay.specs.Laid.{most}
 use Rattle.numbers.proofs.WriteLaws.{Lowering, lowering-start, lowering-more, lowering-end}
 use Rattle.numbers.proofs.write.put_fixed.Statement.{statement}
 use Rattle.numbers.proofs.write.put_fixed.Tie as tie
@@ -12,10 +12,9 @@ Inv-loop out₀ at x width p₀ left₀ out p left = Lowering out₀ at x width 
 abbrev μ-loop : tie.MeasureT-loop
 μ-loop out₀ at x width p₀ left₀ out p left = left
 
--- src/write.rt:60:5
 loop-holds : tie.Need-loop-holds Inv-loop μ-loop
 unfolding most
-loop-holds c = lowering-start _ _ _ _ (omega arith) (omega arith) ((c .before) .pre .1)
+loop-holds c = lowering-start _ _ _ _ (omega arith) (omega arith) (c .before .pre .1)
 
 pub put-fixed-spec : {M : Type 1} → statement M
 put-fixed-spec =

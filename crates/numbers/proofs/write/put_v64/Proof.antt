@@ -12,7 +12,6 @@ Inv-loop out₀ at x p₀ rest₀ left₀ out p rest left = Writing out₀ at x 
 abbrev μ-loop : tie.MeasureT-loop
 μ-loop out₀ at x p₀ rest₀ left₀ out p rest left = left
 
--- src/write.rt:44:5
 loop-holds : tie.Need-loop-holds Inv-loop μ-loop
 unfolding most
 loop-holds c = writing-start _ _ _ _ (omega arith) (omega arith) (omega arith) (c .v64-length .ensures)
