@@ -1,3 +1,15 @@
 pub mod Rows
 pub mod RowLaws
 pub mod View
+pub mod Layout
+pub mod Adds
+pub mod Answers
+pub mod Packed
+pub mod Pushes
+pub mod ViewLaws
+pub mod RowReads
+pub mod Counts
+pub mod Asks
+pub mod Loops
+pub mod Below
+pub mod NameLaws

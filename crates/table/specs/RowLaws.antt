@@ -3,7 +3,7 @@ use mathlib.Core.Path.{_≡_, refl, sym, ap, ap₂, _∙_, subst}
 use mathlib.Core.Logic.{⊎-elim, _⊎_, inl, inr, _≢_}
 use mathlib.Core.List.{List, [], _∷_, _++_}
 use Prim.Native.Nat.{ℕ, zero, suc, _+_, _*_, _≤_, _<_, zero-le, suc-le-suc}
-use native.Mathlib.Nat.{le-refl, le-of-lt, le-of-eq, le-step, not-suc-le-zero, le-of-suc-le-suc, eq-or-lt-of-le, mul-le-mul-left}
+use native.Mathlib.Nat.{add-zero, le-refl, le-of-lt, le-of-eq, le-step, not-suc-le-zero, le-of-suc-le-suc, eq-or-lt-of-le, mul-le-mul-left}
 use native.Mathlib.Numerals.{add-one}
 use native.Mathlib.Omega.{arith}
 use lib.ListN.{length, getD, set, length-append, length-set, List·getD-append}
@@ -55,6 +55,14 @@ cells-sets (v ∷ vs) l at h =
     ap₂ (λ (x : ℕ) (xs : List ℕ). x ∷ xs)
     (sets-other vs (set l at v) (suc at) at (λ p. omega arith) ∙ getD-set-same l at v 0 (omega arith))
     (cells-sets vs (set l at v) (suc at) (rw length-set (omega arith)))
+
+-- two runs of stores, one behind the other, are one
+pub sets-append : (us vs l : List ℕ) (at : ℕ) → sets (sets l at us) (at + length us) vs ≡ sets l at (us ++ vs)
+sets-append [] vs l at = rw add-zero refl
+sets-append (u ∷ us) vs l at = ap (λ (k : ℕ). sets (sets (set l at u) (suc at) us) k vs) (omega arith) ∙ sets-append us vs (set l at u) (suc at)
+
+pub sets-two : (us vs l : List ℕ) (at : ℕ) {m k : List ℕ} → m ≡ sets l at us → k ≡ sets m (at + length us) vs → k ≡ sets l at (us ++ vs)
+sets-two us vs l at p q = q ∙ ap (λ (t : List ℕ). sets t (at + length us) vs) p ∙ sets-append us vs l at
 
 module _ (c base w : ℕ) (l l′ : List ℕ) (same : (j : ℕ) → base ≤ j → j < base + w * getD l c 0 → getD l′ j 0 ≡ getD l j 0) where
   rows-kept : {A : Type 0} (of : List ℕ → A) → tab (getD l c 0) (λ i. of (cells l′ (base + w * i) w)) ≡ seg of c base w l

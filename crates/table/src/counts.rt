@@ -1,0 +1,88 @@
+// How many rows there are of each kind: all begin with none, and can be cut back to fewer.
+ghost use mathlib.Core.Path.{_≡_};
+ghost use Prim.Native.Nat.{_<_};
+ghost use lib.ListN.{length, getD};
+ghost use Rattle.table.specs.View.{Ok};
+ghost use Rattle.table.specs.Counts.{noughts, Begun, Next, Cut, countsIn, Recounted, NotAbove};
+use super::cells::put8;
+use super::rows::Counts;
+
+pub fn counts(work: &[u32]) -> Counts
+    requires { ⌜ Ok (now work) ⌝ }
+    ensures { λ r. ⌜ r ≡ countsIn (now (work .entry)) ⌝ }
+{
+    Counts {
+        strings: work[0],
+        types: work[1],
+        fields: work[2],
+        ranges: work[3],
+        chunks: work[5],
+    }
+}
+
+// No chunk is due afterwards.
+fn set_counts(work: &mut [u32], n: Counts, block: u32)
+    requires { ⌜ length (now work) ≡ 16384 ⌝ }
+    ensures { λ _. ⌜ Recounted n block (now (work .entry)) (now (work .exit)) ⌝ }
+{
+    put8(
+        work,
+        0,
+        n.strings,
+        n.types,
+        n.fields,
+        n.ranges,
+        0,
+        n.chunks,
+        block,
+        0,
+    );
+}
+
+// A table that knows nothing, whatever stood in the cells.
+pub fn begin(work: &mut [u32])
+    requires { ⌜ length (now work) ≡ 16384 ⌝ }
+    ensures { λ _. ⌜ Begun (now (work .exit)) ⌝ }
+{
+    let none = Counts {
+        strings: 0,
+        types: 0,
+        fields: 0,
+        ranges: 0,
+        chunks: 0,
+    };
+    set_counts(work, none, 0);
+}
+
+// The end of a block.
+pub fn next_block(work: &mut [u32])
+    requires { ⌜ Ok (now work) ⌝ }
+    requires { ⌜ getD (now work) 6 0 < 4294967295 ⌝ }
+    ensures { λ _. ⌜ Next (now (work .entry)) (now (work .exit)) ⌝ }
+{
+    let n = counts(work);
+    let block = work[6];
+    set_counts(work, n, block + 1);
+}
+
+// Back to what the table said when it had fewer rows.
+pub fn cut_back(work: &mut [u32], n: Counts)
+    requires { ⌜ Ok (now work) ⌝ }
+    requires { ⌜ NotAbove n (now work) ⌝ }
+    ensures { λ _. ⌜ Cut n (now (work .entry)) (now (work .exit)) ⌝ }
+{
+    let block = work[6];
+    set_counts(work, n, block);
+}
+
+// Every number is 0 afterwards.
+pub fn clear(work: &mut [u32])
+    requires { ⌜ length (now work) ≡ 16384 ⌝ }
+    ensures { λ _. ⌜ now (work .exit) ≡ noughts ⌝ }
+{
+    let mut i = 0;
+    while i < work.len() {
+        work[i] = 0;
+        i += 1;
+    }
+}

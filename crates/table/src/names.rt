@@ -1,0 +1,148 @@
+// Types and fields by their names. A name is lent, or is itself a part of the source.
+ghost use mathlib.Core.Path.{_≡_};
+ghost use Prim.Native.Nat.{_-_, _≤_};
+ghost use lib.ListN.{length, drop};
+ghost use lib.Seq.{slice};
+ghost use Rattle.paper.specs.Lists.{same, place, placeNamed, places};
+ghost use Rattle.paper.specs.Ledger.{owns?, called?};
+ghost use Rattle.table.specs.View.{namesOf, titlesOf, fldsOf, Ok, Holds};
+ghost use Rattle.table.specs.Answers.{fieldIn};
+ghost use Rattle.table.specs.Asks.{found};
+use super::rows::FieldRow;
+use super::rows::Span;
+use super::rows::field_at;
+use super::rows::fields;
+use super::rows::type_at;
+use super::rows::types;
+
+// A place among the types or the fields.
+pub enum Found {
+    At(u32),
+    Nothing,
+}
+
+fn length_of(start: u32, end: u32) -> usize
+    ensures { λ r. ⌜ r ≡ end - start ⌝ }
+{
+    if end <= start {
+        return 0;
+    }
+    (end - start) as usize
+}
+
+// The part of the source has the name's bytes: it is as long, and no byte differs.
+fn is_name(src: &[u8], start: u32, end: u32, name: &[u8]) -> bool
+    requires { ⌜ end ≤ length (now src) ⌝ }
+    ensures { λ r. ⌜ r ≡ same (now (name .entry)) (slice start end (now (src .entry))) ⌝ }
+{
+    if name.len() != length_of(start, end) {
+        return false;
+    }
+    let from = start as usize;
+    let mut i = 0;
+    while i < name.len() {
+        if name[i] != src[from + i] {
+            return false;
+        }
+        i += 1;
+    }
+    true
+}
+
+// The type with a lent name.
+pub fn find_type_called(src: &[u8], work: &[u32], name: &[u8]) -> Found
+    requires { ⌜ Holds (now src) (now work) ⌝ }
+    ensures { λ r. ⌜ found r ≡ place (same (now (name .entry))) 0 (namesOf (now (src .entry)) (now (work .entry))) ⌝ }
+{
+    let n = types(work);
+    let mut i = 0;
+    while i < n {
+        let row = type_at(work, i);
+        if is_name(src, row.start, row.end, name) {
+            return Found::At(i);
+        }
+        i += 1;
+    }
+    Found::Nothing
+}
+
+// The type whose name has the bytes of a part of the source.
+pub fn find_type(src: &[u8], work: &[u32], name: Span) -> Found
+    requires { ⌜ Holds (now src) (now work) ⌝ }
+    requires { ⌜ name .end ≤ length (now src) ⌝ }
+    ensures { λ r. ⌜ found r ≡ place (same (slice (name .start) (name .end) (now (src .entry)))) 0 (namesOf (now (src .entry)) (now (work .entry))) ⌝ }
+{
+    let to = name.end as usize;
+    let from = to - length_of(name.start, name.end);
+    find_type_called(src, work, &src[from..to])
+}
+
+fn is_called(src: &[u8], row: FieldRow, t: u32, name: &[u8]) -> bool
+    requires { ⌜ row .end ≤ length (now src) ⌝ }
+    ensures { λ r. ⌜ r ≡ called? t (now (name .entry)) (fieldIn row) (slice (row .start) (row .end) (now (src .entry))) ⌝ }
+{
+    row.owner == t && is_name(src, row.start, row.end, name)
+}
+
+// The field of type t with a lent name.
+pub fn find_field_called(src: &[u8], work: &[u32], t: u32, name: &[u8]) -> Found
+    requires { ⌜ Holds (now src) (now work) ⌝ }
+    ensures { λ r. ⌜ found r ≡ placeNamed (called? t (now (name .entry))) 0 (fldsOf (now (work .entry))) (titlesOf (now (src .entry)) (now (work .entry))) ⌝ }
+{
+    let n = fields(work);
+    let mut i = 0;
+    while i < n {
+        let row = field_at(work, i);
+        if is_called(src, row, t, name) {
+            return Found::At(i);
+        }
+        i += 1;
+    }
+    Found::Nothing
+}
+
+// The field of type t whose name has the bytes of a part of the source.
+pub fn find_field(src: &[u8], work: &[u32], t: u32, name: Span) -> Found
+    requires { ⌜ Holds (now src) (now work) ⌝ }
+    requires { ⌜ name .end ≤ length (now src) ⌝ }
+    ensures { λ r. ⌜ found r ≡ placeNamed (called? t (slice (name .start) (name .end) (now (src .entry)))) 0 (fldsOf (now (work .entry))) (titlesOf (now (src .entry)) (now (work .entry))) ⌝ }
+{
+    let to = name.end as usize;
+    let from = to - length_of(name.start, name.end);
+    find_field_called(src, work, t, &src[from..to])
+}
+
+// The first field of type t from place i on.
+pub fn next_field(work: &[u32], t: u32, i: u32) -> Found
+    requires { ⌜ Ok (now work) ⌝ }
+    ensures { λ r. ⌜ found r ≡ place (owns? t) i (drop i (fldsOf (now (work .entry)))) ⌝ }
+{
+    let n = fields(work);
+    let mut k = i;
+    while k < n {
+        let row = field_at(work, k);
+        if row.owner == t {
+            return Found::At(k);
+        }
+        k += 1;
+    }
+    Found::Nothing
+}
+
+// How many fields type t has.
+pub fn fields_of(work: &[u32], t: u32) -> u32
+    requires { ⌜ Ok (now work) ⌝ }
+    ensures { λ r. ⌜ r ≡ length (places (owns? t) 0 (fldsOf (now (work .entry)))) ⌝ }
+{
+    let n = fields(work);
+    let mut k = 0;
+    let mut i = 0;
+    while i < n {
+        let row = field_at(work, i);
+        if row.owner == t {
+            k += 1;
+        }
+        i += 1;
+    }
+    k
+}

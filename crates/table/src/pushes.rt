@@ -1,0 +1,109 @@
+// A row more, behind the last of its kind. Each says what became of the cells; `specs/Pushes.antt` lifts that to what the
+// table says, for which a name must lie within the source.
+ghost use mathlib.Core.Path.{_≡_};
+ghost use mathlib.Core.List.{[], _∷_};
+ghost use Prim.Native.Nat.{_+_, _*_, _/_, _%_, _<_, _≤_};
+ghost use lib.ListN.{length, getD};
+ghost use lib.Seq.{sets};
+ghost use Rattle.table.specs.View.{Ok};
+ghost use Rattle.table.specs.Answers.{Small};
+ghost use Rattle.table.specs.Packed.{typeCells, fieldCells, rangeCells, dueCells, chunkCells};
+ghost use Rattle.table.specs.Pushes.{Pushed};
+use super::cells::put2;
+use super::cells::put3;
+use super::cells::put4;
+use super::cells::put8;
+use super::rows::FieldRow;
+use super::rows::RangeRow;
+use super::rows::TypeRow;
+
+pub fn push_string(work: &mut [u32], start: u32, end: u32)
+    requires { ⌜ Ok (now work) ⌝ }
+    requires { ⌜ getD (now work) 0 0 < 1024 ⌝ }
+    ensures { λ _. ⌜ Pushed 0 16 2 (start ∷ end ∷ []) (now (work .entry)) (now (work .exit)) ⌝ }
+{
+    let n = work[0];
+    put2(work, 16 + 2 * (n as usize), start, end);
+    work[0] = n + 1;
+}
+
+pub fn push_type(work: &mut [u32], t: TypeRow)
+    requires { ⌜ Ok (now work) ⌝ }
+    requires { ⌜ getD (now work) 1 0 < 32 ⌝ }
+    ensures { λ _. ⌜ Pushed 1 2064 4 (typeCells t) (now (work .entry)) (now (work .exit)) ⌝ }
+{
+    let n = work[1];
+    put4(work, 2064 + 4 * (n as usize), t.start, t.end, t.sup, t.base);
+    work[1] = n + 1;
+}
+
+// Half of a field's row is not used, and cleared.
+fn put_field(work: &mut [u32], at: usize, d: FieldRow)
+    requires { ⌜ at + 16 ≤ length (now work) ⌝ }
+    ensures { λ _. ⌜ now (work .exit) ≡ sets (now (work .entry)) at (fieldCells d) ⌝ }
+{
+    let a_low = (d.a % 4294967296) as u32;
+    let a_high = (d.a / 4294967296) as u32;
+    let e_low = (d.e % 4294967296) as u32;
+    let e_high = (d.e / 4294967296) as u32;
+    put8(
+        work,
+        at,
+        d.start,
+        d.end,
+        d.owner,
+        d.kind,
+        a_low,
+        a_high,
+        e_low,
+        e_high,
+    );
+    put8(work, at + 8, 0, 0, 0, 0, 0, 0, 0, 0);
+}
+
+pub fn push_field(work: &mut [u32], d: FieldRow)
+    requires { ⌜ Ok (now work) ⌝ }
+    requires { ⌜ getD (now work) 2 0 < 128 ⌝ }
+    ensures { λ _. ⌜ Pushed 2 2192 16 (fieldCells d) (now (work .entry)) (now (work .exit)) ⌝ }
+{
+    let n = work[2];
+    put_field(work, 2192 + 16 * (n as usize), d);
+    work[2] = n + 1;
+}
+
+pub fn push_range(work: &mut [u32], r: RangeRow)
+    requires { ⌜ Ok (now work) ⌝ }
+    requires { ⌜ getD (now work) 3 0 < 1024 ⌝ }
+    requires { ⌜ Small r ⌝ }
+    ensures { λ _. ⌜ Pushed 3 4240 3 (rangeCells r) (now (work .entry)) (now (work .exit)) ⌝ }
+{
+    let n = work[3];
+    let whose = r.typ + 32 * r.block;
+    let extent = r.start + 65536 * r.count;
+    put3(work, 4240 + 3 * (n as usize), whose, extent, r.first);
+    work[3] = n + 1;
+}
+
+pub fn push_due(work: &mut [u32], field: u32, values: u32, size: u64)
+    requires { ⌜ Ok (now work) ⌝ }
+    requires { ⌜ getD (now work) 4 0 < 128 ⌝ }
+    ensures { λ _. ⌜ Pushed 4 7312 4 (dueCells field values size) (now (work .entry)) (now (work .exit)) ⌝ }
+{
+    let n = work[4];
+    let low = (size % 4294967296) as u32;
+    let high = (size / 4294967296) as u32;
+    put4(work, 7312 + 4 * (n as usize), field, values, low, high);
+    work[4] = n + 1;
+}
+
+pub fn push_chunk(work: &mut [u32], field: u32, start: u32, end: u32)
+    requires { ⌜ Ok (now work) ⌝ }
+    requires { ⌜ getD (now work) 5 0 < 4096 ⌝ }
+    requires { ⌜ (field < 128) × (start < 33554432) ⌝ }
+    ensures { λ _. ⌜ Pushed 5 7824 2 (chunkCells field start end) (now (work .entry)) (now (work .exit)) ⌝ }
+{
+    let n = work[5];
+    let whose = field + 128 * start;
+    put2(work, 7824 + 2 * (n as usize), whose, end);
+    work[5] = n + 1;
+}

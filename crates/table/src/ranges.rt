@@ -1,0 +1,221 @@
+// Questions to the ranges: one walk for "is there one", one for "how many objects", and `Ask` says of which ranges.
+ghost use mathlib.Core.Path.{_≡_};
+ghost use mathlib.Core.List.{[], _∷_};
+ghost use Prim.Native.Nat.{_-_, _<_, _≤_};
+ghost use Rattle.paper.specs.Lists.{any, all, total};
+ghost use Rattle.paper.specs.Ledger.{of?, size, before?, base?, holds?};
+ghost use Rattle.paper.specs.Rules.{entryOf?, around?, clear?};
+ghost use Rattle.table.specs.View.{typesOf, logOf, Ok};
+ghost use Rattle.table.specs.Answers.{rangeIn};
+ghost use Rattle.table.specs.Asks.{asks};
+use super::rows::RangeRow;
+use super::rows::range_at;
+use super::rows::ranges;
+use super::types::super_of;
+
+pub enum Ask {
+    // of type t
+    Of(u32),
+    // that block b adds to type t
+    Entry(u32, u32),
+    // of type t, that a block before b added
+    Before(u32, u32),
+    // that block b adds to type u, around n objects from a start
+    Around(u32, u32, u32, u32),
+    // of type t, in which object n of the base pool lies
+    Holding(u32, u64),
+    // of a base type
+    Base,
+}
+
+fn is_entry(r: RangeRow, b: u32, t: u32) -> bool
+    ensures { λ x. ⌜ x ≡ entryOf? b t (rangeIn r) ⌝ }
+{
+    r.block == b && r.typ == t
+}
+
+fn is_before(r: RangeRow, b: u32, t: u32) -> bool
+    ensures { λ x. ⌜ x ≡ before? b t (rangeIn r) ⌝ }
+{
+    r.typ == t && r.block < b
+}
+
+fn is_around(r: RangeRow, b: u32, u: u32, start: u32, n: u32) -> bool
+    ensures { λ x. ⌜ x ≡ around? b u start n (rangeIn r) ⌝ }
+{
+    if !is_entry(r, b, u) {
+        return false;
+    }
+    if start < r.start {
+        return false;
+    }
+    let end = (start as u64) + (n as u64);
+    let last = (r.start as u64) + (r.count as u64);
+    end <= last
+}
+
+fn is_holding(r: RangeRow, t: u32, n: u64) -> bool
+    ensures { λ x. ⌜ x ≡ holds? t n (rangeIn r) ⌝ }
+{
+    if r.typ != t {
+        return false;
+    }
+    let first = r.first as u64;
+    if n < first + 1 {
+        return false;
+    }
+    let last = first + (r.count as u64);
+    n <= last
+}
+
+fn asked(work: &[u32], r: RangeRow, q: Ask) -> bool
+    requires { ⌜ Ok (now work) ⌝ }
+    ensures { λ x. ⌜ x ≡ asks (typesOf (now (work .entry))) q (rangeIn r) ⌝ }
+{
+    match q {
+        Ask::Of(t) => r.typ == t,
+        Ask::Entry(b, t) => is_entry(r, b, t),
+        Ask::Before(b, t) => is_before(r, b, t),
+        Ask::Around(b, u, start, n) => is_around(r, b, u, start, n),
+        Ask::Holding(t, n) => is_holding(r, t, n),
+        Ask::Base => super_of(work, r.typ) == 0,
+    }
+}
+
+fn any_range(work: &[u32], q: Ask) -> bool
+    requires { ⌜ Ok (now work) ⌝ }
+    ensures { λ r. ⌜ r ≡ any (asks (typesOf (now (work .entry))) q) (logOf (now (work .entry))) ⌝ }
+{
+    let n = ranges(work);
+    let mut i = 0;
+    while i < n {
+        let r = range_at(work, i);
+        if asked(work, r, q) {
+            return true;
+        }
+        i += 1;
+    }
+    false
+}
+
+// What a range adds to a sum.
+fn share(work: &[u32], r: RangeRow, q: Ask) -> u32
+    requires { ⌜ Ok (now work) ⌝ }
+    ensures { λ x. ⌜ x ≡ total (asks (typesOf (now (work .entry))) q) size (rangeIn r ∷ []) ⌝ }
+    ensures { λ x. ⌜ x ≤ r .count ⌝ }
+{
+    if asked(work, r, q) {
+        return r.count;
+    }
+    0
+}
+
+fn sum_of(work: &[u32], q: Ask) -> u32
+    requires { ⌜ Ok (now work) ⌝ }
+    ensures { λ r. ⌜ r ≡ total (asks (typesOf (now (work .entry))) q) size (logOf (now (work .entry))) ⌝ }
+    ensures { λ r. ⌜ r ≤ 67107840 ⌝ }
+{
+    let n = ranges(work);
+    let mut i = 0;
+    let mut sum = 0;
+    while i < n {
+        let r = range_at(work, i);
+        let x = share(work, r, q);
+        sum += x;
+        i += 1;
+    }
+    sum
+}
+
+// Type t has an entry in block b.
+pub fn entered(work: &[u32], b: u32, t: u32) -> bool
+    requires { ⌜ Ok (now work) ⌝ }
+    ensures { λ r. ⌜ r ≡ any (entryOf? b t) (logOf (now (work .entry))) ⌝ }
+{
+    any_range(work, Ask::Entry(b, t))
+}
+
+// A range of type u and block b lies around n objects from start.
+pub fn around(work: &[u32], b: u32, u: u32, start: u32, n: u32) -> bool
+    requires { ⌜ Ok (now work) ⌝ }
+    ensures { λ r. ⌜ r ≡ any (around? b u start n) (logOf (now (work .entry))) ⌝ }
+{
+    any_range(work, Ask::Around(b, u, start, n))
+}
+
+// Object n of a base pool is of type t or below it.
+pub fn holds(work: &[u32], t: u32, n: u64) -> bool
+    requires { ⌜ Ok (now work) ⌝ }
+    ensures { λ r. ⌜ r ≡ any (holds? t n) (logOf (now (work .entry))) ⌝ }
+{
+    any_range(work, Ask::Holding(t, n))
+}
+
+// The objects of type t and of all below it.
+pub fn objects_of(work: &[u32], t: u32) -> u32
+    requires { ⌜ Ok (now work) ⌝ }
+    ensures { λ r. ⌜ r ≡ total (of? t) size (logOf (now (work .entry))) ⌝ }
+    ensures { λ r. ⌜ r ≤ 67107840 ⌝ }
+{
+    sum_of(work, Ask::Of(t))
+}
+
+// The objects of type t that the blocks before b have added.
+pub fn pool_before(work: &[u32], b: u32, t: u32) -> u32
+    requires { ⌜ Ok (now work) ⌝ }
+    ensures { λ r. ⌜ r ≡ total (before? b t) size (logOf (now (work .entry))) ⌝ }
+    ensures { λ r. ⌜ r ≤ 67107840 ⌝ }
+{
+    sum_of(work, Ask::Before(b, t))
+}
+
+// The objects that block b adds to type t: the count of its range, of which there is at most one.
+pub fn count_in(work: &[u32], b: u32, t: u32) -> u32
+    requires { ⌜ Ok (now work) ⌝ }
+    ensures { λ r. ⌜ r ≡ total (entryOf? b t) size (logOf (now (work .entry))) ⌝ }
+    ensures { λ r. ⌜ r ≤ 67107840 ⌝ }
+{
+    sum_of(work, Ask::Entry(b, t))
+}
+
+// The objects of all base pools.
+pub fn objects_in_all(work: &[u32]) -> u32
+    requires { ⌜ Ok (now work) ⌝ }
+    ensures { λ r. ⌜ r ≡ total (base? (typesOf (now (work .entry)))) size (logOf (now (work .entry))) ⌝ }
+    ensures { λ r. ⌜ r ≤ 67107840 ⌝ }
+{
+    sum_of(work, Ask::Base)
+}
+
+fn is_clear(work: &[u32], r: RangeRow, b: u32, up: u32, start: u32) -> bool
+    requires { ⌜ Ok (now work) ⌝ }
+    requires { ⌜ 0 < up ⌝ }
+    ensures { λ x. ⌜ x ≡ clear? b (typesOf (now (work .entry))) (up - 1) start (rangeIn r) ⌝ }
+{
+    if r.block != b {
+        return true;
+    }
+    if super_of(work, r.typ) != up {
+        return true;
+    }
+    let last = (r.start as u64) + (r.count as u64);
+    last <= start as u64
+}
+
+// Each range that block b adds to a type right below type up - 1 ends at or before start.
+pub fn clear_of_siblings(work: &[u32], b: u32, up: u32, start: u32) -> bool
+    requires { ⌜ Ok (now work) ⌝ }
+    requires { ⌜ 0 < up ⌝ }
+    ensures { λ r. ⌜ r ≡ all (clear? b (typesOf (now (work .entry))) (up - 1) start) (logOf (now (work .entry))) ⌝ }
+{
+    let n = ranges(work);
+    let mut i = 0;
+    while i < n {
+        let r = range_at(work, i);
+        if !is_clear(work, r, b, up, start) {
+            return false;
+        }
+        i += 1;
+    }
+    true
+}
