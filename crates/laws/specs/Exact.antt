@@ -104,16 +104,16 @@ region-taken s ds l h =
 
 -- ── the pair ──
 
-record FrontSays (s : State) (d : Front) (cs : List ℕ) : Type 0 where
-  is : putFront s (d .strings) (d .entries) (d .ends) ≡ cs
-  strings : number? (stringsRules s) (length (d .strings)) ≡ true
-  bytes : all bytes? (d .strings) ≡ true
-  number : number? smallRules (length (d .entries)) ≡ true
-  kept : inTurn entry? afterEntry (withStrings s (d .strings)) (d .entries) ≡ true
-  many : length (d .ends) ≡ length (dues (withStrings s (d .strings)) (d .entries))
-  rising : Rising 0 (d .ends)
+pub record FrontSays (s : State) (d : Front) (cs : List ℕ) : Type 0 where
+  pub is : putFront s (d .strings) (d .entries) (d .ends) ≡ cs
+  pub strings : number? (stringsRules s) (length (d .strings)) ≡ true
+  pub bytes : all bytes? (d .strings) ≡ true
+  pub number : number? smallRules (length (d .entries)) ≡ true
+  pub kept : inTurn entry? afterEntry (withStrings s (d .strings)) (d .entries) ≡ true
+  pub many : length (d .ends) ≡ length (dues (withStrings s (d .strings)) (d .entries))
+  pub rising : Rising 0 (d .ends)
 
-front-says : (s : State) → Says (front anyType s) (FrontSays s)
+pub front-says : (s : State) → Says (front anyType s) (FrontSays s)
 unfolding front putFront small
 front-says s =
     bind-says _ (strings-kept s) λ strings cs p. bind-says _ (number-kept smallRules) λ n ds q.
