@@ -94,18 +94,20 @@ fold-append after s (a ∷ l) m = fold-append after (after s a) l m
 -- ── the state grows ──
 
 pub record Grows (s u : State) : Type 0 where
+  pub strings : Begins (s .strings) (u .strings)
   pub typeNames : Begins (s .typeNames) (u .typeNames)
   pub types : Begins (s .types) (u .types)
   pub fieldNames : Begins (s .fieldNames) (u .fieldNames)
   pub fields : Begins (s .fields) (u .fields)
   pub log : Begins (s .log) (u .log)
 
-grows-refl : (s : State) → Grows s s
-grows-refl s = record { typeNames = begins-refl _; types = begins-refl _; fieldNames = begins-refl _; fields = begins-refl _; log = begins-refl _ }
+pub grows-refl : (s : State) → Grows s s
+grows-refl s = record { strings = begins-refl _; typeNames = begins-refl _; types = begins-refl _; fieldNames = begins-refl _; fields = begins-refl _; log = begins-refl _ }
 
-grows-trans : {s u v : State} → Grows s u → Grows u v → Grows s v
+pub grows-trans : {s u v : State} → Grows s u → Grows u v → Grows s v
 grows-trans a b =
     record {
+      strings = begins-trans (a .strings) (b .strings);
       typeNames = begins-trans (a .typeNames) (b .typeNames);
       types = begins-trans (a .types) (b .types);
       fieldNames = begins-trans (a .fieldNames) (b .fieldNames);
@@ -122,6 +124,7 @@ head-grows : (s : State) (h : Head) → Grows s (afterHead s h)
 unfolding afterHead
 head-grows s h =
     record {
+      strings = begins-refl _;
       typeNames = begins-more (s .typeNames) (newName s h);
       types = begins-more (s .types) (newType s h);
       fieldNames = begins-refl _;
@@ -133,6 +136,7 @@ field-grows : (t : ℕ) (s : State) (g : New) → Grows s (afterNew t s g)
 unfolding afterNew
 field-grows t s g =
     record {
+      strings = begins-refl _;
       typeNames = begins-refl _;
       types = begins-refl _;
       fieldNames = begins-more (s .fieldNames) _;
@@ -146,11 +150,11 @@ entry-grows s e = grows-trans (head-grows s (e .head)) (fold-grows _ (field-grow
 
 strings-grow : (s : State) (l : List (List ℕ)) → Grows s (withStrings s l)
 unfolding withStrings
-strings-grow s l = record { typeNames = begins-refl _; types = begins-refl _; fieldNames = begins-refl _; fields = begins-refl _; log = begins-refl _ }
+strings-grow s l = record { strings = begins-more (s .strings) l; typeNames = begins-refl _; types = begins-refl _; fieldNames = begins-refl _; fields = begins-refl _; log = begins-refl _ }
 
-closed-grows : (s : State) → Grows s (closed s)
+pub closed-grows : (s : State) → Grows s (closed s)
 unfolding closed
-closed-grows s = record { typeNames = begins-refl _; types = begins-refl _; fieldNames = begins-refl _; fields = begins-refl _; log = begins-refl _ }
+closed-grows s = record { strings = begins-refl _; typeNames = begins-refl _; types = begins-refl _; fieldNames = begins-refl _; fields = begins-refl _; log = begins-refl _ }
 
 pub pair-grows : (s : State) (p : Pair) → Grows s (afterPair s p)
 unfolding afterPair afterFront
