@@ -1,15 +1,15 @@
 -- How many rows there are: what other counts make of what the table says. Assumes nothing.
-use Prim.Native.Nat.{ℕ, zero, suc, _+_, _*_, _≤_, _<_, zero-le}
-use mathlib.Core.List.{List, [], _∷_, _++_}
-use mathlib.Core.Logic.{⊎-elim, _⊎_}
-use mathlib.Core.Path.{_≡_, refl, sym, ap, ap₂, _∙_, subst}
+use Prim.Native.Nat.{ℕ, zero, suc, _+_, _*_, _≤_, _<_}
+use mathlib.Core.List.{List, [], _∷_}
+use mathlib.Core.Logic.{⊎-elim}
+use mathlib.Core.Path.{_≡_, refl, sym, ap, _∙_, subst}
 use native.Mathlib.Nat.{le-refl, not-suc-le-zero, le-of-suc-le-suc, eq-or-lt-of-le}
 use native.Mathlib.Omega.{arith}
 use lib.ListN.{length, getD, take, replicate}
 use lib.Seq.{sets, length-sets, take-all, take-append-le}
-use Rattle.paper.specs.Ledger.{State, nothing}
+use Rattle.paper.specs.Ledger.{nothing}
 use Rattle.paper.specs.Rules.{closed}
-use Rattle.table.specs.Rows.{tab, cells, seg, Each}
+use Rattle.table.specs.Rows.{tab, cells, seg}
 use Rattle.table.specs.RowLaws.{length-tab, tab-cong, cells-cong, cells-sets, sets-other, seg-none}
 use Rattle.table.specs.Layout.{width, most, starts, head-le}
 use Rattle.table.specs.View.{textOf, typOf, fldOf, rangeOf, dueOf, spotOf, strsOf, namesOf, typesOf, titlesOf, fldsOf, logOf, duesOf, chunksOf, said, Ok, Within, Holds, Said, Now}

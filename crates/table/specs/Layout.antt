@@ -1,9 +1,9 @@
 -- The six kinds of rows by number, so that each law is said once for all of them: 0 strings, 1 types, 2 fields, 3 ranges,
 -- 4 chunks that are due, 5 chunks. Cell k has how many rows of kind k there are. The view's own numbers are these. Assumes nothing.
-use Prim.Native.Nat.{ℕ, zero, suc, _+_, _*_, _<_, _≤_, zero-le, suc-le-suc}
-use mathlib.Core.List.{List, [], _∷_}
-use mathlib.Core.Logic.{⊎-elim, _⊎_, inl, inr, _≢_}
-use mathlib.Core.Path.{_≡_, refl, sym, ap, _∙_}
+use Prim.Native.Nat.{ℕ, zero, suc, _+_, _*_, _<_, _≤_, zero-le}
+use mathlib.Core.List.{[], _∷_}
+use mathlib.Core.Logic.{⊎-elim, _≢_}
+use mathlib.Core.Path.{_≡_, refl, sym}
 use native.Mathlib.Nat.{le-refl, not-suc-le-zero, le-of-suc-le-suc, eq-or-lt-of-le, mul-le-mul-left}
 use native.Mathlib.Omega.{arith}
 use lib.ListN.{getD}
@@ -32,6 +32,14 @@ pub head-le : (k : ℕ) → 16 ≤ starts k
 unfolding starts
 head-le k = starts-le 0 k zero-le
 
+next-starts : (k : ℕ) → starts (suc k) ≡ starts k + width k * most k
+unfolding starts
+next-starts k = refl
+
+all-end : starts 6 ≤ 16384
+unfolding starts width most
+all-end = omega arith
+
 -- row n of kind c, within what is c's, touches no other kind's rows
 module _ (k c n : ℕ) (other : k ≢ c) (fits : n < most c) where
   pub kinds-apart : starts k < starts c + width c * n + width c → starts k + width k * most k ≤ starts c + width c * n
@@ -41,3 +49,10 @@ module _ (k c n : ℕ) (other : k ≢ c) (fits : n < most c) where
       ⊎-elim (λ (lt : k < c). let r = starts-le (suc k) c lt in omega arith)
       (λ (ge : c ≤ k). ⊎-elim (λ (e : c ≡ k). absurd (other (sym e))) (λ (gt : c < k). let r = starts-le (suc c) k gt in omega arith) (eq-or-lt-of-le ge))
       (lt-or-ge k c)
+
+-- and stands within the table
+pub row-fits : (c n : ℕ) → c < 6 → n < most c → starts c + width c * n + width c ≤ 16384
+row-fits c n few fits =
+    let row = mul-le-mul-left (width c) fits in
+    let below = starts-le (suc c) 6 few in
+    omega (arith, next-starts c, all-end)

@@ -5,8 +5,8 @@ pub mod Layout
 pub mod Adds
 pub mod Answers
 pub mod Packed
-pub mod Pushes
 pub mod ViewLaws
+pub mod Pushes
 pub mod RowReads
 pub mod Counts
 pub mod Asks

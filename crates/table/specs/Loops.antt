@@ -1,6 +1,6 @@
 -- Turns of loops over a list: a search, a test of all, a sum, a place, a count. Assumes nothing.
 use mathlib.Core.Path.{_≡_, refl, sym, ap, ap₂, _∙_}
-use mathlib.Core.Bool.{Bool, true, false, _&&_, _||_}
+use mathlib.Core.Bool.{Bool, true, false}
 use mathlib.Core.List.{List, [], _∷_}
 use mathlib.Core.Option.{Option, none, some}
 use Prim.Native.Nat.{ℕ, suc, _+_, _≤_, _<_}
@@ -96,3 +96,21 @@ module _ {A B : Type 0} (p : A → B → Bool) (xs : List A) (names : List B) (i
     pub named-on : b ≡ false → placeNamed p i (drop i xs) (drop i names) ≡ placeNamed p (i + 1) (drop (i + 1) xs) (drop (i + 1) names)
     unfolding placeNamed if_then_else_
     named-on e = both ∙ rw (sym says ∙ e, add-one) refl
+
+-- ── a place that is found is one of the list's ──
+
+found-in : (b : Bool) (k n : ℕ) (o : Option ℕ) {i : ℕ} → (o ≡ some i → (suc k ≤ i) × (i < suc k + n)) → (if b then some k else o) ≡ some i → (k ≤ i) × (i < k + suc n)
+unfolding if_then_else_
+found-in true k n o {i} rest q = let e : k ≡ i = cc in (omega arith, omega arith)
+found-in false k n o {i} rest q = let r = rest q in (omega arith, omega arith)
+
+pub place-in : {A : Type 0} (p : A → Bool) (k : ℕ) (xs : List A) {i : ℕ} → place p k xs ≡ some i → (k ≤ i) × (i < k + length xs)
+unfolding place
+place-in p k [] q = let z : _≡_ {A = ℕ} 0 1 = cc in absurd (omega arith)
+place-in p k (x ∷ xs) q = found-in (p x) k (length xs) (place p (suc k) xs) (place-in p (suc k) xs) q
+
+pub named-in : {A B : Type 0} (p : A → B → Bool) (k : ℕ) (xs : List A) (names : List B) {i : ℕ} → placeNamed p k xs names ≡ some i → (k ≤ i) × (i < k + length xs)
+unfolding placeNamed
+named-in p k [] names q = let z : _≡_ {A = ℕ} 0 1 = cc in absurd (omega arith)
+named-in p k (x ∷ xs) [] q = let z : _≡_ {A = ℕ} 0 1 = cc in absurd (omega arith)
+named-in p k (x ∷ xs) (name ∷ names) q = found-in (p x name) k (length xs) (placeNamed p (suc k) xs names) (named-in p (suc k) xs names) q

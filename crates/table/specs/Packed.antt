@@ -1,10 +1,8 @@
 -- The cells of a row, and that they say what was put into them. Assumes nothing.
 use Prim.Native.Nat.{ℕ, _+_, _*_, _/_, _%_, _<_}
 use mathlib.Core.List.{List, [], _∷_}
-use mathlib.Core.Path.{_≡_, refl, sym, ap, ap₂, _∙_}
+use mathlib.Core.Path.{_≡_}
 use native.Mathlib.Omega.{arith}
-use Rattle.paper.specs.Ledger.{Field, Range, Due}
-use Rattle.paper.specs.Places.{Spot}
 use Rattle.table.specs.View.{wide, kindFrom, fldOf, rangeOf, dueOf, spotOf}
 use Rattle.table.specs.Answers.{fieldIn, rangeIn, Small}
 use Rattle.table.specs.declared.rows.TypeRow.{TypeRow}

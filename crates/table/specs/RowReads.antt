@@ -1,14 +1,12 @@
 -- Rows of the view's lists, by the cells that are read for them. Assumes nothing.
-use mathlib.Core.Path.{_≡_, refl, sym, ap, _∙_, subst}
-use mathlib.Core.List.{List, [], _∷_}
+use mathlib.Core.Path.{_≡_, refl, sym, ap, _∙_}
+use mathlib.Core.List.{List, []}
 use mathlib.Core.Option.{none}
 use Prim.Native.Nat.{ℕ, suc, _+_, _*_, _/_, _%_, _≤_, _<_}
 use native.Mathlib.Numerals.{add-one, towards-suc}
 use native.Mathlib.Omega.{arith}
 use lib.ListN.{length, getD, List·getD-eq-default}
-use lib.Seq.{slice}
-use Rattle.paper.specs.Ledger.{Typ, Field, Range, Due, noType, noField, typeIn}
-use Rattle.paper.specs.Places.{Spot}
+use Rattle.paper.specs.Ledger.{Typ, noType, noField, typeIn}
 use Rattle.table.specs.Rows.{seg, cells, Each}
 use Rattle.table.specs.RowLaws.{seg-at}
 use Rattle.table.specs.View.{maybe, wide, kindFrom, textOf, typOf, fldOf, rangeOf, dueOf, spotOf, strsOf, namesOf, typesOf, titlesOf, fldsOf, logOf, duesOf, chunksOf, Within, Holds}

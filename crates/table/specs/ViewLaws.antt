@@ -1,18 +1,18 @@
 -- What a push makes of what the table says. Assumes nothing.
-use mathlib.Core.Path.{_≡_, refl, sym, ap, _∙_, subst}
+use mathlib.Core.Path.{_≡_, sym, ap, _∙_, subst}
 use mathlib.Core.Logic.{⊎-elim, _⊎_, inl, inr, _≢_}
 use mathlib.Core.List.{List, [], _∷_, _++_}
-use Prim.Native.Nat.{ℕ, zero, suc, _+_, _*_, _≤_, _<_}
+use Prim.Native.Nat.{ℕ, zero, suc, _≤_, _<_}
 use native.Mathlib.Omega.{arith}
 use native.Mathlib.Nat.{eq-or-lt-of-le}
 use lib.ListN.{length, getD}
 use lib.Seq.{slice}
-use Rattle.paper.specs.Ledger.{Typ, Field, Range, Due}
+use Rattle.paper.specs.Ledger.{Field, Range, Due}
 use Rattle.paper.specs.Places.{Spot}
-use Rattle.table.specs.Rows.{seg, cells, Each, Push}
+use Rattle.table.specs.Rows.{seg, Each, Push}
 use Rattle.table.specs.RowLaws.{lt-or-ge, length-tab, push-other, push-long, push-count, push-mine, push-kept, push-each, push-each-kept}
 use Rattle.table.specs.Layout.{width, most, starts, head-le, kinds-apart}
-use Rattle.table.specs.View.{maybe, wide, kindFrom, textOf, typOf, fldOf, rangeOf, dueOf, spotOf, strsOf, namesOf, typesOf, titlesOf, fldsOf, logOf, duesOf, chunksOf, view, said, Ok, Within, Holds, Said, Now}
+use Rattle.table.specs.View.{textOf, typOf, fldOf, rangeOf, dueOf, spotOf, strsOf, namesOf, typesOf, titlesOf, fldsOf, logOf, duesOf, chunksOf, said, Ok, Within, Holds, Now}
 use Rattle.table.specs.Answers.{typIn, fieldIn, rangeIn, Small}
 use Rattle.table.specs.Packed.{typeCells, fieldCells, rangeCells, dueCells, chunkCells, field-cells, range-cells, due-cells, chunk-cells}
 use Rattle.table.specs.declared.rows.TypeRow.{TypeRow}

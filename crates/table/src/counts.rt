@@ -20,11 +20,12 @@ pub fn counts(work: &[u32]) -> Counts
     }
 }
 
-// No chunk is due afterwards.
+// The first cells, all at once: no chunk is due afterwards.
 fn set_counts(work: &mut [u32], n: Counts, block: u32)
     requires { ⌜ length (now work) ≡ 16384 ⌝ }
     ensures { λ _. ⌜ Recounted n block (now (work .entry)) (now (work .exit)) ⌝ }
 {
+    let none_due = 0;
     put8(
         work,
         0,
@@ -32,7 +33,7 @@ fn set_counts(work: &mut [u32], n: Counts, block: u32)
         n.types,
         n.fields,
         n.ranges,
-        0,
+        none_due,
         n.chunks,
         block,
         0,

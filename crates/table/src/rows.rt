@@ -1,6 +1,5 @@
 // Rows of the table, as structs: how many there are of each kind, and the row at a place.
 ghost use mathlib.Core.Path.{_≡_};
-ghost use mathlib.Core.List.{[], _∷_};
 ghost use Prim.Native.Nat.{_+_, _*_, _<_, _≤_};
 ghost use lib.ListN.{length, getD};
 ghost use Rattle.paper.specs.Ledger.{noType, noField};

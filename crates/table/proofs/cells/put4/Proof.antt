@@ -1,78 +1,25 @@
+-- `table::cells::put4` meets its contract. Assumes nothing.
 use native.Mathlib.Omega.{arith}
 use native.Mathlib.Numerals.{towards-suc}
 use lib.ListN.{length-set}
 use borrow.Author.Needs.{needs}
 use Rattle.table.proofs.cells.put4.Statement.{statement}
 use Rattle.table.proofs.cells.put4.Tie as tie
-use Rattle.table.proofs.cells.put4.Reads as reads
-use Rattle.table.proofs.cells.put4.Lts as lts
-
--- src/cells.rt:29:5
-mul-work : tie.Need-mul-work
-mul-work c = search needs
-
--- src/cells.rt:29:5
-slice-write-work : tie.Need-slice-write-work
-slice-write-work c = search needs
-
--- src/cells.rt:30:10
-add-work : tie.Need-add-work
-add-work c = search needs
-
--- src/cells.rt:30:5
-mul-work-2 : tie.Need-mul-work-2
-mul-work-2 c = search needs
-
--- src/cells.rt:30:5
-slice-write-work-2 : tie.Need-slice-write-work-2
-slice-write-work-2 c = simp length-set (omega arith)
-
--- src/cells.rt:31:10
-add-work-2 : tie.Need-add-work-2
-add-work-2 c = search needs
-
--- src/cells.rt:31:5
-mul-work-3 : tie.Need-mul-work-3
-mul-work-3 c = search needs
-
--- src/cells.rt:31:5
-slice-write-work-3 : tie.Need-slice-write-work-3
-slice-write-work-3 c = simp length-set (omega arith)
-
--- src/cells.rt:32:10
-add-work-3 : tie.Need-add-work-3
-add-work-3 c = search needs
-
--- src/cells.rt:32:5
-mul-work-4 : tie.Need-mul-work-4
-mul-work-4 c = search needs
-
--- src/cells.rt:32:5
-slice-write-work-4 : tie.Need-slice-write-work-4
-slice-write-work-4 c = simp length-set (omega arith)
-
--- src/cells.rt:25:1
-same-length : tie.Need-same-length
-same-length c = simp length-set
-
--- src/cells.rt:25:1
-returns : tie.Need-returns
-returns c = simp towards-suc
 
 pub put4-spec : {M : Type 1} → statement M
 put4-spec =
     tie.close
     (tie.spec
-    mul-work
-    slice-write-work
-    add-work
-    mul-work-2
-    slice-write-work-2
-    add-work-2
-    mul-work-3
-    slice-write-work-3
-    add-work-3
-    mul-work-4
-    slice-write-work-4
-    same-length
-    returns)
+    (λ c. search needs)
+    (λ c. search needs)
+    (λ c. search needs)
+    (λ c. search needs)
+    (λ c. simp length-set (omega arith))
+    (λ c. search needs)
+    (λ c. search needs)
+    (λ c. simp length-set (omega arith))
+    (λ c. search needs)
+    (λ c. search needs)
+    (λ c. simp length-set (omega arith))
+    (λ c. simp length-set)
+    (λ c. simp towards-suc))

@@ -1,17 +1,13 @@
-use borrow.Author.Needs.{needs}
+-- `table::ranges::is_before` meets its contract. Assumes nothing.
 use borrow.Author.Tests.{eq-eqb, ne-eqb}
 use Rattle.paper.specs.Ledger.{before?, of?}
 use Rattle.table.proofs.ranges.is_before.Statement.{statement}
 use Rattle.table.proofs.ranges.is_before.Tie as tie
-use Rattle.table.proofs.ranges.is_before.Reads as reads
-use Rattle.table.proofs.ranges.is_before.Lts as lts
 
--- src/ranges.rt:37:1
 returns : tie.Need-returns
 unfolding before? of?
 returns c = simp (eq-eqb _ _ (c .before .if1 .taken))
 
--- src/ranges.rt:37:1
 returns-2 : tie.Need-returns-2
 unfolding before? of?
 returns-2 c = simp (ne-eqb _ _ (c .if1 .left))

@@ -1,18 +1,14 @@
-use borrow.Author.Needs.{needs}
+-- `table::ranges::is_entry` meets its contract. Assumes nothing.
 use borrow.Author.Tests.{eq-eqb, ne-eqb}
 use Rattle.paper.specs.Ledger.{here?, of?}
 use Rattle.paper.specs.Rules.{entryOf?}
 use Rattle.table.proofs.ranges.is_entry.Statement.{statement}
 use Rattle.table.proofs.ranges.is_entry.Tie as tie
-use Rattle.table.proofs.ranges.is_entry.Reads as reads
-use Rattle.table.proofs.ranges.is_entry.Lts as lts
 
--- src/ranges.rt:31:1
 returns : tie.Need-returns
 unfolding entryOf? here? of?
 returns c = simp (eq-eqb _ _ (c .before .if1 .taken))
 
--- src/ranges.rt:31:1
 returns-2 : tie.Need-returns-2
 unfolding entryOf? here? of?
 returns-2 c = simp (ne-eqb _ _ (c .if1 .left))

@@ -1,31 +1,15 @@
-use mathlib.Core.Path.{_≡_, ap}
+-- `table::types::base_of` meets its contract. Assumes nothing.
+use mathlib.Core.Path.{ap}
 use native.Mathlib.Omega.{arith}
 use Rattle.paper.specs.Ledger.{Typ, typeIn}
 use Rattle.table.specs.RowReads.{no-base}
 use borrow.Author.Needs.{needs}
 use Rattle.table.proofs.types.base_of.Statement.{statement}
 use Rattle.table.proofs.types.base_of.Tie as tie
-use Rattle.table.proofs.types.base_of.Reads as reads
-use Rattle.table.proofs.types.base_of.Lts as lts
-use Rattle.table.proofs.rows.type_at.Reads as type-at-reads
-use Rattle.table.proofs.rows.types.Reads as types-reads
 
--- src/types.rt:27:8
-types-requires : tie.Need-types-requires
-types-requires c κs = search needs
-
--- src/types.rt:28:9
-returns : tie.Need-returns
-returns c = no-base _ _ (omega arith)
-
--- src/types.rt:30:9
-type-at-requires : tie.Need-type-at-requires
-type-at-requires c κs = search needs
-
--- src/types.rt:23:1
 returns-2 : tie.Need-returns-2
 unfolding typeIn
 returns-2 c = ap (λ (x : Typ). x .base) (c .type-at .ensures .0)
 
 pub base-of-spec : {M : Type 1} → statement M
-base-of-spec = tie.close (tie.spec types-requires returns type-at-requires returns-2)
+base-of-spec = tie.close (tie.spec (λ c κs. search needs) (λ c. no-base _ _ (omega arith)) (λ c κs. search needs) returns-2)

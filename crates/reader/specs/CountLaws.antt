@@ -1,0 +1,126 @@
+-- The ways out of the readers of a local start, a count and a number of restrictions, on plain values. Assumes nothing.
+use mathlib.Core.Path.{_≡_, refl, sym, ap, _∙_, subst}
+use mathlib.Core.Bool.{Bool, true, false}
+use mathlib.Core.List.{List}
+use mathlib.Core.Option.{Option, none}
+use Prim.Native.Nat.{ℕ, zero, suc, _+_, _-_, _^_, _≤_, _<_}
+use native.Mathlib.Omega.{arith}
+use lib.Dec.{leb, eqb}
+use borrow.Author.Tests.{le-leb, lt-leb, eq-eqb, ne-eqb, leb-true}
+use Rattle.paper.specs.Reader.{if_then_else_, Reader, got, only, give, turned}
+use Rattle.paper.specs.Numbers.{v64, number}
+use Rattle.paper.specs.Lists.{any, all, given?}
+use Rattle.paper.specs.Ledger.{State, objectsInAll}
+use Rattle.paper.specs.Rules.{around?, clear?, inRange?, fewObjects?, countRules, restrictionRules}
+use Rattle.paper.specs.File.{restrictions}
+use Rattle.numbers.specs.Cursors.{Read}
+use Rattle.numbers.specs.declared.Number.{Number}
+use Rattle.numbers.specs.declared.Number.the-variants.{Got, No}
+use Rattle.numbers.specs.declared.Cursor.{Cursor}
+use Rattle.numbers.specs.declared.Refusal.{Refusal}
+use Rattle.laws.specs.Bools.{and-split}
+use Rattle.table.specs.View.{maybe}
+use Rattle.reader.specs.Ruled.{read-no, read-bad, read-got}
+use Rattle.reader.specs.Heads.{due, DueRead}
+use Rattle.reader.specs.HeadLaws.{differ, only-due}
+
+-- ── what is read only if it is due ──
+
+module _ {b : Bool} {q : Reader ℕ} {m : ℕ} {f : List ℕ} {at : ℕ} where
+  pub due-read : b ≡ true → {r : Number} → Read q m f at r → DueRead b q m f at r
+  due-read e {r} read =
+      subst (λ (b : Bool). DueRead b q m f at r) (sym e)
+      (record { says = ap (turned (due true)) (read .says) ∙ sym (only-due q f at); inside = read .inside; below = read .below; none = λ w. differ (cc w) })
+
+  pub due-none : b ≡ false → 0 < m → {c : Cursor} → at ≡ c .at → DueRead b q m f at (Got 0 c)
+  unfolding only give
+  due-none e pos {c} is =
+      subst (λ (b : Bool). DueRead b q m f at (Got 0 c)) (sym e)
+      (record { says = ap (got none) (sym is); inside = λ lo. rw (← is) lo; below = pos; none = λ w. refl })
+
+pub given-up : (up : ℕ) → (up ≡ 0 → ⊥) → given? (maybe up) ≡ true
+unfolding given?
+given-up zero ne = absurd (ne refl)
+given-up (suc u) ne = refl
+
+pub given-none : (up : ℕ) → up ≡ 0 → given? (maybe up) ≡ false
+unfolding given?
+given-none up e = ap (λ (u : ℕ). given? (maybe u)) e
+
+-- ── the bound of objects ──
+
+module _ (s : State) (super : Option ℕ) (n : ℕ) where
+  pub few-big : 65535 < n → false ≡ fewObjects? s super n
+  unfolding fewObjects?
+  few-big lt = rw (lt-leb n 65535 lt)
+
+  pub few-below : n ≤ 65535 → given? super ≡ true → true ≡ fewObjects? s super n
+  unfolding fewObjects?
+  few-below le e = rw (le-leb n 65535 le, e)
+
+  pub few-base : n ≤ 65535 → given? super ≡ false → leb (objectsInAll s + n) 65535 ≡ fewObjects? s super n
+  unfolding fewObjects?
+  few-base le e = rw (le-leb n 65535 le, e) refl
+
+  pub few-most : fewObjects? s super n ≡ true → n ≤ 65535
+  unfolding fewObjects?
+  few-most e = leb-true n 65535 (and-split (leb n 65535) _ e .0)
+
+-- ── the range rules ──
+
+module _ (s : State) (start n : ℕ) where
+  pub range-base : (up : ℕ) → up ≡ 0 → true ≡ inRange? s (maybe up) start n
+  unfolding inRange?
+  range-base up e = rw e refl
+
+  pub range-none : (up : ℕ) → (up ≡ 0 → ⊥) → n ≡ 0 → eqb start 0 ≡ inRange? s (maybe up) start n
+  unfolding inRange? if_then_else_
+  range-none zero ne e = absurd (ne refl)
+  range-none (suc u) ne e = rw (eq-eqb n 0 e) refl
+
+  pub range-out : (up : ℕ) → (up ≡ 0 → ⊥) → (n ≡ 0 → ⊥) → any (around? (s .block) (up - 1) start n) (s .log) ≡ false → false ≡ inRange? s (maybe up) start n
+  unfolding inRange? if_then_else_
+  range-out zero low ne h = absurd (low refl)
+  range-out (suc u) low ne h = let z : suc u - 1 ≡ u = omega arith in rw (ne-eqb n 0 ne, rw z at h)
+
+  pub range-in : (up : ℕ) → (up ≡ 0 → ⊥) → (n ≡ 0 → ⊥) → any (around? (s .block) (up - 1) start n) (s .log) ≡ true → all (clear? (s .block) (s .types) (up - 1) start) (s .log) ≡ inRange? s (maybe up) start n
+  unfolding inRange? if_then_else_
+  range-in zero low ne h = absurd (low refl)
+  range-in (suc u) low ne h = let z : suc u - 1 ≡ u = omega arith in rw (ne-eqb n 0 ne, rw z at h, z) refl
+
+-- ── the count ──
+
+module _ {f : List ℕ} {at : ℕ} {a : Number} (read : Read v64 (2 ^ 64) f at a) (s : State) (super : Option ℕ) (start : ℕ) where
+  pub count-no : {e : Refusal} → a ≡ No e → Read (number (countRules s super start)) 65536 f at a
+  unfolding number
+  count-no is = read-no read (countRules s super start) (omega arith) is
+
+  module _ {n : ℕ} {c : Cursor} (is : a ≡ Got n c) where
+    pub count-over : fewObjects? s super n ≡ false → Read (number (countRules s super start)) 65536 f at (No (record { number = 3; place = at }))
+    unfolding number countRules
+    count-over e = read-bad read (countRules s super start) (omega arith) is (rw e)
+
+    module _ (few : fewObjects? s super n ≡ true) where
+      pub count-out : inRange? s super start n ≡ false → Read (number (countRules s super start)) 65536 f at (No (record { number = 21; place = at }))
+      unfolding number countRules
+      count-out e = read-bad read (countRules s super start) (omega arith) is (rw (few, e))
+
+      pub count-in : inRange? s super start n ≡ true → Read (number (countRules s super start)) 65536 f at (Got n c)
+      unfolding number countRules
+      count-in e = read-got read (countRules s super start) (omega (arith, few-most s super n few)) is (rw (few, e))
+
+-- ── the number of restrictions ──
+
+module _ {f : List ℕ} {at : ℕ} {a : Number} (read : Read v64 (2 ^ 64) f at a) where
+  pub none-no : {e : Refusal} → a ≡ No e → Read restrictions 1 f at a
+  unfolding restrictions number
+  none-no is = read-no read restrictionRules (omega arith) is
+
+  module _ {n : ℕ} {c : Cursor} (is : a ≡ Got n c) where
+    pub none-bad : (n ≡ 0 → ⊥) → Read restrictions 1 f at (No (record { number = 9; place = at }))
+    unfolding restrictions number restrictionRules
+    none-bad ne = read-bad read restrictionRules (omega arith) is (rw (ne-eqb n 0 ne))
+
+    pub none-got : n ≡ 0 → Read restrictions 1 f at (Got n c)
+    unfolding restrictions number restrictionRules
+    none-got e = read-got read restrictionRules (omega arith) is (rw (eq-eqb n 0 e))

@@ -1,0 +1,6 @@
+// Reading the front of a pair into the work table: strings, entries, kinds and fields.
+pub mod entries;
+pub mod fields;
+pub mod heads;
+pub mod kinds;
+pub mod strings;

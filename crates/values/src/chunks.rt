@@ -1,0 +1,138 @@
+// Elements of any kind, and the values of a chunk: the kind is chosen here, once for all that follow.
+ghost use mathlib.Core.Path.{_≡_};
+ghost use mathlib.Core.Bool.{true};
+ghost use Prim.Native.Nat.{_<_, _≤_};
+ghost use lib.ListN.{length};
+ghost use Rattle.paper.specs.Reader.{repeat};
+ghost use Rattle.paper.specs.Rules.{elementKind?};
+ghost use Rattle.paper.specs.File.{small};
+ghost use Rattle.numbers.specs.Cursors.{Read};
+ghost use Rattle.values.specs.Pass.{Passed};
+ghost use Rattle.values.specs.Listed.{Fixed, widthOf};
+ghost use Rattle.values.specs.Items.{Checked};
+ghost use Rattle.values.specs.Chunks.{listOf, Kinds, ChunkChecked};
+use crate::references::references;
+use crate::runs::bools;
+use crate::runs::fixed_widths;
+use crate::runs::string_numbers;
+use crate::runs::v64s;
+use numbers::Cursor;
+use numbers::Number;
+use numbers::Refusal;
+use paper::Ledger;
+
+// The width in bytes of i8 to i64, f32 and f64.
+fn width(k: u64) -> u64
+    requires { ⌜ Fixed k ⌝ }
+    ensures { λ r. ⌜ (r ≡ widthOf k) × (0 < r) ⌝ }
+{
+    match k {
+        7 => 1,
+        8 => 2,
+        9 | 12 => 4,
+        _ => 8,
+    }
+}
+
+// m elements of kind k, one after the other: the cursor behind them, or the first refusal. Of strings there are so many, and
+// the objects of a type are those behind first[i] up to last[i], for each i.
+pub fn elements(
+    part: &[u8],
+    c: Cursor,
+    m: u64,
+    k: u64,
+    strings: u64,
+    first: &[u32],
+    last: &[u32],
+) -> Number
+    requires { ⌜ (elementKind? k ≡ true) × (c .at ≤ length (now part)) × (length (now first) ≡ length (now last)) ⌝ }
+    ensures { λ r. ⌜ Checked m k strings (now (first .entry)) (now (last .entry)) (now (part .entry)) (c .at) r ⌝ }
+{
+    match k {
+        6 => bools(part, c, m),
+        7..=10 | 12..=13 => fixed_widths(part, c, m, width(k)),
+        11 => v64s(part, c, m),
+        14 => string_numbers(part, c, m, strings),
+        32..=18446744073709551615 => references(part, c, m, first, last),
+        // No element has such a kind.
+        _ => Number::Got(0, c),
+    }
+}
+
+// The length of an array that gives its own.
+fn list_length(part: &[u8], c: Cursor) -> Number
+    ensures { λ r. ⌜ Read small 65536 (now (part .entry)) (c .at) r ⌝ }
+{
+    let a = c.v64(part);
+    let Number::Got(n, next) = a else {
+        return a;
+    };
+    if Ledger::OBJECTS < n {
+        return Number::No(Refusal {
+            number: 3,
+            place: c.at,
+        });
+    }
+    Number::Got(n, next)
+}
+
+// An array that gives its own length, and then its elements of kind e.
+fn list(part: &[u8], c: Cursor, e: u64, strings: u64, first: &[u32], last: &[u32]) -> Number
+    requires { ⌜ (elementKind? e ≡ true) × (c .at ≤ length (now part)) × (length (now first) ≡ length (now last)) ⌝ }
+    ensures { λ r. ⌜ Passed (listOf strings (now (first .entry)) (now (last .entry)) e) (now (part .entry)) (c .at) r ⌝ }
+{
+    let a = list_length(part, c);
+    let Number::Got(n, next) = a else {
+        return a;
+    };
+    elements(part, next, n, e, strings, first, last)
+}
+
+// n such arrays, from the chunk's start on.
+fn lists(part: &[u8], n: u64, e: u64, strings: u64, first: &[u32], last: &[u32]) -> Number
+    requires { ⌜ (elementKind? e ≡ true) × (length (now first) ≡ length (now last)) ⌝ }
+    ensures { λ r. ⌜ Passed (repeat n (listOf strings (now (first .entry)) (now (last .entry)) e)) (now (part .entry)) 0 r ⌝ }
+{
+    let mut at: usize = 0;
+    let mut rest = n;
+    while 0 < rest {
+        let here = Cursor { at };
+        let a = list(part, here, e, strings, first, last);
+        let Number::Got(_, next) = a else {
+            return a;
+        };
+        at = next.at;
+        rest -= 1;
+    }
+    Number::Got(0, Cursor { at })
+}
+
+// The n values of a chunk, whose kind has the first number k, a constant's bits or an array's length a, and the last number
+// e: the cursor behind them, or the first refusal.
+pub fn chunk_values(
+    part: &[u8],
+    n: u32,
+    k: u64,
+    a: u64,
+    e: u64,
+    strings: u64,
+    first: &[u32],
+    last: &[u32],
+) -> Number
+    requires { ⌜ Kinds k a e × (length (now first) ≡ length (now last)) ⌝ }
+    ensures { λ r. ⌜ ChunkChecked n k a e strings (now (first .entry)) (now (last .entry)) (now (part .entry)) r ⌝ }
+{
+    let start = Cursor { at: 0 };
+    let values = n as u64;
+    match k {
+        // A constant has no bytes here.
+        0..=4 => Number::Got(0, start),
+        // Arrays of one length lie there as one run of elements.
+        15 => {
+            let all = values * a;
+            elements(part, start, all, e, strings, first, last)
+        }
+        17..=19 => lists(part, values, e, strings, first, last),
+        _ => elements(part, start, values, e, strings, first, last),
+    }
+}

@@ -1,0 +1,103 @@
+// References: numbers of objects, which lie in the ranges of a type.
+ghost use mathlib.Core.Path.{_≡_};
+ghost use Prim.Native.Nat.{_<_};
+ghost use lib.ListN.{length};
+ghost use Rattle.paper.specs.Reader.{repeat};
+ghost use Rattle.values.specs.Pass.{Passed};
+ghost use Rattle.values.specs.Items.{inRange, linked, someObject};
+ghost use Rattle.values.specs.RangeLaws.{Placed};
+use numbers::Cursor;
+use numbers::Number;
+use numbers::Refusal;
+
+// An end of a range in the width of the numbers that are held against it. Said once, it spares each load a fact.
+fn wide(x: u32) -> u64
+    ensures { λ r. ⌜ r ≡ x ⌝ }
+{
+    x as u64
+}
+
+// Whether object n lies in the i-th range.
+fn lies_in(first: &[u32], last: &[u32], i: usize, n: u64) -> bool
+    requires { ⌜ (length (now first) ≡ length (now last)) × (i < length (now first)) ⌝ }
+    ensures { λ r. ⌜ r ≡ inRange (now (first .entry)) (now (last .entry)) i n ⌝ }
+{
+    let before = wide(first[i]);
+    let end = wide(last[i]);
+    if n <= before {
+        return false;
+    }
+    n <= end
+}
+
+// The range in which object n lies, or how many there are.
+fn search(first: &[u32], last: &[u32], n: u64) -> usize
+    requires { ⌜ length (now first) ≡ length (now last) ⌝ }
+    ensures { λ r. ⌜ Placed (now (first .entry)) (now (last .entry)) n r ⌝ }
+{
+    let mut i: usize = 0;
+    while i < first.len() {
+        if lies_in(first, last, i, n) {
+            return i;
+        }
+        i += 1;
+    }
+    i
+}
+
+// The same, where `hint` is tried first: objects that are named one after the other often lie in one range.
+fn range_of(first: &[u32], last: &[u32], n: u64, hint: u64) -> usize
+    requires { ⌜ length (now first) ≡ length (now last) ⌝ }
+    ensures { λ r. ⌜ Placed (now (first .entry)) (now (last .entry)) n r ⌝ }
+{
+    let i = hint as usize;
+    if i < first.len() {
+        if lies_in(first, last, i, n) {
+            return i;
+        }
+    }
+    search(first, last, n)
+}
+
+// The number of an object, or 0. The number that is answered is the range to try first with the next.
+fn reference(part: &[u8], c: Cursor, first: &[u32], last: &[u32], hint: u64) -> Number
+    requires { ⌜ length (now first) ≡ length (now last) ⌝ }
+    ensures { λ r. ⌜ Passed (linked (someObject (now (first .entry)) (now (last .entry)))) (now (part .entry)) (c .at) r ⌝ }
+{
+    let a = c.v64(part);
+    let Number::Got(n, next) = a else {
+        return a;
+    };
+    if n == 0 {
+        return Number::Got(hint, next);
+    }
+    let i = range_of(first, last, n, hint);
+    if first.len() <= i {
+        return Number::No(Refusal {
+            number: 14,
+            place: c.at,
+        });
+    }
+    Number::Got(i as u64, next)
+}
+
+// m numbers of objects.
+pub fn references(part: &[u8], c: Cursor, m: u64, first: &[u32], last: &[u32]) -> Number
+    requires { ⌜ length (now first) ≡ length (now last) ⌝ }
+    ensures { λ r. ⌜ Passed (repeat m (linked (someObject (now (first .entry)) (now (last .entry))))) (now (part .entry)) (c .at) r ⌝ }
+{
+    let mut at = c.at;
+    let mut rest = m;
+    let mut hint: u64 = 0;
+    while 0 < rest {
+        let here = Cursor { at };
+        let a = reference(part, here, first, last, hint);
+        let Number::Got(i, next) = a else {
+            return a;
+        };
+        at = next.at;
+        hint = i;
+        rest -= 1;
+    }
+    Number::Got(0, Cursor { at })
+}

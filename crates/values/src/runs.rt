@@ -1,0 +1,118 @@
+// Elements one after the other that are held to the rules and then passed over. The kind is chosen before the loop, never
+// in it.
+ghost use Prim.Native.Nat.{_+_, _<_, _≤_};
+ghost use lib.ListN.{length};
+ghost use Rattle.paper.specs.Reader.{must, repeat};
+ghost use Rattle.paper.specs.Numbers.{fixed, v64};
+ghost use Rattle.paper.specs.Rules.{boolRules};
+ghost use Rattle.numbers.specs.Cursors.{Read};
+ghost use Rattle.values.specs.Pass.{Passed};
+ghost use Rattle.values.specs.Items.{linked, atMost};
+use numbers::Cursor;
+use numbers::Number;
+use numbers::Refusal;
+
+// m bools, each of which is 00 or FF.
+pub fn bools(part: &[u8], c: Cursor, m: u64) -> Number
+    ensures { λ r. ⌜ Passed (repeat m (must (fixed 1) boolRules)) (now (part .entry)) (c .at) r ⌝ }
+{
+    let mut at = c.at;
+    let mut rest = m;
+    while 0 < rest {
+        if part.len() <= at {
+            return Number::No(Refusal {
+                number: 1,
+                place: at,
+            });
+        }
+        let b = part[at];
+        if b != 0 {
+            if b != 255 {
+                return Number::No(Refusal {
+                    number: 13,
+                    place: at,
+                });
+            }
+        }
+        at += 1;
+        rest -= 1;
+    }
+    Number::Got(0, Cursor { at })
+}
+
+// m numbers of a fixed width, which are there or not: none of them needs a look.
+pub fn fixed_widths(part: &[u8], c: Cursor, m: u64, width: u64) -> Number
+    requires { ⌜ (0 < width) × (c .at ≤ length (now part)) ⌝ }
+    ensures { λ r. ⌜ Passed (repeat m (fixed width)) (now (part .entry)) (c .at) r ⌝ }
+{
+    let at = c.at;
+    let room = (part.len() - at) as u64;
+    let whole = room / width;
+    if m <= whole {
+        let over = m * width;
+        return Number::Got(
+            0,
+            Cursor {
+                at: at + (over as usize),
+            },
+        );
+    }
+    let over = whole * width;
+    Number::No(Refusal {
+        number: 1,
+        place: at + (over as usize),
+    })
+}
+
+// m numbers of one byte or more.
+pub fn v64s(part: &[u8], c: Cursor, m: u64) -> Number
+    ensures { λ r. ⌜ Passed (repeat m v64) (now (part .entry)) (c .at) r ⌝ }
+{
+    let mut at = c.at;
+    let mut rest = m;
+    while 0 < rest {
+        let here = Cursor { at };
+        let a = here.v64(part);
+        let Number::Got(_, next) = a else {
+            return a;
+        };
+        at = next.at;
+        rest -= 1;
+    }
+    Number::Got(0, Cursor { at })
+}
+
+// A v64 that is at most `most`, as the number of one of so many strings is, or 0.
+pub fn number_up_to(part: &[u8], c: Cursor, most: u64) -> Number
+    ensures { λ r. ⌜ Read (linked (atMost most)) (most + 1) (now (part .entry)) (c .at) r ⌝ }
+{
+    let a = c.v64(part);
+    let Number::Got(n, next) = a else {
+        return a;
+    };
+    if most < n {
+        return Number::No(Refusal {
+            number: 14,
+            place: c.at,
+        });
+    }
+    Number::Got(n, next)
+}
+
+// m numbers of strings.
+pub fn string_numbers(part: &[u8], c: Cursor, m: u64, strings: u64) -> Number
+    ensures { λ r. ⌜ Passed (repeat m (linked (atMost strings))) (now (part .entry)) (c .at) r ⌝ }
+{
+    let mut at = c.at;
+    let mut rest = m;
+    while 0 < rest {
+        let here = Cursor { at };
+        let a = number_up_to(part, here, strings);
+        let Number::Got(_, next) = a else {
+            return a;
+        };
+        at = next.at;
+        rest -= 1;
+    }
+    Number::Got(0, Cursor { at })
+}

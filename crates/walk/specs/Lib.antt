@@ -1,0 +1,9 @@
+pub mod Pairs
+pub mod Region
+pub mod Low
+pub mod Gather
+pub mod Listed
+pub mod Steps
+pub mod Stand
+pub mod Dues
+pub mod RegionTurns

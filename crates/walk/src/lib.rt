@@ -1,0 +1,3 @@
+// A file pair by pair: its data region is read chunk by chunk.
+pub mod chunks;
+pub mod region;
