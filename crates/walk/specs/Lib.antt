@@ -7,3 +7,8 @@ pub mod Steps
 pub mod Stand
 pub mod Dues
 pub mod RegionTurns
+pub mod Blocks
+pub mod PairLaws
+pub mod LateLaws
+pub mod PairWays
+pub mod PairTurns

@@ -58,7 +58,7 @@ few-count : (s : State) (super : Option ℕ) (n : ℕ) → fewObjects? s super n
 unfolding fewObjects?
 few-count s super n h = leb-true n mostObjects (and-split (leb n mostObjects) _ h .0)
 
-news-log : (t : ℕ) (gs : List New) (s : State) → fold (afterNew t) s gs .log ≡ s .log
+pub news-log : (t : ℕ) (gs : List New) (s : State) → fold (afterNew t) s gs .log ≡ s .log
 unfolding fold afterNew
 news-log t [] s = refl
 news-log t (g ∷ gs) s = news-log t gs (afterNew t s g)

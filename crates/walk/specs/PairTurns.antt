@@ -1,0 +1,91 @@
+-- Pair after pair, to the end of the file: the loop's turns. Assumes nothing.
+use mathlib.Core.Path.{_≡_, refl, sym, ap, _∙_}
+use mathlib.Core.Bool.{Bool, true, false}
+use mathlib.Core.List.{List}
+use Prim.Native.Nat.{ℕ, zero, suc, _+_, _-_, _≤_, _<_}
+use native.Mathlib.Omega.{arith}
+use lib.Dec.{leb}
+use lib.ListN.{length, getD}
+use borrow.Author.Tests.{le-leb, lt-leb}
+use Rattle.paper.specs.Reader.{if_then_else_, Out, got, no, andThen}
+use Rattle.laws.specs.Says.{Bytes}
+use Rattle.numbers.specs.declared.Cursor.{Cursor}
+use Rattle.numbers.specs.declared.Refusal.{Refusal}
+use Rattle.table.specs.View.{said, Said, Holds}
+use Rattle.table.specs.Counts.{nextBlock}
+use Rattle.walk.specs.Pairs.{pairTo, pairsTo}
+use Rattle.walk.specs.PairLaws.{Steady, PairReady, PairDone, outSaid, steadyAfter}
+use Rattle.walk.specs.declared.chunks.Step.{Step}
+use Rattle.walk.specs.declared.chunks.Step.the-variants.{Got, No}
+
+-- ── the definitions' side ──
+
+pairs-end : (n : ℕ) (g : Said) (f : List ℕ) (at : ℕ) → length f ≤ at → pairsTo n g f at ≡ got g at
+unfolding pairsTo if_then_else_
+pairs-end zero g f at le = rw (le-leb (length f) at le)
+pairs-end (suc n) g f at le = rw (le-leb (length f) at le)
+
+pairs-over : (n : ℕ) (g : Said) (f : List ℕ) (at : ℕ) → n ≡ 0 → at < length f → pairsTo n g f at ≡ no 3 at
+unfolding pairsTo if_then_else_
+pairs-over n g f at z lt = rw (z, lt-leb (length f) at lt)
+
+pairs-step : (n : ℕ) (g : Said) (f : List ℕ) (at : ℕ) → 0 < n → at < length f → pairsTo n g f at ≡ andThen (pairTo g f at) (λ g₁ e. pairsTo (n - 1) g₁ f e)
+unfolding pairsTo if_then_else_
+pairs-step zero g f at pos lt = absurd (omega arith)
+pairs-step (suc n) g f at pos lt = let z : suc n - 1 ≡ n = omega arith in rw (lt-leb (length f) at lt, z) refl
+
+-- ── the code's side ──
+
+-- what the walk asks: bytes, as many as a file may have, and a table that knows nothing yet
+pub record WalkReady (f l : List ℕ) : Type 0 where
+  pub steady : Steady f l
+  pub bytes : Bytes f
+  pub small : length f ≤ 1048576
+  pub block : getD l 6 0 ≡ 0
+
+pub record WalkDone (f l l′ : List ℕ) (r : Step) : Type 0 where
+  pub holds : Holds f l′
+  pub says : outSaid f l′ r ≡ pairsTo 32 (said f l) f 0
+  pub steady : steadyAfter f l′ r
+
+-- at most `left` pairs are to come: what is left, from here, gives the whole
+pub record PairsGoing (f l₀ l : List ℕ) (left at : ℕ) : Type 0 where
+  pub steady : Steady f l
+  pub inside : at ≤ length f
+  pub block : getD l 6 0 + left ≡ 32
+  pub long : length l ≡ length l₀
+  pub says : pairsTo 32 (said f l₀) f 0 ≡ pairsTo left (said f l) f at
+
+pub pairs-begin : {f l : List ℕ} → WalkReady f l → PairsGoing f l l 32 0
+pairs-begin W = record { steady = W .steady; inside = omega arith; block = omega (arith, W .block); long = refl; says = refl }
+
+module _ {f l₀ l : List ℕ} {left at : ℕ} (W : WalkReady f l₀) (G : PairsGoing f l₀ l left at) where
+  pub pairs-done : length f ≤ at → WalkDone f l₀ l (Got (record { at = at }))
+  pairs-done le = record { holds = G .steady .holds; says = sym (G .says ∙ pairs-end left (said f l) f at le); steady = (G .steady, G .inside) }
+
+  module _ (lt : at < length f) where
+    pub pairs-many : left ≡ 0 → WalkDone f l₀ l (No (record { number = 3; place = at }))
+    pairs-many z = record { holds = G .steady .holds; says = sym (G .says ∙ pairs-over left (said f l) f at z lt); steady = tt }
+
+    module _ (pos : left ≡ 0 → ⊥) where
+      some-left : 0 < left
+      some-left = go left pos
+        where
+          go : (n : ℕ) → (n ≡ 0 → ⊥) → 0 < n
+          go zero p = absurd (p refl)
+          go (suc n) p = omega arith
+
+      pub pair-asks : PairReady f l at
+      pair-asks = record { steady = G .steady; bytes = W .bytes; small = W .small; inside = G .inside; block = omega (arith, G .block, some-left) }
+
+      module _ {l′ : List ℕ} {a : Step} (one : PairDone f l l′ at a) where
+        turn : pairsTo 32 (said f l₀) f 0 ≡ andThen (outSaid f l′ a) (λ g e. pairsTo (left - 1) g f e)
+        turn = G .says ∙ pairs-step left (said f l) f at some-left lt ∙ rw (← one .says) refl
+
+        pub pairs-no : {e : Refusal} → a ≡ No e → WalkDone f l₀ l′ a
+        pairs-no is = rw is (record { holds = one .holds; says = sym (turn ∙ rw is refl); steady = tt })
+
+        pub pairs-next : {c : Cursor} → a ≡ Got c → getD l′ 6 0 ≡ getD l 6 0 + 1 → length l′ ≡ length l → PairsGoing f l₀ l′ (left - 1) (c .at)
+        pairs-next is next long =
+            let one′ = rw is at one in
+            record { steady = one′ .steady .0; inside = one′ .steady .1; block = omega (arith, G .block, some-left); long = long ∙ G .long; says = turn ∙ rw is refl }
