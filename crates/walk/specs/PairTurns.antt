@@ -7,13 +7,18 @@ use native.Mathlib.Omega.{arith}
 use lib.Dec.{leb}
 use lib.ListN.{length, getD}
 use borrow.Author.Tests.{le-leb, lt-leb}
-use Rattle.paper.specs.Reader.{if_then_else_, Out, got, no, andThen}
+use Rattle.paper.specs.Reader.{if_then_else_, Out, got, no, andThen, turned, within}
+use Rattle.paper.specs.Lists.{lastOr}
+use Rattle.paper.specs.Ledger.{Chunk}
+use Rattle.paper.specs.Rules.{anyType, closed}
+use Rattle.paper.specs.File.{Front, front}
+use Rattle.laws.specs.Faithful as faithful
 use Rattle.laws.specs.Says.{Bytes}
 use Rattle.numbers.specs.declared.Cursor.{Cursor}
 use Rattle.numbers.specs.declared.Refusal.{Refusal}
 use Rattle.table.specs.View.{said, Said, Holds}
-use Rattle.table.specs.Counts.{nextBlock}
-use Rattle.walk.specs.Pairs.{pairTo, pairsTo}
+use Rattle.walk.specs.Pairs.{saidAfter, pairTo, pairsTo}
+use Rattle.walk.specs.Blocks.{front-block}
 use Rattle.walk.specs.PairLaws.{Steady, PairReady, PairDone, outSaid, steadyAfter}
 use Rattle.walk.specs.declared.chunks.Step.{Step}
 use Rattle.walk.specs.declared.chunks.Step.the-variants.{Got, No}
@@ -33,6 +38,24 @@ pairs-step : (n : ℕ) (g : Said) (f : List ℕ) (at : ℕ) → 0 < n → at < l
 unfolding pairsTo if_then_else_
 pairs-step zero g f at pos lt = absurd (omega arith)
 pairs-step (suc n) g f at pos lt = let z : suc n - 1 ≡ n = omega arith in rw (lt-leb (length f) at lt, z) refl
+
+-- a pair that is read ends its block
+pair-block : (g g′ : Said) (f : List ℕ) (at e : ℕ) → got g′ e ≡ pairTo g f at → g′ .state .block ≡ g .state .block + 1
+unfolding pairTo saidAfter closed
+pair-block g g′ f at e q = go (front anyType (g .state) f at) q
+  where
+    ended : (d : Front) (m : ℕ) (o : Out (List Chunk)) → got g′ e ≡ turned (λ (cs : List Chunk). saidAfter g d m) o → g′ .state .block ≡ g .state .block + 1
+    ended d m (got cs p) r =
+        let z : g′ ≡ saidAfter g d m = cc r in
+        ap (λ (u : Said). u .state .block) z ∙ ap (λ (n : ℕ). n + 1) (front-block (g .state) (d .strings) (d .entries))
+    ended d m (no k p) r = let z : _≡_ {A = ℕ} 0 1 = cc r in absurd (omega arith)
+
+    go :
+        (o : Out Front)
+        → got g′ e ≡ andThen o (λ d m. turned (λ (cs : List Chunk). saidAfter g d m) (within (lastOr 0 (d .ends)) (faithful.region (g .state) at d) f m))
+        → g′ .state .block ≡ g .state .block + 1
+    go (got d m) r = ended d m (within (lastOr 0 (d .ends)) (faithful.region (g .state) at d) f m) r
+    go (no k p) r = let z : _≡_ {A = ℕ} 0 1 = cc r in absurd (omega arith)
 
 -- ── the code's side ──
 
@@ -85,7 +108,8 @@ module _ {f l₀ l : List ℕ} {left at : ℕ} (W : WalkReady f l₀) (G : Pairs
         pub pairs-no : {e : Refusal} → a ≡ No e → WalkDone f l₀ l′ a
         pairs-no is = rw is (record { holds = one .holds; says = sym (turn ∙ rw is refl); steady = tt })
 
-        pub pairs-next : {c : Cursor} → a ≡ Got c → getD l′ 6 0 ≡ getD l 6 0 + 1 → length l′ ≡ length l → PairsGoing f l₀ l′ (left - 1) (c .at)
-        pairs-next is next long =
+        pub pairs-next : {c : Cursor} → a ≡ Got c → length l′ ≡ length l → PairsGoing f l₀ l′ (left - 1) (c .at)
+        pairs-next {c} is long =
             let one′ = rw is at one in
+            let next : getD l′ 6 0 ≡ getD l 6 0 + 1 = pair-block (said f l) (said f l′) f at (c .at) (one′ .says) in
             record { steady = one′ .steady .0; inside = one′ .steady .1; block = omega (arith, G .block, some-left); long = long ∙ G .long; says = turn ∙ rw is refl }

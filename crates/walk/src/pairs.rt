@@ -2,6 +2,7 @@
 ghost use mathlib.Core.Path.{_≡_};
 ghost use Rattle.walk.specs.PairLaws.{PairReady, PairDone};
 ghost use Rattle.walk.specs.LateLaws.{LateReady, LateDone};
+ghost use Rattle.walk.specs.PairTurns.{WalkReady, WalkDone};
 use crate::chunks::Step;
 use crate::region::kinds_stand;
 use crate::region::region;
@@ -9,6 +10,7 @@ use numbers::Cursor;
 use numbers::Number;
 use numbers::Refusal;
 use numbers::refused;
+use paper::Ledger;
 use reader::entries::front;
 use reader::kinds::Named;
 use table::counts::counts;
@@ -69,4 +71,28 @@ pub fn pair(file: &[u8], c: Cursor, work: &mut [u32]) -> Step
     };
     next_block(work);
     Step::Got(end)
+}
+
+// Pair after pair, to the end of the file.
+pub fn pairs(file: &[u8], work: &mut [u32]) -> Step
+    requires { ⌜ WalkReady (now file) (now work) ⌝ }
+    ensures { λ r. ⌜ WalkDone (now (file .entry)) (now (work .entry)) (now (work .exit)) r ⌝ }
+{
+    let mut at: usize = 0;
+    let mut left = Ledger::PAIRS;
+    while at < file.len() {
+        if left == 0 {
+            return Step::No(Refusal {
+                number: 3,
+                place: at,
+            });
+        }
+        let a = pair(file, Cursor { at }, work);
+        let Step::Got(c) = a else {
+            return a;
+        };
+        at = c.at;
+        left -= 1;
+    }
+    Step::Got(Cursor { at })
 }
