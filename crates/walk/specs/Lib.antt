@@ -12,3 +12,4 @@ pub mod PairLaws
 pub mod LateLaws
 pub mod PairWays
 pub mod PairTurns
+pub mod FileLaws

@@ -1,8 +1,10 @@
 // A pair, and pair after pair to the end of the file.
 ghost use mathlib.Core.Path.{_≡_};
+ghost use lib.ListN.{length};
 ghost use Rattle.walk.specs.PairLaws.{PairReady, PairDone};
 ghost use Rattle.walk.specs.LateLaws.{LateReady, LateDone};
 ghost use Rattle.walk.specs.PairTurns.{WalkReady, WalkDone};
+ghost use Rattle.walk.specs.FileLaws.{FileRead};
 use crate::chunks::Step;
 use crate::region::kinds_stand;
 use crate::region::region;
@@ -13,6 +15,7 @@ use numbers::refused;
 use paper::Ledger;
 use reader::entries::front;
 use reader::kinds::Named;
+use table::counts::begin;
 use table::counts::counts;
 use table::counts::cut_back;
 use table::counts::next_block;
@@ -95,4 +98,19 @@ pub fn pairs(file: &[u8], work: &mut [u32]) -> Step
         left -= 1;
     }
     Step::Got(Cursor { at })
+}
+
+// A file, read into the table, whatever stood in it.
+pub fn read(file: &[u8], work: &mut [u32]) -> Step
+    requires { ⌜ length (now work) ≡ 16384 ⌝ }
+    ensures { λ r. ⌜ FileRead (now (file .entry)) (now (work .exit)) r ⌝ }
+{
+    if Ledger::BYTES < file.len() as u64 {
+        return Step::No(Refusal {
+            number: 3,
+            place: 0,
+        });
+    }
+    begin(work);
+    pairs(file, work)
 }
