@@ -1,0 +1,52 @@
+-- What each call replies behind the reading of the file. Assumes nothing.
+use mathlib.Core.Path.{_≡_, sym, ap, _∙_, subst}
+use mathlib.Core.List.{List}
+use Prim.Native.Nat.{ℕ}
+use lib.IntN.{ℤ}
+use lib.ListN.{length}
+use Rattle.paper.specs.Reader.{no}
+use Rattle.paper.specs.Ledger.{State}
+use Rattle.paper.specs.File.{file}
+use Rattle.paper.specs.Calls.{Answer, check, objects, column}
+use Rattle.table.specs.View.{view}
+use Rattle.numbers.specs.declared.Cursor.{Cursor}
+use Rattle.numbers.specs.declared.Refusal.{Refusal}
+use Rattle.walk.specs.FileLaws.{FileRead, toldFile}
+use Rattle.walk.specs.declared.chunks.Step.{Step}
+use Rattle.walk.specs.declared.chunks.Step.the-variants.{Got, No}
+use Rattle.calls.specs.Told.{answerOf, Wrote, wrote-none, countOf, check-got, objects-got, column-got, check-no, objects-no, column-no}
+use Rattle.calls.specs.Column.{Known, sees, ColumnTold}
+use Rattle.calls.specs.declared.replies.Reply.{Reply}
+use Rattle.calls.specs.declared.replies.Reply.the-variants.{Done, Refused}
+
+module _ {f l : List ℕ} {a : Step} (F : FileRead f l a) where
+  module _ {c : Cursor} (is : a ≡ Got c) where
+    pub table-known : Known f l
+    table-known = record { at = c .at; accepted = subst (toldFile f l) is (F .told) }
+
+    pub check-accepted : answerOf (Done 0) ≡ check 16384 f
+    unfolding answerOf
+    check-accepted = sym (check-got f (table-known .accepted .read))
+
+    pub objects-accepted : (name : List ℕ) {r : Answer ℕ} → r ≡ countOf (view f l) name → r ≡ objects name 16384 f
+    objects-accepted name {r} h =
+        subst (λ (u : State). r ≡ countOf u name) (sees table-known) h ∙ sym (objects-got f (table-known .accepted .read) name)
+
+    pub column-accepted :
+        {owner name : List ℕ} {k : ℕ} {out : List ℤ} {r : Reply} {out′ : List ℤ} → ColumnTold f l owner name k out r out′ → Wrote (column owner name k (length out) 16384 f) out r out′
+    column-accepted {owner} {name} {k} {out} h = rw (column-got f (table-known .accepted .read) owner name k (length out)) (h .told table-known)
+
+  module _ {e : Refusal} (is : a ≡ No e) where
+    refused-file : file f ≡ no (e .number) (e .place)
+    refused-file = subst (toldFile f l) is (F .told)
+
+    pub check-refused : answerOf (Refused (e .number)) ≡ check 16384 f
+    unfolding answerOf
+    check-refused = sym (check-no f refused-file)
+
+    pub objects-refused : (name : List ℕ) → answerOf (Refused (e .number)) ≡ objects name 16384 f
+    unfolding answerOf
+    objects-refused name = sym (objects-no f refused-file name)
+
+    pub column-refused : (owner name : List ℕ) (k : ℕ) {out : List ℤ} → Wrote (column owner name k (length out) 16384 f) out (Refused (e .number)) out
+    column-refused owner name k {out} = wrote-none (column-no f refused-file owner name k (length out))

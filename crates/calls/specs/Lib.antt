@@ -1,0 +1,7 @@
+pub mod Fill
+pub mod Kinds
+pub mod Told
+pub mod Column
+pub mod Behind
+pub mod Table
+pub mod Fixed
