@@ -3,15 +3,12 @@ ghost use mathlib.Core.Path.{_≡_};
 ghost use Prim.Native.Nat.{ℕ, _≤_};
 ghost use mathlib.Core.Bool.{_&&_};
 ghost use lib.Dec.{leb, eqb};
-ghost use Rattle.paper.specs.Ledger.{constant};
 ghost use Rattle.paper.specs.Calls.{asked};
 ghost use Rattle.table.specs.View.{kindFrom, view, Holds};
 ghost use Rattle.calls.specs.Told.{answerOf, countOf};
-ghost use Rattle.calls.specs.Kinds.{Capped};
 ghost use Rattle.calls.specs.Column.{StoreReady, Stored, Known, ColumnTold};
 use crate::fills::fill_column;
 use crate::replies::Reply;
-use numbers::sign;
 use table::names::Found;
 use table::names::find_field_called;
 use table::names::find_type_called;
@@ -19,28 +16,7 @@ use table::ranges::objects_of;
 use table::rows::FieldRow;
 use table::rows::field_at;
 use values::columns::fill_constant;
-
-fn at_most(a: u64, most: u64) -> u64
-    ensures { λ r. ⌜ Capped a most r ⌝ }
-{
-    if most < a {
-        return most;
-    }
-    a
-}
-
-// The number that a constant's bits stand for. No table keeps more bits than the kind has, so none are cut off here.
-fn constant_of(k: u32, a: u64) -> i64
-    requires { ⌜ k ≤ 4 ⌝ }
-    ensures { λ r. ⌜ ((e : ℕ) → kindFrom k a e ≡ constant k r) ⌝ }
-{
-    match k {
-        0 => sign::signed1(at_most(a, 255)),
-        1 => sign::signed2(at_most(a, 65535)),
-        2 => sign::signed4(at_most(a, 4294967295)),
-        _ => sign::signed8(a),
-    }
-}
+use values::constants::constant_of;
 
 // The number that a column of such a kind is asked with.
 fn asked_with(k: u32, e: u64) -> u64

@@ -10,4 +10,5 @@ pub mod Bare
 pub mod Linkable
 pub mod Ends
 pub mod Columns
+pub mod Constants
 pub mod Filling

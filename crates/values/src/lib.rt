@@ -2,5 +2,6 @@
 // and is read from there alone.
 pub mod chunks;
 pub mod columns;
+pub mod constants;
 pub mod references;
 pub mod runs;

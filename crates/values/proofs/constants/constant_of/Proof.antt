@@ -1,10 +1,10 @@
 use native.Mathlib.Omega.{arith}
 use mathlib.Core.Path.{_∙_}
 use mir.Facts.{toZ-ofZ}
-use Rattle.calls.specs.Kinds.{constant-i8, constant-i16, constant-i32, constant-wide}
+use Rattle.values.specs.Constants.{constant-i8, constant-i16, constant-i32, constant-wide}
 use borrow.Author.Needs.{needs}
-use Rattle.calls.proofs.asks.constant_of.Statement.{statement}
-use Rattle.calls.proofs.asks.constant_of.Tie as tie
+use Rattle.values.proofs.constants.constant_of.Statement.{statement}
+use Rattle.values.proofs.constants.constant_of.Tie as tie
 
 pub constant-of-spec : {M : Type 1} → statement M
 constant-of-spec =
