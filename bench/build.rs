@@ -1,8 +1,9 @@
-// Links the proved code, which `rt staticlib pace` writes.
+// Says where the proved code is: `rt staticlib pace` and `rt staticlib capi` write it. TIDEHINGE_LIB names another folder.
 fn main() {
     let root = std::env::var("CARGO_MANIFEST_DIR").expect("cargo names the package's folder");
-    let archive = format!("{root}/../target/staticlib");
-    println!("cargo:rustc-link-search=native={archive}");
-    println!("cargo:rustc-link-lib=static=pace");
-    println!("cargo:rerun-if-changed={archive}/libpace.a");
+    let folder =
+        std::env::var("TIDEHINGE_LIB").unwrap_or_else(|_| format!("{root}/../target/staticlib"));
+    println!("cargo:rustc-link-search=native={folder}");
+    println!("cargo:rerun-if-changed={folder}");
+    println!("cargo:rerun-if-env-changed=TIDEHINGE_LIB");
 }

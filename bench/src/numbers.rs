@@ -1,17 +1,21 @@
-//! The v64 reader: nanoseconds a number, over a megabyte of one-byte, of nine-byte and of mixed numbers.
+//! The proved v64 reader against a plain Rust loop: the same buffers, one run, the best of several repetitions.
+//! Nanoseconds a number, over a megabyte of one-byte, of nine-byte and of mixed numbers. `rt staticlib pace` first.
 use std::hint::black_box;
 use std::time::Instant;
 
 const BYTES: usize = 1 << 20;
 const REPETITIONS: usize = 60;
 
-extern "C" {
-    fn th_sum_v64(bytes: *const u8, length: usize) -> u64;
-}
+mod proved {
+    #[link(name = "pace", kind = "static")]
+    extern "C" {
+        fn th_sum_v64(bytes: *const u8, length: usize) -> u64;
+    }
 
-fn proved_sum(bytes: &[u8]) -> u64 {
-    // SAFETY: a Rattle slice is passed as its first byte and its length, and the function only reads it.
-    unsafe { th_sum_v64(bytes.as_ptr(), bytes.len()) }
+    pub fn sum(bytes: &[u8]) -> u64 {
+        // SAFETY: a Rattle slice is passed as its first byte and its length, and the function only reads it.
+        unsafe { th_sum_v64(bytes.as_ptr(), bytes.len()) }
+    }
 }
 
 /// A v64 at `at`, in shortest coding, and the place behind it.
@@ -91,7 +95,7 @@ fn best(case: &Case, sum: fn(&[u8]) -> u64) -> f64 {
     least / case.count as f64
 }
 
-pub fn run() {
+fn main() {
     let cases = [
         case("one byte", |r| r % 128),
         case("nine bytes", |r| r | 1 << 63),
@@ -100,12 +104,12 @@ pub fn run() {
     println!("v64, ns a number    proved    plain    proved / plain");
     for case in &cases {
         assert_eq!(
-            proved_sum(&case.bytes),
+            proved::sum(&case.bytes),
             plain_sum(&case.bytes),
             "{}",
             case.name
         );
-        let proved = best(case, proved_sum);
+        let proved = best(case, proved::sum);
         let plain = best(case, plain_sum);
         println!(
             "{:<18}{proved:>8.2}{plain:>9.2}{:>18.2}",

@@ -15,6 +15,7 @@ mod calls;
 mod column;
 mod cursor;
 pub mod draft;
+pub mod examples;
 pub mod generate;
 pub mod kind;
 pub mod ledger;

@@ -9,7 +9,7 @@ use std::process::ExitCode;
 
 use second::bounds::{FILE, OBJECTS, TABLE};
 use second::generate::{self, Case};
-use second::{programs, tally, vectors, Refusal};
+use second::{examples, programs, tally, vectors, Refusal};
 
 const USAGE: &str = "\
 usage: second check FILE
@@ -22,6 +22,7 @@ usage: second check FILE
        second generate DIR [--seed N] [--count N]
        second counts [--seed N] [--count N]
        second vectors
+       second example-wear
 
 FILE may be - for standard input. Status 0 is accepted, 1 refused or failed,
 2 wrong use. A refusal is printed as `refused`, its number and its place,
@@ -98,6 +99,7 @@ fn run(arguments: &[OsString]) -> io::Result<Outcome> {
             None => Ok(Outcome::WrongUse),
         },
         ("vectors", []) => Ok(Outcome::Accepted(vectors::text().into_bytes())),
+        ("example-wear", []) => Ok(Outcome::Accepted(examples::wear())),
         ("counts", options) => match Options::read(options) {
             Some(options) => Ok(counts(options)),
             None => Ok(Outcome::WrongUse),

@@ -1,0 +1,170 @@
+//! The proved reader against the second program: the same files, one run, the best of several repetitions, each program
+//! in turn, so that both see the same machine. `rt staticlib capi` first.
+//!
+//! What is compared: both are asked by the same calls, read the whole file, and leave the lent table cleared. The second
+//! program keeps what it reads in lists on the heap, which it makes anew for each call and drops at its end; the proved one
+//! keeps it in the lent table, and has no heap. Neither is spared its own way, since a caller pays for it at every call. A
+//! file has few such lists, so nearly all of the time is the values', and the smaller sizes show what is left.
+//!
+//! The last column is a floor: a loop that reads one v64 after another and asks nothing of them. It has no number where a
+//! file holds more than v64 numbers.
+
+#[path = "../../compare/src/proved.rs"]
+mod proved;
+
+use std::hint::black_box;
+use std::time::Instant;
+
+use compare::reader::{Asked, Reader, Second};
+use second::big;
+use second::bounds::{OBJECTS, TABLE};
+use second::v64;
+
+use proved::Proved;
+
+const REPETITIONS: usize = 40;
+
+/// What is timed: a call, on a file at a part of its full size.
+struct Row {
+    name: &'static str,
+    part: u64,
+    file: Vec<u8>,
+    call: fn(&dyn Reader, &[u8], &mut Memory) -> i64,
+    /// How many bytes or values the time is divided by.
+    units: usize,
+}
+
+/// Makes a file at a part of its full size.
+type Maker = fn(u64) -> Vec<u8>;
+
+/// What a call is lent.
+struct Memory {
+    table: Vec<u32>,
+    out: Vec<i64>,
+}
+
+impl Memory {
+    fn new() -> Self {
+        Memory {
+            table: vec![1; TABLE],
+            out: vec![0; OBJECTS as usize],
+        }
+    }
+}
+
+fn check(reader: &dyn Reader, file: &[u8], memory: &mut Memory) -> i64 {
+    reader.check(file, &mut memory.table)
+}
+
+fn column(reader: &dyn Reader, file: &[u8], memory: &mut Memory) -> i64 {
+    let Memory { table, out } = memory;
+    let asked = Asked {
+        type_name: big::TYPE,
+        field_name: big::FIELD,
+        kind: 11,
+    };
+    reader.column(file, asked, table, out)
+}
+
+fn rows() -> Vec<Row> {
+    let checks: [(&str, Maker); 3] = [
+        ("check v64 values, a byte", big::v64_values),
+        ("check mixed kinds, a byte", big::mixed_kinds),
+        ("check references, a byte", big::references),
+    ];
+    let mut rows = Vec::new();
+    for (name, make) in checks {
+        rows.extend(big::PARTS.map(|part| {
+            let file = make(part);
+            let units = file.len();
+            Row {
+                name,
+                part,
+                file,
+                call: check,
+                units,
+            }
+        }));
+    }
+    rows.extend(big::PARTS.map(|part| Row {
+        name: "column of v64, a value",
+        part,
+        file: big::column(part),
+        call: column,
+        units: (OBJECTS / part) as usize,
+    }));
+    rows
+}
+
+/// Both must say the same before their times mean anything.
+fn agree(row: &Row) {
+    let mut memories = [Memory::new(), Memory::new()];
+    let [first, second] = &mut memories;
+    let answer = (row.call)(&Proved, &row.file, first);
+    assert_eq!(answer, (row.call)(&Second, &row.file, second));
+    assert!(answer >= 0, "{} is refused", row.name);
+    assert_eq!(first.out, second.out);
+}
+
+/// Reads one v64 after another; whether that was the whole file.
+fn loop_over(file: &[u8]) -> bool {
+    let (mut at, mut sum) = (0, 0u64);
+    while let Ok((value, next)) = v64::read(file, at) {
+        sum = sum.wrapping_add(value);
+        at = next;
+    }
+    black_box(sum);
+    at == file.len()
+}
+
+/// Nanoseconds that something takes.
+fn time<T>(work: impl FnOnce() -> T) -> f64 {
+    let start = Instant::now();
+    black_box(work());
+    start.elapsed().as_nanos() as f64
+}
+
+/// The least time of the proved reader, of the second program and of the loop.
+fn best(row: &Row) -> [f64; 3] {
+    let mut memory = Memory::new();
+    let mut least = [f64::INFINITY; 3];
+    for _ in 0..REPETITIONS {
+        let file = black_box(&row.file[..]);
+        let times = [
+            time(|| (row.call)(&Proved, file, &mut memory)),
+            time(|| (row.call)(&Second, file, &mut memory)),
+            time(|| loop_over(file)),
+        ];
+        for (least, time) in least.iter_mut().zip(times) {
+            *least = least.min(time);
+        }
+    }
+    least
+}
+
+fn print(row: &Row) {
+    let [proved, second, floor] = best(row).map(|time| time / row.units as f64);
+    let part = match row.part {
+        1 => "whole".to_string(),
+        part => format!("1/{part}"),
+    };
+    let floor = match loop_over(&row.file) {
+        true => format!("{floor:.2}"),
+        false => "-".to_string(),
+    };
+    let ratio = proved / second;
+    println!(
+        "{:<28}{part:<7}{:>9}{proved:>9.2}{second:>9.2}{ratio:>18.2}{floor:>11}",
+        row.name, row.units
+    );
+}
+
+fn main() {
+    println!(
+        "nanoseconds                 part       size   proved   second   proved / second   v64 loop"
+    );
+    for row in rows() {
+        agree(&row);
+        print(&row);
+    }
+}

@@ -1,0 +1,117 @@
+/* Tidehinge: a proved reader of SKilL ledgers, for C and C++ on x86-64.
+ *
+ * Every call gets the bytes of a whole file and a work table, and uses no other memory but its
+ * stack: no heap, no globals. So calls share nothing, and threads may call at the same time, each
+ * with a table and an output of its own. The file is only read: threads may share it.
+ *
+ * An answer of 0 or more is the call's result. Below 0 it is minus the number of a refusal.
+ *
+ * Lent memory is lent as to a Rust slice:
+ * - a pointer is not null and aligned for its type, also where the length beside it is 0;
+ * - a length counts elements, not bytes;
+ * - the work table and the output overlap nothing else that is lent to the same call;
+ * - until the call returns nobody else writes to lent memory, or shortens a file that is mapped. */
+#ifndef TIDEHINGE_H
+#define TIDEHINGE_H
+
+#include <stddef.h>
+#include <stdint.h>
+
+/* The numbers that a work table needs at least. They may hold anything. After a call they are 0,
+ * and what is lent beyond them is as it was. A shorter table gives TH_TABLE and is untouched. */
+#define TH_WORK 16384
+
+/* The most bytes that a file has, and the most objects that all its types have together. */
+#define TH_FILE 1048576
+#define TH_OBJECTS 65535
+
+/* Why a call was refused. docs/REFUSALS.md says of each when it is given and what to do. */
+enum th_refusal {
+    TH_SHORT = 1,
+    TH_PADDED = 2,
+    TH_LIMIT = 3,
+    TH_ENDS = 4,
+    TH_NAME = 5,
+    TH_TWICE = 6,
+    TH_SUPER = 7,
+    TH_LOOP = 8,
+    TH_RESTRICTION = 9,
+    TH_KIND = 10,
+    TH_FIELDS = 11,
+    TH_CHUNK = 12,
+    TH_VALUE = 13,
+    TH_REFERENCE = 14,
+    TH_TABLE = 15,
+    TH_NO_TYPE = 16,
+    TH_NO_FIELD = 17,
+    TH_OTHER_KIND = 18,
+    TH_ROOM = 19,
+    TH_LISTING = 20,
+    TH_RANGE = 21
+};
+
+#ifdef __cplusplus
+extern "C" {
+#endif
+
+/* Checks a file. Gives 0 if it follows every rule of the format. */
+int64_t th_check(const uint8_t *file, size_t file_length, uint32_t *work, size_t work_length);
+
+/* Gives the number of objects of the named type, those of its subtypes included. Names are compared
+ * byte by byte. */
+int64_t th_objects(const uint8_t *file, size_t file_length, const uint8_t *type, size_t type_length,
+                   uint32_t *work, size_t work_length);
+
+/* Writes one field's values to the front of `out`, one for each object of the type, in the order of
+ * the file. Gives their number, which th_objects gives too. The rest of `out` is untouched, and a
+ * refusal leaves all of it as it was. The field is one of the type itself, not of its super types.
+ *
+ * `kind` has to be the field's kind:
+ *   0 to 4     constant i8, i16, i32, i64, v64: its value, for every object
+ *   6          bool: 0 or 1
+ *   7 to 11    i8, i16, i32, i64, v64
+ *   12, 13     f32, f64: the bits; those of an f32 as a number from 0 up
+ *   14         string: its number in the file, from 1, or 0 for none
+ *   32         reference to any type: the object's number, from 1, or 0 for none
+ * Any other number gives TH_OTHER_KIND. */
+int64_t th_column(const uint8_t *file, size_t file_length, const uint8_t *type, size_t type_length,
+                  const uint8_t *field, size_t field_length, uint64_t kind, uint32_t *work,
+                  size_t work_length, int64_t *out, size_t out_length);
+
+#ifdef __cplusplus
+}
+#endif
+
+/* An answer in words. */
+static inline const char *th_words(int64_t answer) {
+    static const char *const words[] = {
+        "done",
+        "the file ends too early",
+        "a number has filler bytes",
+        "a bound is passed",
+        "an end offset falls",
+        "a name is missing",
+        "a type or a field name comes twice",
+        "the super type is not known yet",
+        "the chain of super types returns to itself",
+        "restrictions are announced",
+        "a kind is unknown",
+        "known fields are left out",
+        "values and chunk length disagree",
+        "a bool is neither 00 nor FF",
+        "a number points at nothing",
+        "the work table is too short",
+        "no such type in the file",
+        "the type has no such field",
+        "the field has another kind",
+        "the lent output is too short",
+        "no file has this listing",
+        "a subtype's range is wrong",
+    };
+    if (answer >= 0) {
+        return words[0];
+    }
+    return answer < -TH_RANGE ? "no refusal of this format" : words[-answer];
+}
+
+#endif

@@ -1,0 +1,112 @@
+//! Asking two readers the same, and comparing what they say and leave.
+
+use std::fmt::{self, Display, Formatter};
+use std::hint::black_box;
+
+use second::bounds::TABLE;
+use second::generate::random::Random;
+
+use crate::lent::{Contents, Memory};
+use crate::met::Met;
+use crate::question::{Call, Question};
+use crate::reader::{Reader, Second};
+
+/// A reader that is held to the second program.
+pub struct Comparison<'r, R> {
+    reader: &'r R,
+    pub random: Random,
+    pub met: Met,
+    contents: Contents,
+    /// What the reader works in, and what the second program does.
+    memories: [Memory; 2],
+}
+
+/// Two answers, or two memories afterwards, that should be equal and are not.
+#[derive(Debug)]
+pub struct Mismatch {
+    /// What differs: the answer, or a part of the memory.
+    pub part: &'static str,
+    text: String,
+}
+
+impl Display for Mismatch {
+    fn fmt(&self, to: &mut Formatter<'_>) -> fmt::Result {
+        write!(to, "the {} differs\n{}", self.part, self.text)
+    }
+}
+
+impl<'r, R: Reader> Comparison<'r, R> {
+    pub fn new(reader: &'r R, seed: u64) -> Self {
+        let mut random = Random::new(seed);
+        Comparison {
+            reader,
+            contents: Contents::new(&mut random),
+            random,
+            met: Met::default(),
+            memories: [Memory::empty(), Memory::empty()],
+        }
+    }
+
+    /// Asks both, over equal memory; answers what they agree on.
+    pub fn ask(&mut self, question: &Question<'_>) -> Result<i64, Mismatch> {
+        let start = self.random.index(Contents::STARTS);
+        let [memory, second] = &mut self.memories;
+        memory.lend(question, &self.contents, start);
+        second.lend(question, &self.contents, start);
+        let answer = question.ask(self.reader, memory);
+        // What the reader did to the guards happened behind the compiler's back.
+        black_box(&mut *memory);
+        let expected = question.ask(&Second, second);
+        self.met.count(question.call, expected);
+        let found = match answer == expected {
+            true => memory.difference(second),
+            false => Some(("answer", "not compared".to_string())),
+        };
+        let Some((part, where_first)) = found else {
+            return Ok(answer);
+        };
+        let said = format!("answers {answer}, second {expected}\nmemory  {where_first}");
+        let text = format!("{said}\n{question}");
+        Err(Mismatch { part, text })
+    }
+
+    /// Asks with a table that is long enough, and now and then also with one that is not.
+    pub fn ask_call(&mut self, origin: &str, file: &[u8], call: &Call) -> Result<(), Mismatch> {
+        let mut tables = vec![self.long_table()];
+        if self.random.once_in(4) {
+            tables.push(self.short_table());
+        }
+        self.ask_tables(origin, file, call, &tables)
+    }
+
+    /// Asks once for each of these lengths of the table.
+    pub fn ask_tables(
+        &mut self,
+        origin: &str,
+        file: &[u8],
+        call: &Call,
+        tables: &[usize],
+    ) -> Result<(), Mismatch> {
+        for &table in tables {
+            self.ask(&Question {
+                origin,
+                file,
+                call,
+                table,
+            })?;
+        }
+        Ok(())
+    }
+
+    /// A length that is enough: the least, one more, or some more.
+    pub fn long_table(&mut self) -> usize {
+        let some = self.random.index(Contents::MORE);
+        TABLE + *self.random.pick(&[0, 0, 1, some])
+    }
+
+    /// A length that is not enough.
+    pub fn short_table(&mut self) -> usize {
+        let some = self.random.index(TABLE);
+        *self.random.pick(&[0, 1, TABLE - 1, some])
+    }
+}

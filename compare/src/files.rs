@@ -1,0 +1,69 @@
+//! The run over all generated files: good, damaged, extreme and large.
+
+use second::big;
+use second::bounds::TABLE;
+use second::generate::random::Random;
+use second::generate::{self, Case, SEED};
+use second::reader;
+
+use crate::comparison::{Comparison, Mismatch};
+use crate::plan::{self, Calls};
+use crate::question::Call;
+use crate::reader::Reader;
+
+/// Holds a reader to the second program on all files of its generator, and on its large ones.
+pub fn compare_all<R: Reader>(comparison: &mut Comparison<'_, R>) -> Result<(), Mismatch> {
+    let generated = generate::files(SEED, generate::FILES);
+    compare(comparison, "`second generate`", &generated)?;
+    compare(comparison, "`second::big::files`", &big::files())
+}
+
+/// Holds a reader to the second program on these files. `source` says where they come from, in this order.
+pub fn compare<R: Reader>(
+    comparison: &mut Comparison<'_, R>,
+    source: &str,
+    cases: &[Case],
+) -> Result<(), Mismatch> {
+    for (number, case) in cases.iter().enumerate() {
+        let origin = format!("{number} of {source} ({})", case.label);
+        of_file(comparison, &origin, &case.bytes)?;
+    }
+    Ok(())
+}
+
+fn of_file<R: Reader>(
+    comparison: &mut Comparison<'_, R>,
+    origin: &str,
+    file: &[u8],
+) -> Result<(), Mismatch> {
+    let tables = tables(comparison);
+    comparison.ask_tables(origin, file, &Call::Check, &tables)?;
+    let calls = calls(file, &mut comparison.random);
+    for call in calls.iter().take(affordable(file.len())) {
+        comparison.ask_call(origin, file, call)?;
+    }
+    Ok(())
+}
+
+/// What to ask beyond a check, the more telling calls first. A refused file gets one of each.
+fn calls(file: &[u8], random: &mut Random) -> Vec<Call> {
+    match reader::read(file) {
+        Ok(ledger) => {
+            let Calls { right, wrong } = plan::calls(file, &ledger, random);
+            [right, wrong].concat()
+        }
+        Err(_) => plan::any_calls(random),
+    }
+}
+
+/// The lengths of the table that every file is checked with.
+fn tables<R: Reader>(comparison: &mut Comparison<'_, R>) -> [usize; 7] {
+    let short = comparison.short_table();
+    let long = comparison.long_table();
+    [0, 1, TABLE - 1, TABLE, TABLE + 1, short, long]
+}
+
+/// How many calls a file of this length is asked, so that a few large ones do not take all the time.
+fn affordable(length: usize) -> usize {
+    12 + 1_000_000 / (length + 5_000)
+}

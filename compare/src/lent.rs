@@ -1,0 +1,199 @@
+//! Lent memory: numbers by chance, between guards that no call may touch.
+
+use std::fmt::Display;
+
+use second::bounds::{OBJECTS, TABLE};
+use second::generate::random::Random;
+
+use crate::question::{Call, Question};
+
+/// Guard numbers on either side. They are odd in number, so that what is lent begins at no rounder address than its type
+/// asks for.
+pub const GUARD: usize = 61;
+
+/// Numbers lent to a call, with their guards.
+pub struct Lent<T> {
+    cells: Vec<T>,
+}
+
+impl<T: Copy + PartialEq + Display> Lent<T> {
+    fn empty() -> Self {
+        Lent { cells: Vec::new() }
+    }
+
+    /// Lends these numbers, between these guards.
+    fn lend(&mut self, numbers: &[T], guard: &[T]) {
+        self.cells.clear();
+        for part in [guard, numbers, guard] {
+            self.cells.extend_from_slice(part);
+        }
+    }
+
+    pub fn numbers(&self) -> &[T] {
+        &self.cells[GUARD..self.cells.len() - GUARD]
+    }
+
+    pub fn numbers_mut(&mut self) -> &mut [T] {
+        let end = self.cells.len() - GUARD;
+        &mut self.cells[GUARD..end]
+    }
+
+    /// Where the two differ first, guards included: places count from the first lent number, so a guard before it has one
+    /// below 0.
+    fn difference(&self, second: &Self) -> Option<String> {
+        // Equal ones are the rule, and to see that as a whole is quick.
+        if self.cells == second.cells {
+            return None;
+        }
+        let mut both = self.cells.iter().zip(&second.cells);
+        let at = both.position(|(here, there)| here != there)?;
+        let place = at as i64 - GUARD as i64;
+        let length = self.cells.len() - 2 * GUARD;
+        let (here, there) = (self.cells[at], second.cells[at]);
+        Some(format!(
+            "number {place} of {length}: {here}, second {there}"
+        ))
+    }
+}
+
+/// All memory of one call.
+pub struct Memory {
+    pub file: Lent<u8>,
+    pub type_name: Lent<u8>,
+    pub field_name: Lent<u8>,
+    pub table: Lent<u32>,
+    pub out: Lent<i64>,
+}
+
+impl Memory {
+    pub fn empty() -> Self {
+        Memory {
+            file: Lent::empty(),
+            type_name: Lent::empty(),
+            field_name: Lent::empty(),
+            table: Lent::empty(),
+            out: Lent::empty(),
+        }
+    }
+
+    /// Lends what a question needs. `start` chooses the contents: the same one gives the same.
+    pub fn lend(&mut self, question: &Question<'_>, contents: &Contents, start: usize) {
+        let (type_name, field_name) = question.call.names();
+        let bytes = &contents.bytes[start..start + GUARD];
+        self.file.lend(question.file, bytes);
+        self.type_name.lend(type_name, bytes);
+        self.field_name.lend(field_name, bytes);
+        let table = &contents.table[start..];
+        self.table.lend(&table[..question.table], &table[..GUARD]);
+        let room = match question.call {
+            Call::Column { room, .. } => *room,
+            Call::Check | Call::Objects { .. } => 0,
+        };
+        let out = &contents.out[start..];
+        self.out.lend(&out[..room], &out[..GUARD]);
+    }
+
+    /// What differs, and where first.
+    pub fn difference(&self, second: &Memory) -> Option<(&'static str, String)> {
+        let parts = [
+            ("file", self.file.difference(&second.file)),
+            ("type name", self.type_name.difference(&second.type_name)),
+            ("field name", self.field_name.difference(&second.field_name)),
+            ("table", self.table.difference(&second.table)),
+            ("output", self.out.difference(&second.out)),
+        ];
+        let mut found = parts.into_iter();
+        found.find_map(|(part, where_first)| where_first.map(|text| (part, text)))
+    }
+}
+
+/// Numbers by chance to fill memory with. They are made once; each call takes them from another start, as making a table
+/// anew for each would cost more than the calls.
+pub struct Contents {
+    bytes: Vec<u8>,
+    table: Vec<u32>,
+    out: Vec<i64>,
+}
+
+impl Contents {
+    /// How many starts there are.
+    pub const STARTS: usize = 1_024;
+    /// How much more than the least table, or than all objects, may be lent.
+    pub const MORE: usize = 4_096;
+
+    pub fn new(random: &mut Random) -> Self {
+        let table = Self::STARTS + TABLE + Self::MORE;
+        let out = Self::STARTS + OBJECTS as usize + Self::MORE;
+        Contents {
+            bytes: (0..Self::STARTS + GUARD).map(|_| random.byte()).collect(),
+            // No number is 0, so one that was not cleared is seen.
+            table: (0..table).map(|_| random.word() as u32 | 1).collect(),
+            out: (0..out).map(|_| random.word() as i64).collect(),
+        }
+    }
+}
+
+#[cfg(test)]
+mod tests {
+    use super::*;
+
+    fn lent(numbers: &[u32]) -> Lent<u32> {
+        let mut lent = Lent::empty();
+        lent.lend(numbers, &[9; GUARD]);
+        lent
+    }
+
+    #[test]
+    fn a_touched_guard_is_seen() {
+        let second = lent(&[1, 2, 3]);
+        for (at, place) in [(0, -61), (GUARD - 1, -1), (GUARD + 3, 3)] {
+            let mut first = lent(&[1, 2, 3]);
+            first.cells[at] = 8;
+            let said = first.difference(&second);
+            let expected = format!("number {place} of 3: 8, second 9");
+            assert_eq!(said, Some(expected));
+        }
+    }
+
+    #[test]
+    fn a_lent_number_is_seen() {
+        let mut first = lent(&[1, 2, 3]);
+        assert_eq!(first.difference(&lent(&[1, 2, 3])), None);
+        first.numbers_mut()[2] = 7;
+        let said = first.difference(&lent(&[1, 2, 3]));
+        assert_eq!(said, Some("number 2 of 3: 7, second 3".to_string()));
+    }
+
+    #[test]
+    fn a_changed_file_or_name_is_seen() {
+        let contents = Contents::new(&mut Random::new(1));
+        let call = Call::Column {
+            type_name: b"a".to_vec(),
+            field_name: b"b".to_vec(),
+            kind: 11,
+            room: 2,
+        };
+        let question = Question {
+            origin: "a test",
+            file: &[0, 0],
+            call: &call,
+            table: 3,
+        };
+        let memory = || {
+            let mut memory = Memory::empty();
+            memory.lend(&question, &contents, 5);
+            memory
+        };
+        let seen = |change: fn(&mut Memory)| {
+            let mut changed = memory();
+            change(&mut changed);
+            changed.difference(&memory()).map(|(part, _)| part)
+        };
+        assert_eq!(seen(|_| ()), None);
+        assert_eq!(seen(|m| m.file.numbers_mut()[0] ^= 1), Some("file"));
+        assert_eq!(seen(|m| m.type_name.cells[0] ^= 1), Some("type name"));
+        assert_eq!(seen(|m| m.field_name.cells[61] ^= 1), Some("field name"));
+        assert_eq!(seen(|m| m.table.numbers_mut()[2] ^= 1), Some("table"));
+        assert_eq!(seen(|m| m.out.cells[63] ^= 1), Some("output"));
+    }
+}

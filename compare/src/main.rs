@@ -1,0 +1,60 @@
+//! Holds the proved library to the second program. `rt staticlib capi` first.
+
+mod proved;
+
+use std::process::ExitCode;
+
+use compare::comparison::{Comparison, Mismatch};
+use compare::{files, mutants};
+use proved::Proved;
+use second::generate::SEED;
+
+const USAGE: &str = "\
+usage: compare            every generated file
+       compare mutants N  N small files, changed at random
+";
+
+fn main() -> ExitCode {
+    let words: Vec<String> = std::env::args().skip(1).collect();
+    let words: Vec<&str> = words.iter().map(String::as_str).collect();
+    let outcome = match words[..] {
+        [] => Some(every_file()),
+        ["mutants", count] => count.parse().ok().map(some_mutants),
+        _ => None,
+    };
+    match outcome {
+        Some(Ok(line)) => {
+            println!("compare: {line}");
+            ExitCode::SUCCESS
+        }
+        Some(Err(text)) => {
+            eprintln!("compare: {text}");
+            ExitCode::FAILURE
+        }
+        None => {
+            eprint!("{USAGE}");
+            ExitCode::from(2)
+        }
+    }
+}
+
+/// All generated files; it fails as well where a refusal was never met.
+fn every_file() -> Result<String, String> {
+    let mut comparison = Comparison::new(&Proved, SEED);
+    files::compare_all(&mut comparison).map_err(text)?;
+    let line = comparison.met.line();
+    match comparison.met.missing() {
+        missing if missing.is_empty() => Ok(line),
+        missing => Err(format!("{line}\nnever met: {}", missing.join(", "))),
+    }
+}
+
+fn some_mutants(count: u64) -> Result<String, String> {
+    let mut comparison = Comparison::new(&Proved, SEED);
+    mutants::compare(&mut comparison, count).map_err(text)?;
+    Ok(comparison.met.line())
+}
+
+fn text(mismatch: Mismatch) -> String {
+    mismatch.to_string()
+}

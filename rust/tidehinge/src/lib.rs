@@ -1,0 +1,79 @@
+//! Safe calls to Tidehinge, the proved reader of SKilL ledgers.
+//!
+//! Every call gets the bytes of a whole file and a work table of at least
+//! [`WORK`] numbers, and uses no other memory. The table may hold anything.
+//! After a call its first [`WORK`] numbers are 0 and the rest is as lent. A
+//! shorter table gives [`Refusal::Table`] and is untouched.
+//!
+//! A file is accepted or refused as a whole: a fault in its last pair is told
+//! by every call, whatever is asked for.
+//!
+//! ```
+//! let file = [0u8; 2]; // one pair, with no strings and no entries
+//! let mut work = vec![0; tidehinge::WORK];
+//! assert_eq!(tidehinge::check(&file, &mut work), Ok(()));
+//!
+//! let refusal = tidehinge::objects(&file, b"drive", &mut work).unwrap_err();
+//! assert_eq!(refusal, tidehinge::Refusal::NoType);
+//! assert_eq!(refusal.number(), 16);
+//! assert_eq!(refusal.to_string(), "no such type in the file");
+//! ```
+
+#![deny(unsafe_code)]
+#![warn(missing_docs)]
+
+mod library;
+mod refusal;
+
+pub use refusal::Refusal;
+
+/// The numbers that a work table needs at least.
+pub const WORK: usize = 16_384;
+
+/// The most bytes that a file has.
+pub const FILE: usize = 1_048_576;
+
+/// The most objects that all types of a file have together. A column of this
+/// length has room for any field.
+pub const OBJECTS: usize = 65_535;
+
+/// Checks that a file follows every rule of the format.
+pub fn check(file: &[u8], work: &mut [u32]) -> Result<(), Refusal> {
+    refusal::of_answer(library::check(file, work)).map(|_| ())
+}
+
+/// The number of objects of the named type, those of its subtypes included.
+///
+/// Names are compared byte by byte.
+pub fn objects(file: &[u8], type_name: &[u8], work: &mut [u32]) -> Result<usize, Refusal> {
+    refusal::of_answer(library::objects(file, type_name, work))
+}
+
+/// Writes one field's values to the front of `out`, one for each object of the
+/// type, in the order of the file; gives their number, which [`objects`] gives
+/// too.
+///
+/// The rest of `out` is untouched, and a refusal leaves all of it as it was.
+/// The field is one of the type itself, not of its super types.
+///
+/// `kind` has to be the field's kind; any other number gives
+/// [`Refusal::OtherKind`].
+///
+/// | kind | what is written |
+/// |---|---|
+/// | 0 to 4 | constant i8, i16, i32, i64, v64: its value, for every object |
+/// | 6 | bool: 0 or 1 |
+/// | 7 to 11 | i8, i16, i32, i64, v64 |
+/// | 12, 13 | f32, f64: the bits; those of an f32 as a number from 0 up |
+/// | 14 | string: its number in the file, from 1, or 0 for none |
+/// | 32 | reference to any type: the object's number, from 1, or 0 for none |
+pub fn column(
+    file: &[u8],
+    type_name: &[u8],
+    field: &[u8],
+    kind: u64,
+    work: &mut [u32],
+    out: &mut [i64],
+) -> Result<usize, Refusal> {
+    refusal::of_answer(library::column(file, type_name, field, kind, work, out))
+}

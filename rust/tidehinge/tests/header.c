@@ -1,0 +1,26 @@
+/* Prints what the header says of numbers: the bounds, and each refusal with its words. Then it
+ * makes a call, so that it has to be linked with the library. It is a program in C and in C++. */
+#include <stdio.h>
+
+#include "tidehinge.h"
+
+static const enum th_refusal refusals[] = {
+    TH_SHORT, TH_PADDED,      TH_LIMIT,    TH_ENDS,       TH_NAME,  TH_TWICE,   TH_SUPER,
+    TH_LOOP,  TH_RESTRICTION, TH_KIND,     TH_FIELDS,     TH_CHUNK, TH_VALUE,   TH_REFERENCE,
+    TH_TABLE, TH_NO_TYPE,     TH_NO_FIELD, TH_OTHER_KIND, TH_ROOM,  TH_LISTING, TH_RANGE,
+};
+
+int main(void) {
+    printf("%d %d %d\n", TH_WORK, TH_FILE, TH_OBJECTS);
+    for (size_t n = 0; n < sizeof refusals / sizeof refusals[0]; n++) {
+        printf("%d %s\n", (int)refusals[n], th_words(-(int64_t)refusals[n]));
+    }
+    const int64_t others[] = {0, INT64_MAX, -22, INT64_MIN};
+    for (size_t n = 0; n < sizeof others / sizeof others[0]; n++) {
+        printf("%s\n", th_words(others[n]));
+    }
+    static const uint8_t file[] = {0};
+    static uint32_t work[TH_WORK];
+    printf("%s\n", th_words(th_check(file, sizeof file, work, TH_WORK)));
+    return 0;
+}

@@ -1,0 +1,148 @@
+//! What lent memory holds afterwards.
+
+mod common;
+
+use common::{e, e_with, table, END};
+use tidehinge::{Refusal, WORK};
+
+/// Any call, over a table.
+type Call<'a> = &'a dyn Fn(&mut [u32]) -> Result<usize, Refusal>;
+
+/// Numbers none of which is 0, and no two of which are equal.
+fn filled(length: usize) -> Vec<u32> {
+    (1..=length as u32)
+        .map(|n| n.wrapping_mul(0x9E37_79B1))
+        .collect()
+}
+
+/// A long enough table is cleared in front and left alone behind; a shorter
+/// one gives 15 and is left alone.
+fn assert_tables(call: Call<'_>, expected: Result<usize, Refusal>) {
+    for length in [0, 1, WORK - 1] {
+        let mut work = filled(length);
+        assert_eq!(call(&mut work), Err(Refusal::Table), "{length}");
+        assert_eq!(work, filled(length));
+    }
+    for length in [WORK, WORK + 1, WORK + 5_000] {
+        let mut work = filled(length);
+        assert_eq!(call(&mut work), expected, "{length}");
+        assert!(work[..WORK].iter().all(|&number| number == 0));
+        assert_eq!(work[WORK..], filled(length)[WORK..]);
+    }
+}
+
+fn column_of(file: &[u8], kind: u64, work: &mut [u32], out: &mut [i64]) -> Result<usize, Refusal> {
+    tidehinge::column(file, b"date", b"date", kind, work, out)
+}
+
+#[test]
+fn tables_after_an_answer() {
+    let file = e();
+    assert_tables(&|work| tidehinge::check(&file, work).map(|()| 0), Ok(0));
+    assert_tables(&|work| tidehinge::objects(&file, b"date", work), Ok(3));
+    assert_tables(&|work| column_of(&file, 11, work, &mut [0; 9]), Ok(3));
+}
+
+#[test]
+fn tables_after_a_fault_of_the_file() {
+    let file = e_with(END, 1);
+    let refused = Err(Refusal::Chunk);
+    assert_tables(&|work| tidehinge::check(&file, work).map(|()| 0), refused);
+    assert_tables(&|work| tidehinge::objects(&file, b"date", work), refused);
+    assert_tables(&|work| column_of(&file, 11, work, &mut [0; 9]), refused);
+}
+
+#[test]
+fn tables_after_a_file_that_is_too_long() {
+    let file = vec![0; tidehinge::FILE + 1];
+    let refused = Err(Refusal::Limit);
+    assert_tables(&|work| tidehinge::check(&file, work).map(|()| 0), refused);
+    assert_tables(&|work| tidehinge::objects(&file, b"date", work), refused);
+    assert_tables(&|work| column_of(&file, 11, work, &mut [0; 9]), refused);
+}
+
+#[test]
+fn tables_after_a_question_without_an_answer() {
+    let file = e();
+    let no_type = Err(Refusal::NoType);
+    assert_tables(&|work| tidehinge::objects(&file, b"day", work), no_type);
+    let other_kind = Err(Refusal::OtherKind);
+    assert_tables(&|work| column_of(&file, 10, work, &mut [0; 9]), other_kind);
+    let room = Err(Refusal::Room);
+    assert_tables(&|work| column_of(&file, 11, work, &mut [0; 2]), room);
+}
+
+#[test]
+fn rooms() {
+    for length in [0, 1, 2] {
+        let mut out = vec![-5; length];
+        let answer = column_of(&e(), 11, &mut table(), &mut out);
+        assert_eq!(answer, Err(Refusal::Room), "{length}");
+        assert_eq!(out, vec![-5; length]);
+    }
+    for length in [3, 4, 900] {
+        let mut out = vec![-5; length];
+        let answer = column_of(&e(), 11, &mut table(), &mut out);
+        assert_eq!(answer, Ok(3), "{length}");
+        assert_eq!(out[..3], [1, -1, 256]);
+        assert!(out[3..].iter().all(|&number| number == -5));
+    }
+}
+
+/// A type without objects needs no room.
+#[test]
+fn no_room_is_enough_for_nothing() {
+    let file = [
+        0x01, 0x00, 0x00, 0x00, 0x01, b'a', // one string
+        0x01, 0x01, 0x00, 0x00, 0x00, 0x01, // one type, no objects, one field
+        0x00, 0x0B, 0x01, 0x00, // v64, ends at 0
+    ];
+    let answer = tidehinge::column(&file, b"a", b"a", 11, &mut table(), &mut []);
+    assert_eq!(answer, Ok(0));
+}
+
+fn assert_column_left(file: &[u8], names: [&str; 2], kind: u64, refusal: Refusal) {
+    let [type_name, field] = names.map(str::as_bytes);
+    let mut out = [-5; 9];
+    let answer = tidehinge::column(file, type_name, field, kind, &mut table(), &mut out);
+    assert_eq!(answer, Err(refusal));
+    assert_eq!(out, [-5; 9]);
+}
+
+/// A column of another type or field, of another kind, or of a damaged file
+/// writes nothing, also where the fault stands behind good values.
+#[test]
+fn a_refusal_leaves_the_column() {
+    let good = e();
+    assert_column_left(&good, ["day", "date"], 11, Refusal::NoType);
+    assert_column_left(&good, ["date", "day"], 11, Refusal::NoField);
+    assert_column_left(&good, ["date", "date"], 10, Refusal::OtherKind);
+    assert_column_left(&good[..36], ["date", "date"], 11, Refusal::Short);
+    assert_column_left(&e_with(END, 1), ["date", "date"], 11, Refusal::Chunk);
+    let mut out = [-5; 9];
+    let answer = column_of(&good, 11, &mut [1; WORK - 1], &mut out);
+    assert_eq!(answer, Err(Refusal::Table));
+    assert_eq!(out, [-5; 9]);
+}
+
+/// One table serves call after call, and calls at the same time do not meet.
+#[test]
+fn threads_with_tables_of_their_own() {
+    let file = e();
+    std::thread::scope(|scope| {
+        for _ in 0..4 {
+            scope.spawn(|| {
+                let mut work = table();
+                let mut out = [0; 3];
+                for _ in 0..50 {
+                    assert_eq!(column_of(&file, 11, &mut work, &mut out), Ok(3));
+                    assert_eq!(out, [1, -1, 256]);
+                    assert_eq!(
+                        tidehinge::check(&file[..30], &mut work),
+                        Err(Refusal::Short)
+                    );
+                }
+            });
+        }
+    });
+}

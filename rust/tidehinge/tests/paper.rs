@@ -1,0 +1,114 @@
+//! The files of the paper, damaged ones, and what is asked of them.
+
+mod common;
+
+use common::{check, column, e, e_with, objects, COUNT, D, END, FIELDS, SEVERAL};
+use tidehinge::Refusal;
+
+#[test]
+fn the_two_files() {
+    assert_eq!(check(&D), Ok(()));
+    assert_eq!(objects(&D, "date"), Ok(2));
+    assert_eq!(column(&D, "date", "date", 11), Ok(vec![1, -1]));
+    assert_eq!(check(&e()), Ok(()));
+    assert_eq!(objects(&e(), "date"), Ok(3));
+    assert_eq!(column(&e(), "date", "date", 11), Ok(vec![1, -1, 256]));
+}
+
+/// The files of the folder `examples` are the same two.
+#[test]
+fn the_two_files_as_examples() {
+    assert_eq!(D, *include_bytes!("../../../examples/d.skill"));
+    assert_eq!(e(), *include_bytes!("../../../examples/e.skill"));
+}
+
+#[test]
+fn the_empty_file() {
+    assert_eq!(check(&[]), Ok(()));
+    assert_eq!(objects(&[], ""), Err(Refusal::NoType));
+    assert_eq!(column(&[], "", "", 11), Err(Refusal::NoType));
+}
+
+/// Every call tells the fault, whatever it was asked for.
+fn assert_refused(file: &[u8], refusal: Refusal) {
+    assert_eq!(check(file), Err(refusal));
+    for name in ["date", "no such name"] {
+        assert_eq!(objects(file, name), Err(refusal));
+        assert_eq!(column(file, name, "date", 11), Err(refusal));
+    }
+}
+
+#[test]
+fn damaged_in_the_last_pair() {
+    assert_refused(&e_with(END, 1), Refusal::Chunk);
+    assert_refused(&e_with(END, 3), Refusal::Short);
+    assert_refused(&e_with(COUNT, 2), Refusal::Chunk);
+    assert_refused(&e_with(FIELDS, 0), Refusal::Fields);
+}
+
+/// A cut between the pairs leaves the first file. Any other is seen.
+#[test]
+fn cut_short() {
+    let file = e();
+    for length in 1..file.len() {
+        let expected = match length {
+            29 => Ok(()),
+            _ => Err(Refusal::Short),
+        };
+        assert_eq!(check(&file[..length]), expected, "{length} bytes");
+    }
+}
+
+/// The most bytes of a file are looked at, one more are not.
+#[test]
+fn too_long() {
+    let mut file = vec![0x80; tidehinge::FILE];
+    file[1] = 0;
+    assert_refused(&file, Refusal::Padded);
+    file.push(0);
+    assert_refused(&file, Refusal::Limit);
+}
+
+#[test]
+fn names_that_are_missing() {
+    for name in ["dat", "dates", "Date", "", "date\0"] {
+        assert_eq!(objects(&e(), name), Err(Refusal::NoType), "{name}");
+        assert_eq!(column(&e(), name, "date", 11), Err(Refusal::NoType));
+        assert_eq!(column(&e(), "date", name, 11), Err(Refusal::NoField));
+    }
+}
+
+/// Asked with every kind, a field answers to its own alone.
+fn assert_kind(type_name: &str, field: &str, kind: u64, values: &[i64]) {
+    let others = (0..40).chain([64, 0x1_0000_0000 + kind, u64::MAX]);
+    for asked in others.filter(|&asked| asked != kind) {
+        let answer = column(&SEVERAL, type_name, field, asked);
+        assert_eq!(answer, Err(Refusal::OtherKind), "{field} as {asked}");
+    }
+    let answer = column(&SEVERAL, type_name, field, kind);
+    assert_eq!(answer.as_deref(), Ok(values));
+}
+
+#[test]
+fn kinds() {
+    assert_kind("a", "b", 0, &[3, 3]);
+    assert_kind("a", "c", 6, &[1, 0]);
+    assert_kind("b", "a", 32, &[2]);
+    assert_kind("b", "b", 14, &[3]);
+}
+
+#[test]
+fn a_subtype_has_its_own_objects_and_fields() {
+    assert_eq!(objects(&SEVERAL, "a"), Ok(2));
+    assert_eq!(objects(&SEVERAL, "b"), Ok(1));
+    assert_eq!(objects(&SEVERAL, "c"), Err(Refusal::NoType));
+    assert_eq!(column(&SEVERAL, "b", "c", 6), Err(Refusal::NoField));
+}
+
+/// Type first, then field, then kind.
+#[test]
+fn the_first_thing_wrong_is_told() {
+    assert_eq!(column(&D, "x", "x", 5), Err(Refusal::NoType));
+    assert_eq!(column(&D, "date", "x", 5), Err(Refusal::NoField));
+    assert_eq!(column(&D, "date", "date", 5), Err(Refusal::OtherKind));
+}
