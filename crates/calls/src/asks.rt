@@ -60,8 +60,8 @@ pub fn count_objects(file: &[u8], work: &[u32], name: &[u8]) -> Reply
     let Found::At(t) = a else {
         return Reply::Refused(16);
     };
-    let n = objects_of(work, t);
-    Reply::Done(n as u64)
+    let count = objects_of(work, t);
+    Reply::Done(count as u64)
 }
 
 // The column of a type's field, both by lent names, for whoever asks with the right kind and has room.

@@ -81,8 +81,9 @@ fn fixed_at(s: &[u8], at: usize, width: usize) -> Number
 }
 
 // The v64 that begins at `at` with a byte that another follows, and whose low seven bits are `low`: its other bytes. Each
-// but the ninth has seven bits, and none of them may be 00 where it is the last.
-fn v64_on(s: &[u8], at: usize, low: u64) -> Number
+// but the ninth has seven bits, and none of them may be 00 where it is the last. It is public for loops over many numbers,
+// which look at the first byte themselves.
+pub fn v64_on(s: &[u8], at: usize, low: u64) -> Number
     requires { ⌜ Begun (now s) at low ⌝ }
     ensures { λ r. ⌜ Read v64 (2 ^ 64) (now (s .entry)) at r ⌝ }
 {

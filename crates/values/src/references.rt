@@ -1,6 +1,6 @@
 // References: numbers of objects, which lie in the ranges of a type.
 ghost use mathlib.Core.Path.{_≡_};
-ghost use Prim.Native.Nat.{_<_};
+ghost use Prim.Native.Nat.{_<_, _≤_};
 ghost use lib.ListN.{length};
 ghost use Rattle.paper.specs.Reader.{repeat};
 ghost use Rattle.values.specs.Pass.{Passed};
@@ -9,6 +9,7 @@ ghost use Rattle.values.specs.RangeLaws.{Placed};
 use numbers::Cursor;
 use numbers::Number;
 use numbers::Refusal;
+use std::num;
 
 // An end of a range in the width of the numbers that are held against it. Said once, it spares each load a fact.
 fn wide(x: u32) -> u64
@@ -45,12 +46,35 @@ fn search(first: &[u32], last: &[u32], n: u64) -> usize
     i
 }
 
-// The same, where `hint` is tried first: objects that are named one after the other often lie in one range.
-fn range_of(first: &[u32], last: &[u32], n: u64, hint: u64) -> usize
+// How far to go on: over a half that ends before n, or not at all. A difference below 0 has its top bit set, and a product
+// needs no jump, which nobody could foretell here.
+fn over(last: &[u32], at: usize, half: usize, n: u64) -> usize
+    requires { ⌜ at < length (now last) ⌝ }
+    ensures { λ r. ⌜ r ≤ half ⌝ }
+{
+    let below = num::wrapping_sub_u64(wide(last[at]), n);
+    let before = (below >> 63) as usize;
+    half * before
+}
+
+// Where object n would lie if the ranges rose, which they do in a file. Nothing is built on it: it is only where to look first.
+fn near(last: &[u32], n: u64) -> usize {
+    let mut base: usize = 0;
+    let mut size = last.len();
+    while 1 < size {
+        let half = size / 2;
+        base += over(last, base + half - 1, half, n);
+        size -= half;
+    }
+    base
+}
+
+// The same as `search`, with one look before it that finds nearly all.
+fn range_of(first: &[u32], last: &[u32], n: u64) -> usize
     requires { ⌜ length (now first) ≡ length (now last) ⌝ }
     ensures { λ r. ⌜ Placed (now (first .entry)) (now (last .entry)) n r ⌝ }
 {
-    let i = hint as usize;
+    let i = near(last, n);
     if i < first.len() {
         if lies_in(first, last, i, n) {
             return i;
@@ -59,8 +83,8 @@ fn range_of(first: &[u32], last: &[u32], n: u64, hint: u64) -> usize
     search(first, last, n)
 }
 
-// The number of an object, or 0. The number that is answered is the range to try first with the next.
-fn reference(part: &[u8], c: Cursor, first: &[u32], last: &[u32], hint: u64) -> Number
+// The number of an object, or 0.
+fn reference(part: &[u8], c: Cursor, first: &[u32], last: &[u32]) -> Number
     requires { ⌜ length (now first) ≡ length (now last) ⌝ }
     ensures { λ r. ⌜ Passed (linked (someObject (now (first .entry)) (now (last .entry)))) (now (part .entry)) (c .at) r ⌝ }
 {
@@ -69,16 +93,15 @@ fn reference(part: &[u8], c: Cursor, first: &[u32], last: &[u32], hint: u64) -> 
         return a;
     };
     if n == 0 {
-        return Number::Got(hint, next);
+        return Number::Got(n, next);
     }
-    let i = range_of(first, last, n, hint);
-    if first.len() <= i {
+    if first.len() <= range_of(first, last, n) {
         return Number::No(Refusal {
             number: 14,
             place: c.at,
         });
     }
-    Number::Got(i as u64, next)
+    Number::Got(n, next)
 }
 
 // m numbers of objects.
@@ -88,15 +111,13 @@ pub fn references(part: &[u8], c: Cursor, m: u64, first: &[u32], last: &[u32]) -
 {
     let mut at = c.at;
     let mut rest = m;
-    let mut hint: u64 = 0;
     while 0 < rest {
         let here = Cursor { at };
-        let a = reference(part, here, first, last, hint);
-        let Number::Got(i, next) = a else {
+        let a = reference(part, here, first, last);
+        let Number::Got(_, next) = a else {
             return a;
         };
         at = next.at;
-        hint = i;
         rest -= 1;
     }
     Number::Got(0, Cursor { at })

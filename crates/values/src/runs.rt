@@ -11,6 +11,7 @@ ghost use Rattle.values.specs.Items.{linked, atMost};
 use numbers::Cursor;
 use numbers::Number;
 use numbers::Refusal;
+use numbers::v64_on;
 
 // m bools, each of which is 00 or FF.
 pub fn bools(part: &[u8], c: Cursor, m: u64) -> Number
@@ -64,20 +65,30 @@ pub fn fixed_widths(part: &[u8], c: Cursor, m: u64, width: u64) -> Number
     })
 }
 
-// m numbers of one byte or more.
+// m numbers of one byte or more. A number of one byte costs no call: most have no more.
 pub fn v64s(part: &[u8], c: Cursor, m: u64) -> Number
     ensures { λ r. ⌜ Passed (repeat m v64) (now (part .entry)) (c .at) r ⌝ }
 {
     let mut at = c.at;
     let mut rest = m;
     while 0 < rest {
-        let here = Cursor { at };
-        let a = here.v64(part);
+        if part.len() <= at {
+            return Number::No(Refusal {
+                number: Refusal::SHORT,
+                place: at,
+            });
+        }
+        let b = part[at] as u64;
+        rest -= 1;
+        if b < 128 {
+            at += 1;
+            continue;
+        }
+        let a = v64_on(part, at, b - 128);
         let Number::Got(_, next) = a else {
             return a;
         };
         at = next.at;
-        rest -= 1;
     }
     Number::Got(0, Cursor { at })
 }

@@ -5,4 +5,5 @@ use Rattle.values.proofs.references.range_of.Statement.{statement}
 use Rattle.values.proofs.references.range_of.Tie as tie
 
 pub range-of-spec : {M : Type 1} → statement M
-range-of-spec = tie.close (tie.spec (λ c κs. search needs) (λ c. placed-at _ _ _ _ ((c .before .before .before .before .before) .pre) (c .before .before .if1 .taken) (sym (c .before .lies-in .ensures) ∙ c .if2 .taken)) (λ c κs. search needs) (λ c. search needs))
+range-of-spec =
+    tie.close (tie.spec (λ c κs. search needs) (λ c κs. search needs) (λ c. placed-at _ _ _ _ ((c .before .before .before .before .before .before) .pre) (c .before .before .if1 .taken) (sym (c .before .lies-in .ensures) ∙ c .if2 .taken)) (λ c κs. search needs) (λ c. search needs))
