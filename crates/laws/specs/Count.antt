@@ -96,7 +96,7 @@ module _ {A : Type 0} (p : A → Bool) (d : A) where
 
 -- ── known fields ──
 
-once : ℕ → Bool → ℕ
+unfoldable pub once : ℕ → Bool → ℕ
 once n b = if b then n else 0
 
 once-sum : (n : ℕ) (b : Bool) (m : ℕ) → once n b + n * m ≡ n * ((if b then 1 else 0) + m)
@@ -206,7 +206,7 @@ unfolding fold afterNew objectsOf
 fold-objects t [] s u = refl
 fold-objects t (g ∷ gs) s u = fold-objects t gs (afterNew t s g) u
 
-head-objects : (s : State) (h : Head) (u : ℕ) → objectsOf (afterHead s h) u ≡ objectsOf s u + once (h .count) (eqb (typeOf s (h .name)) u)
+pub head-objects : (s : State) (h : Head) (u : ℕ) → objectsOf (afterHead s h) u ≡ objectsOf s u + once (h .count) (eqb (typeOf s (h .name)) u)
 unfolding objectsOf afterHead newRange total if_then_else_ once of? size
 head-objects s h u = rw (total-append (of? u) size (s .log) (newRange s h ∷ [])) (go (eqb (typeOf s (h .name)) u))
   where

@@ -27,3 +27,6 @@ pub mod Arrays
 pub mod Built
 pub mod Promises
 pub mod Refill
+pub mod Refused
+pub mod Objects
+pub mod Answers
