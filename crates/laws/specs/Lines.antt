@@ -102,10 +102,10 @@ new-takes g h k =
 -- ── values ──
 
 -- words, each behind a tab
-tabs : {A : Type 0} → (A → List ℕ) → List A → List ℕ
+unfoldable pub tabs : {A : Type 0} → (A → List ℕ) → List A → List ℕ
 tabs w = flat (λ a. tab ∷ w a)
 
-line-tabs : {A : Type 0} (w : A → List ℕ) (v : List ℕ) (l : List A) → line (v ∷ map w l) ≡ v ++ (tabs w l ++ newline ∷ [])
+pub line-tabs : {A : Type 0} (w : A → List ℕ) (v : List ℕ) (l : List A) → line (v ∷ map w l) ≡ v ++ (tabs w l ++ newline ∷ [])
 unfolding line tabs flat
 line-tabs w v [] = refl
 line-tabs w v (a ∷ l) = rw (line-tabs w (w a) l, append-assoc)

@@ -24,22 +24,22 @@ use Rattle.values.specs.declared.columns.Valued.the-variants.{Got, No}
 
 -- ── the first of n values ──
 
-record FirstOf {A : Type 0} (r : Reader A) (m : ℕ) (f : List ℕ) (at : ℕ) (l : List A) (e : ℕ) : Type 0 where
-  value : A
-  next : ℕ
-  more : List A
-  first : r f at ≡ got value next
-  rest : repeat m r f next ≡ got more e
-  is : l ≡ value ∷ more
+pub record FirstOf {A : Type 0} (r : Reader A) (m : ℕ) (f : List ℕ) (at : ℕ) (l : List A) (e : ℕ) : Type 0 where
+  pub value : A
+  pub next : ℕ
+  pub more : List A
+  pub first : r f at ≡ got value next
+  pub rest : repeat m r f next ≡ got more e
+  pub is : l ≡ value ∷ more
 
-repeat-first :
+pub repeat-first :
     {A : Type 0} (r : Reader A) (m : ℕ) (f : List ℕ) (at : ℕ) (l : List A) (e : ℕ) → repeat (suc m) r f at ≡ got l e → FirstOf r m f at l e
 unfolding repeat times
 repeat-first r m f at l e q =
     let F = each-inv (λ (u : Unit {0}) (x : Unit {0}). r) (λ u a. u) tt (replicate m (tt {0})) tt f at l e q in
     record { value = F .value; next = F .next; more = F .more; first = F .first; rest = F .rest; is = F .is }
 
-repeat-none : {A : Type 0} (r : Reader A) (f : List ℕ) (at : ℕ) (l : List A) (e : ℕ) → repeat 0 r f at ≡ got l e → (l ≡ []) × (at ≡ e)
+pub repeat-none : {A : Type 0} (r : Reader A) (f : List ℕ) (at : ℕ) (l : List A) (e : ℕ) → repeat 0 r f at ≡ got l e → (l ≡ []) × (at ≡ e)
 unfolding repeat times each give
 repeat-none r f at l e q = (cc q, cc q)
 

@@ -60,7 +60,7 @@ pub fn elements(
 }
 
 // The length of an array that gives its own.
-fn list_length(part: &[u8], c: Cursor) -> Number
+pub fn list_length(part: &[u8], c: Cursor) -> Number
     ensures { λ r. ⌜ Read small 65536 (now (part .entry)) (c .at) r ⌝ }
 {
     let a = c.v64(part);

@@ -1,0 +1,156 @@
+// The values of a chunk as lines of a listing. It is known of them that they keep the rules: where that were not so, a read
+// that fails is passed over, and nothing is said of the text.
+ghost use mathlib.Core.Path.{_≡_};
+ghost use mathlib.Core.Bool.{true};
+ghost use mathlib.Core.List.{_∷_};
+ghost use Prim.Native.Nat.{_<_};
+ghost use Rattle.paper.specs.Reader.{repeat};
+ghost use Rattle.paper.specs.Rules.{elementKind?};
+ghost use Rattle.paper.specs.File.{element};
+ghost use Rattle.paper.specs.Listing.{tab, elementWord, valueLine, printChunk};
+ghost use Rattle.lay.specs.Laid.{Laid};
+ghost use Rattle.laws.specs.Lines.{tabs};
+ghost use Rattle.values.specs.Chunks.{Kinds};
+ghost use Rattle.values.specs.Columns.{elementOf, Storable};
+ghost use Rattle.show.specs.Shown.{Shown, Shows};
+ghost use Rattle.show.specs.Lines.{list, ChunkShown};
+use lay::put;
+use lay::put_bytes;
+use numbers::Cursor;
+use numbers::Number;
+use values::chunks::list_length;
+use values::columns::Value;
+use values::columns::Valued;
+use values::columns::read_value;
+use words::write::put_decimal;
+use words::write::put_hex;
+use words::write::put_signed;
+
+// Behind what was read, and behind what was laid.
+struct Behind {
+    next: Cursor,
+    at: usize,
+}
+
+// The word of an element.
+pub fn put_element(out: &mut [u8], at: usize, v: Value) -> usize
+    requires { ⌜ Storable v ⌝ }
+    ensures { λ r. ⌜ Laid (now (out .entry)) at (elementWord (elementOf v)) (now (out .exit)) r ⌝ }
+{
+    match v {
+        Value::Flag(b) => {
+            if b {
+                put(out, at, b'1')
+            } else {
+                put(out, at, b'0')
+            }
+        }
+        Value::Whole(z) => put_signed(out, at, z),
+        Value::Float(width, bits) => {
+            let digits = 2 * width;
+            put_hex(out, at, digits as usize, bits)
+        }
+        Value::Object(n) => put_decimal(out, at, n),
+    }
+}
+
+// A tab, and the word of the element of kind e that comes next.
+fn put_next(part: &[u8], c: Cursor, e: u64, out: &mut [u8], at: usize) -> Behind
+    requires { ⌜ elementKind? e ≡ true ⌝ }
+    ensures { λ r. ⌜ Shows e (λ s. element s e) (λ x. tab ∷ elementWord x) (now (part .entry)) (c .at) (now (out .entry)) at (now (out .exit)) r ⌝ }
+{
+    let a = read_value(part, c, e);
+    let Valued::Got(v, next) = a else {
+        return Behind { next: c, at };
+    };
+    let word = put(out, at, b'\t');
+    let end = put_element(out, word, v);
+    Behind { next, at: end }
+}
+
+// m such elements. Where there are none, e need not be the kind of an element: a constant has no other.
+fn put_elements(part: &[u8], c: Cursor, m: u64, e: u64, out: &mut [u8], at: usize) -> Behind
+    requires { ⌜ (0 < m → elementKind? e ≡ true) ⌝ }
+    ensures { λ r. ⌜ Shows e (λ s. repeat m (element s e)) (tabs elementWord) (now (part .entry)) (c .at) (now (out .entry)) at (now (out .exit)) r ⌝ }
+{
+    let mut here = Behind { next: c, at };
+    let mut rest = m;
+    while 0 < rest {
+        here = put_next(part, here.next, e, out, here.at);
+        rest -= 1;
+    }
+    here
+}
+
+// The line of a value of m elements.
+fn put_value(part: &[u8], c: Cursor, m: u64, e: u64, out: &mut [u8], at: usize) -> Behind
+    requires { ⌜ (0 < m → elementKind? e ≡ true) ⌝ }
+    ensures { λ r. ⌜ Shows e (λ s. repeat m (element s e)) valueLine (now (part .entry)) (c .at) (now (out .entry)) at (now (out .exit)) r ⌝ }
+{
+    let first = put_bytes(out, at, b"val");
+    let all = put_elements(part, c, m, e, out, first);
+    let end = put(out, all.at, b'\n');
+    let next = all.next;
+    Behind { next, at: end }
+}
+
+// The line of an array that gives its own length.
+fn put_list(part: &[u8], c: Cursor, e: u64, out: &mut [u8], at: usize) -> Behind
+    requires { ⌜ elementKind? e ≡ true ⌝ }
+    ensures { λ r. ⌜ Shows e (list e) valueLine (now (part .entry)) (c .at) (now (out .entry)) at (now (out .exit)) r ⌝ }
+{
+    let a = list_length(part, c);
+    let Number::Got(m, next) = a else {
+        return Behind { next: c, at };
+    };
+    put_value(part, next, m, e, out, at)
+}
+
+// The lines of n values of m elements each.
+fn put_values(part: &[u8], n: u32, m: u64, e: u64, out: &mut [u8], at: usize) -> usize
+    requires { ⌜ (0 < m → elementKind? e ≡ true) ⌝ }
+    ensures { λ r. ⌜ Shown e (λ s. repeat n (repeat m (element s e))) printChunk (now (part .entry)) 0 (now (out .entry)) at (now (out .exit)) r ⌝ }
+{
+    let mut here = Behind {
+        next: Cursor { at: 0 },
+        at,
+    };
+    let mut rest = n;
+    while 0 < rest {
+        here = put_value(part, here.next, m, e, out, here.at);
+        rest -= 1;
+    }
+    here.at
+}
+
+// The lines of n arrays that give their own lengths.
+fn put_lists(part: &[u8], n: u32, e: u64, out: &mut [u8], at: usize) -> usize
+    requires { ⌜ elementKind? e ≡ true ⌝ }
+    ensures { λ r. ⌜ Shown e (λ s. repeat n (list e s)) printChunk (now (part .entry)) 0 (now (out .entry)) at (now (out .exit)) r ⌝ }
+{
+    let mut here = Behind {
+        next: Cursor { at: 0 },
+        at,
+    };
+    let mut rest = n;
+    while 0 < rest {
+        here = put_list(part, here.next, e, out, here.at);
+        rest -= 1;
+    }
+    here.at
+}
+
+// The lines of a chunk's n values, whose kind has the first number k, a constant's bits or an array's length a, and the last
+// number e: the place behind them.
+pub fn show_chunk(part: &[u8], n: u32, k: u64, a: u64, e: u64, out: &mut [u8], at: usize) -> usize
+    requires { ⌜ Kinds k a e ⌝ }
+    ensures { λ r. ⌜ ChunkShown n k a e (now (part .entry)) (now (out .entry)) at (now (out .exit)) r ⌝ }
+{
+    match k {
+        // A constant has no elements in its chunk.
+        0..=4 => put_values(part, n, 0, e, out, at),
+        15 => put_values(part, n, a, e, out, at),
+        17..=19 => put_lists(part, n, e, out, at),
+        _ => put_values(part, n, 1, e, out, at),
+    }
+}
