@@ -26,9 +26,7 @@ use Rattle.table.specs.Asks.{found}
 use Rattle.table.specs.declared.rows.FieldRow.{FieldRow}
 use Rattle.table.specs.declared.names.Found.{Found}
 use Rattle.table.specs.declared.names.Found.the-variants.{At, Nothing}
-use Rattle.values.specs.Bare.{Linkable}
-use Rattle.values.specs.Linkable.{linkable, objects-below}
-use Rattle.walk.specs.Low.{Low}
+use Rattle.walk.specs.Few.{linkable-below}
 use Rattle.walk.specs.Listed.{with-element, row-kinds}
 use Rattle.walk.specs.FileLaws.{Accepted}
 use Rattle.calls.specs.Fill.{ColumnReady, ColumnStored}
@@ -75,41 +73,6 @@ module _ {f l : List ℕ} (K : Known f l) where
   pub still-holds : Holds f l
   still-holds = K .accepted .steady .holds
 
--- ── strings and objects are so few that a column can store their numbers ──
-
-low-all : (j : ℕ) (rs : List Range) → Low j rs → j + length rs ≤ 1024 → all (λ (r : Range). ltb (r .first + r .count) (2 ^ 63)) rs ≡ true
-unfolding all
-low-all j [] h le = refl
-low-all j (r ∷ rs) h le = rw (lt-ltb (r .first + r .count) (2 ^ 63) (omega (arith, h .0, h .1)), low-all (suc j) rs (h .2) (omega arith))
-
-any-more : {A : Type 0} (p : A → Bool) (xs ys : List A) → any p xs ≡ true → any p (xs ++ ys) ≡ true
-unfolding any
-any-more p [] ys h = let z : _≡_ {A = ℕ} 0 1 = cc h in absurd (omega arith)
-any-more {A} p (x ∷ xs) ys h = go (p x) (any-more p xs ys) h
-  where
-    go : (b : Bool) → (any p xs ≡ true → any p (xs ++ ys) ≡ true) → (b || any p xs) ≡ true → (b || any p (xs ++ ys)) ≡ true
-    go true ih q = refl
-    go false ih q = ih q
-
-module _ {f l : List ℕ} (K : Known f l) (k : ℕ) (s : State) (g : Grows s (known (ledgerOf K))) where
-  few : length (s .strings) < 2 ^ 63
-  few =
-      let all : length (known (ledgerOf K) .strings) ≡ length (s .strings) + length (g .strings .rest) = ap length (g .strings .is) ∙ length-append (s .strings) (g .strings .rest) in
-      let same : length (view f l .strings) ≡ length (known (ledgerOf K) .strings) = ap (λ (u : State). length (u .strings)) (sees K) in
-      omega (arith, still-holds K .strs-count, still-holds K .ok .strs-fit)
-
-  small : (n : ℕ) → object? s (k - 32) n ≡ true → n < 2 ^ 63
-  unfolding object?
-  small n h =
-      let more : any (holds? (k - 32) n) (s .log ++ g .log .rest) ≡ true = any-more (holds? (k - 32) n) (s .log) (g .log .rest) h in
-      let there : any (holds? (k - 32) n) (known (ledgerOf K) .log) ≡ true = rw (g .log .is) more in
-      let here : any (holds? (k - 32) n) (logOf l) ≡ true = subst (λ (u : State). any (holds? (k - 32) n) (u .log) ≡ true) (sym (sees K)) there in
-      objects-below (2 ^ 63) (k - 32) n (logOf l)
-      (low-all 0 (logOf l) (K .accepted .steady .low) (omega (arith, still-holds K .ok .log-count, still-holds K .ok .log-fit))) here
-
-  all-linkable : Linkable s k
-  all-linkable = linkable s k few small
-
 -- ── storing ──
 
 module _ {f l : List ℕ} {i : ℕ} {row : FieldRow} {n : ℕ} {out : List ℤ} where
@@ -150,7 +113,7 @@ module _ {f l : List ℕ} {i : ℕ} {row : FieldRow} {n : ℕ} {out : List ℤ} 
           state = known (ledgerOf K);
           values = fieldValues i nothing (ledgerOf K);
           fills = rw (kind-is R ∙ is-plain R, chunks-are K) at all;
-          linkable = all-linkable K (row .e);
+          linkable = λ s g. linkable-below (still-holds K) (K .accepted .steady .low) (row .e) s (subst (λ (u : State). Grows s u) (sym (sees K)) g);
           room = omega (arith, R .values-are, ap length (values-of R), R .room);
         }
 

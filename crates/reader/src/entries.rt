@@ -21,7 +21,7 @@ use super::strings::refused_step;
 use numbers::Cursor;
 use numbers::Number;
 
-fn entry(file: &[u8], c: Cursor, work: &mut [u32], end: u64, named: Named) -> Number
+pub fn entry(file: &[u8], c: Cursor, work: &mut [u32], end: u64, named: Named) -> Number
     requires { ⌜ Holds (now file) (now work) × Sound (said (now file) (now work)) ⌝ }
     ensures { λ r. ⌜ Passed (now (file .entry)) (now (work .exit)) (c .at) r (entryGo (named? named) (going (now (file .entry)) (now (work .entry)) end) (now (file .entry)) (c .at)) ⌝ }
 {

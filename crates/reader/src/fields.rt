@@ -279,7 +279,7 @@ fn new_fields(
 }
 
 // How many known fields an entry of type t gives: with no object added all its fields are new.
-fn known_fields(work: &[u32], t: u32, added: u32) -> u32
+pub fn known_fields(work: &[u32], t: u32, added: u32) -> u32
     requires { ⌜ Ok (now work) ⌝ }
     ensures { λ r. ⌜ ((f : List ℕ) → r ≡ length (oldsOf added (view f (now (work .entry))) t)) ⌝ }
 {

@@ -27,9 +27,9 @@ use words::write::put_hex;
 use words::write::put_signed;
 
 // Behind what was read, and behind what was laid.
-struct Behind {
-    next: Cursor,
-    at: usize,
+pub struct Behind {
+    pub next: Cursor,
+    pub at: usize,
 }
 
 // The word of an element.

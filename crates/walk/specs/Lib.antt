@@ -1,6 +1,7 @@
 pub mod Pairs
 pub mod Region
 pub mod Low
+pub mod Few
 pub mod Gather
 pub mod Listed
 pub mod Steps

@@ -1,0 +1,2 @@
+// A file as text, as a listing sets it out.
+pub mod fields;
