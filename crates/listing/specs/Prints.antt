@@ -22,6 +22,11 @@ pub prints-none :
     → ((v : A) (q : ℕ) → r f from ≡ got v q → ⊥) → Prints r w f from l at m o
 prints-none never = record { text = λ v q h. absurd (never v q h); next = λ v q h. absurd (never v q h) }
 
+-- what is given is read where the reading stands
+pub give-got : {A : Type 0} (a : A) (f : List ℕ) (at : ℕ) (v : A) (e : ℕ) → give a f at ≡ got v e → (a ≡ v) × (at ≡ e)
+unfolding give
+give-got a f at v e h = (cc h, cc h)
+
 -- ── a number that is held to rules ──
 
 hold-got : {A : Type 0} (rs : List Rule) (p : ℕ) (a : A) (m : ℕ) (v : A) (e : ℕ) → hold rs p (got a m) ≡ got v e → (a ≡ v) × (m ≡ e) × (hold? rs ≡ true)

@@ -1,2 +1,3 @@
 // A file as text, as a listing sets it out.
+pub mod entries;
 pub mod fields;
