@@ -1,3 +1,4 @@
 pub mod Prints
 pub mod Fields
 pub mod Entries
+pub mod Fronts
