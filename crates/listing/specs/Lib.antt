@@ -2,3 +2,4 @@ pub mod Prints
 pub mod Fields
 pub mod Entries
 pub mod Fronts
+pub mod Regions

@@ -2,3 +2,4 @@
 pub mod entries;
 pub mod fields;
 pub mod fronts;
+pub mod pairs;

@@ -143,7 +143,7 @@ module _ {f l l₁ : List ℕ} {at size m : ℕ} (R : PairReady f l at) (F : Fro
   abbrev s₂ : State
   s₂ = afterFront s (d .strings) (d .entries)
 
-  size-is : size ≡ lastOr 0 (d .ends)
+  pub size-is : size ≡ lastOr 0 (d .ends)
   unfolding goFront
   size-is = ap (λ (g : Going). g .end) (F .says)
 
@@ -151,7 +151,7 @@ module _ {f l l₁ : List ℕ} {at size m : ℕ} (R : PairReady f l at) (F : Fro
   unfolding goFront
   state-is = ap (λ (g : Going). g .said .state) (F .says)
 
-  dues-are : duesOf l₁ ≡ sized 0 (dues (withStrings s (d .strings)) (d .entries)) (d .ends)
+  pub dues-are : duesOf l₁ ≡ sized 0 (dues (withStrings s (d .strings)) (d .entries)) (d .ends)
   unfolding goFront
   dues-are = ap (λ (g : Going). g .said .due) (F .says) ∙ rw (R .steady .between .none) refl
 
@@ -192,7 +192,7 @@ module _ {f l l₁ : List ℕ} {at size m : ℕ} (R : PairReady f l at) (F : Fro
         go (No e) (got d₂ p) q is = record { holds = h₂; says = cc q ∙ sym is; steady = tt }
         go (No e) (no k p) q is = record { holds = h₂; says = cc q ∙ sym is; steady = tt }
 
-    sizes-is : sizes (duesOf l₁) ≡ size
+    pub sizes-is : sizes (duesOf l₁) ≡ size
     sizes-is =
         let S = front-says s .at f at d m (R .bytes) (R .inside) (F .is) .said in
         rw dues-are (omega (arith, size-is, sizes-are 0 (dues (withStrings s (d .strings)) (d .entries)) (d .ends) (sym (S .many)) (rising-only 0 (d .ends) (S .rising))))
@@ -208,6 +208,22 @@ module _ {f l l₁ : List ℕ} {at size m : ℕ} (R : PairReady f l at) (F : Fro
           within = omega (arith, sizes-is);
           small = R .small;
           room = omega (arith, h₁ .ok .chunks-count, h₁ .ok .dues-fit, sound .chunks, sound .block);
+        }
+
+    -- the block ends with these chunks put down
+    pub still-steady :
+        (cs : List Spot) → length cs ≤ 128 → {l₃ : List ℕ} → Holds f l₃ → said f l₃ ≡ nextBlock (record { state = view f l₁; due = duesOf l₁; chunks = chunksOf l₁ ++ cs })
+        → Steady f l₃
+    unfolding nextBlock closed
+    still-steady cs many h₃ closing =
+        let own : Keys blockOfRange (view f l₁ .block + 1) (logOf l₁) =
+        subst (λ (u : State). Keys blockOfRange (u .block + 1) (u .log)) (sym state-is) (rw (front-block s (d .strings) (d .entries)) (front-past s (d .strings) (d .entries) (R .steady .between .past))) in
+        let ready = pair-ready in
+        record {
+          holds = h₃;
+          between = rw closing (closes sound own cs many);
+          low = subst (λ (g : Said). Low 0 (g .state .log)) (sym closing) (ready .low);
+          listed = subst (λ (g : Said). Listed (g .state .fields)) (sym closing) (ready .listed);
         }
 
     module _ (A : AllStand l₁ (getD l 2 0) true) where
@@ -238,29 +254,15 @@ module _ {f l l₁ : List ℕ} {at size m : ℕ} (R : PairReady f l at) (F : Fro
             let is-after : said f l₃ ≡ saidAfter (said f l) d m = closing ∙ (λ i. record { state = closed (state-is i); due = []; chunks = chunks-are i ++ spotsFrom m (dues-are i) }) in
             let many : length (spotsFrom m (duesOf l₁)) ≤ 128 = omega (arith, spots-many m (duesOf l₁), h₁ .ok .dues-count, h₁ .ok .dues-fit) in
             let ends = region-ends C′ in
-            let own : Keys blockOfRange (view f l₁ .block + 1) (logOf l₁) =
-            subst (λ (u : State). Keys blockOfRange (u .block + 1) (u .log)) (sym state-is) (rw (front-block s (d .strings) (d .entries)) (front-past s (d .strings) (d .entries) (R .steady .between .past))) in
-            let ready = pair-ready in
             record {
               holds = after .holds;
               says = go (chunksAt (view f l₁) (duesOf l₁) f m) (C′ .says) is-after ∙ sym (pair-is ∙ rw whole refl);
               steady = (
-                record {
-                  holds = after .holds;
-                  between = rw closing (closes sound own (spotsFrom m (duesOf l₁)) many);
-                  low = subst (λ (g : Said). Low 0 (g .state .log)) (sym closing) (closed-low (ready .low));
-                  listed = subst (λ (g : Said). Listed (g .state .fields)) (sym closing) (closed-listed (ready .listed));
-                },
-                omega (arith, ready .within),
+                still-steady (spotsFrom m (duesOf l₁)) many (after .holds) closing,
+                omega (arith, pair-ready .within),
               );
             }
           where
             go : (o : Out (List Chunk)) → got tt (c .at) ≡ forget o → said f l₃ ≡ saidAfter (said f l) d m → got (said f l₃) (c .at) ≡ turned (λ (cs : List Chunk). saidAfter (said f l) d m) o
             go (got cs p) q w = let z : c .at ≡ p = cc q in rw (w, z) refl
             go (no k p) q w = let z : _≡_ {A = ℕ} 0 1 = cc q in absurd (omega arith)
-
-            closed-low : Low 0 (logOf l₁) → Low 0 (closed (view f l₁) .log)
-            closed-low h = h
-
-            closed-listed : Listed (fldsOf l₁) → Listed (closed (view f l₁) .fields)
-            closed-listed h = h
