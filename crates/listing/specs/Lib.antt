@@ -3,3 +3,4 @@ pub mod Fields
 pub mod Entries
 pub mod Fronts
 pub mod Regions
+pub mod Pairs

@@ -1,7 +1,14 @@
 // The lines of a pair, and of all pairs of a file. It is known that the file was accepted.
 ghost use Rattle.walk.specs.RegionTurns.{RegionReady};
+ghost use Rattle.walk.specs.PairLaws.{PairReady};
 ghost use Rattle.listing.specs.Regions.{RegionPrinted};
+ghost use Rattle.listing.specs.Pairs.{PairThere, PairPrinted};
+use crate::fronts::print_front;
+use numbers::Cursor;
+use numbers::Number;
+use show::Behind;
 use show::show_chunk;
+use table::counts::next_block;
 use table::rows::due_at;
 use table::rows::dues;
 use table::rows::field_at;
@@ -32,4 +39,24 @@ fn print_region(file: &[u8], from: usize, work: &[u32], out: &mut [u8], at: usiz
         i += 1;
     }
     p
+}
+
+// The lines of the pair at c, which goes into the table.
+fn print_pair(file: &[u8], c: Cursor, work: &mut [u32], out: &mut [u8], at: usize) -> Behind
+    requires { ⌜ PairReady (now file) (now work) (c .at) × PairThere (now file) (now work) (c .at) ⌝ }
+    ensures { λ r. ⌜ PairPrinted (now (file .entry)) (now (work .entry)) (now (work .exit)) (c .at) (now (out .entry)) at (now (out .exit)) r ⌝ }
+{
+    let printed = print_front(file, c, work, out, at);
+    let a = printed.read;
+    let Number::Got(size, start) = a else {
+        return Behind { next: c, at };
+    };
+    let from = start.at;
+    let p = print_region(file, from, work, out, printed.at);
+    next_block(work);
+    let end = from + (size as usize);
+    Behind {
+        next: Cursor { at: end },
+        at: p,
+    }
 }
