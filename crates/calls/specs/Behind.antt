@@ -37,7 +37,7 @@ module _ {f l : List ℕ} {a : Step} (F : FileRead f l a) where
     column-accepted {owner} {name} {k} {out} h = rw (column-got f (table-known .accepted .read) owner name k (length out)) (h .told table-known)
 
   module _ {e : Refusal} (is : a ≡ No e) where
-    refused-file : file f ≡ no (e .number) (e .place)
+    pub refused-file : file f ≡ no (e .number) (e .place)
     refused-file = subst (toldFile f l) is (F .told)
 
     pub check-refused : answerOf (Refused (e .number)) ≡ check 16384 f

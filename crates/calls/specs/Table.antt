@@ -37,11 +37,11 @@ use Rattle.calls.specs.declared.replies.Reply.the-variants.{Done, Refuse
 -- ── a table that is too short ──
 
 module _ (f w : List ℕ) (lt : length w < 16384) where
-  untouched : cleared w ≡ w
+  pub untouched : cleared w ≡ w
   unfolding cleared if_then_else_
   untouched = rw (lt-leb 16384 (length w) lt)
 
-  read-short : read (length w) f ≡ refused 15
+  pub read-short : read (length w) f ≡ refused 15
   unfolding read need _>>_ _>>=_
   read-short = rw (lt-leb 16384 (length w) lt)
 
@@ -64,11 +64,11 @@ pub front-long : (w : List ℕ) → 16384 ≤ length w → length (take 16384 w)
 front-long w le = length-take-le 16384 w le
 
 module _ (f w : List ℕ) (le : 16384 ≤ length w) where
-  noughts-first : cleared w ≡ noughts ++ drop 16384 w
+  pub noughts-first : cleared w ≡ noughts ++ drop 16384 w
   unfolding cleared if_then_else_ noughts
   noughts-first = rw (le-leb 16384 (length w) le)
 
-  read-long : read (length w) f ≡ read 16384 f
+  pub read-long : read (length w) f ≡ read 16384 f
   unfolding read need
   read-long = rw (le-leb 16384 (length w) le)
 

@@ -71,7 +71,7 @@ countOf s type = do
 
 module _ (f : List ℕ) where
   module _ {l : Ledger} {at : ℕ} (is : file f ≡ got l at) where
-    read-got : read 16384 f ≡ done l
+    pub read-got : read 16384 f ≡ done l
     unfolding read need _>>_ _>>=_ answered
     read-got = rw is
 
@@ -88,7 +88,7 @@ module _ (f : List ℕ) where
     column-got type field k room = rw read-got
 
   module _ {n p : ℕ} (is : file f ≡ no n p) where
-    read-no : read 16384 f ≡ refused n
+    pub read-no : read 16384 f ≡ refused n
     unfolding read need _>>_ _>>=_ answered
     read-no = rw is
 

@@ -4,3 +4,4 @@ pub mod Entries
 pub mod Fronts
 pub mod Regions
 pub mod Pairs
+pub mod Text

@@ -33,6 +33,7 @@ use Rattle.reader.specs.Entries.{goFront, frontGo}
 use Rattle.walk.specs.Region.{chunksAt, sizes, region-is}
 use Rattle.walk.specs.Blocks.{front-block}
 use Rattle.walk.specs.RegionTurns.{RegionReady}
+use Rattle.walk.specs.PairTurns.{WalkReady}
 use Rattle.walk.specs.PairLaws.{Steady, PairReady, Fronted, fronted, size-is, state-is, dues-are, sizes-is, pair-ready, still-steady}
 use Rattle.show.specs.declared.Behind.{Behind}
 use Rattle.listing.specs.declared.entries.Printed.{Printed}
@@ -162,3 +163,132 @@ module _ {f l : List ℕ} {at : ℕ} (R : PairReady f l at) {l₁ out : List ℕ
     -- what ending the block asks
     pub block-ends : Ok l₁ × (getD l₁ 6 0 < 4294967295)
     block-ends = (D .passed .holds .ok, omega (arith, sound .block))
+
+-- ── all pairs ──
+
+-- at most n pairs are there, up to the end of the file
+pub record PairsThere (f l : List ℕ) (n at : ℕ) : Type 0 where
+  pub ledger : Ledger
+  pub end : ℕ
+  pub read : pairs n (view f l) f at ≡ got ledger end
+
+pub record PairsPrinted (f l : List ℕ) (out : List ℕ) (o : ℕ) (m : List ℕ) (r : ℕ) : Type 0 where
+  pub text : (K : PairsThere f l 32 0) → Laid out o (printPairs (view f l) (K .ledger)) m r
+
+-- what is left to print from here gives the whole
+pub record PairsLeft (f l₀ l : List ℕ) (K : PairsThere f l₀ 32 0) (place left : ℕ) (out : List ℕ) (o : ℕ) (m : List ℕ) (p : ℕ) : Type 0 where
+  pub ready : Steady f l
+  pub inside : place ≤ length f
+  pub block : getD l 6 0 + left ≡ 32
+  pub more : PairsThere f l left place
+  pub leads : Leads out o (printPairs (view f l₀) (K .ledger)) m p (printPairs (view f l) (more .ledger))
+
+pub record PairsPrinting (f l₀ l : List ℕ) (place left : ℕ) (out : List ℕ) (o : ℕ) (m : List ℕ) (p : ℕ) : Type 0 where
+  pub long : length m ≡ length out
+  pub table : length l ≡ length l₀
+  pub left-to : (K : PairsThere f l₀ 32 0) → PairsLeft f l₀ l K place left out o m p
+
+pub pairs-start : {f l : List ℕ} → WalkReady f l → (out : List ℕ) (o : ℕ) → length out ≤ most → o ≤ most → PairsPrinting f l l 0 32 out o out o
+pairs-start R out o a b =
+    record {
+      long = refl;
+      table = refl;
+      left-to = λ K. record { ready = R .steady; inside = omega arith; block = omega (arith, R .block); more = K; leads = leads-start a b };
+    }
+
+-- the next of them, before the end
+record OneMore (f l : List ℕ) (n at : ℕ) (K : PairsThere f l n at) : Type 0 where
+  one : PairThere f l at
+  rest : Ledger
+  reads : pairs (n - 1) (afterPair (view f l) (one .own)) f (one .end) ≡ got rest (K .end)
+  is : K .ledger ≡ one .own ∷ rest
+
+none-at-all : (f : List ℕ) (s : State) (at : ℕ) (ps : Ledger) (e : ℕ) → at < length f → pairs 0 s f at ≡ got ps e → ⊥
+unfolding pairs toEnd refuse
+none-at-all f s at ps e lt q = go (unlessEnd-inv [] (refuse 3) f at ps e q)
+  where
+    go : AtEnd [] f at ps e ⊎ Before (refuse 3) f at ps e → ⊥
+    go (inl a) = omega (arith, a .after)
+    go (inr b) = not-got (b .reads)
+
+one-more : (f l : List ℕ) (n at : ℕ) (K : PairsThere f l n at) → at < length f → OneMore f l n at K
+one-more f l zero at K lt = absurd (none-at-all f (view f l) at (K .ledger) (K .end) lt (K .read))
+one-more f l (suc n) at K lt = go (went-through n (view f l) f at (K .ledger) (K .end) (K .read))
+  where
+    go : Went n (view f l) f at (K .ledger) (K .end) → OneMore f l (suc n) at K
+    go (Went.ended x y) = absurd (omega arith)
+    go (Went.went p m ps lt pr rest y) =
+        let less : suc n - 1 ≡ n = omega arith in
+        record { one = record { own = p; end = m; read = pr }; rest = ps; reads = rw less rest; is = y }
+
+-- at the end there are none
+no-more : (f : List ℕ) (s : State) (n at : ℕ) (ps : Ledger) (e : ℕ) → length f ≤ at → pairs n s f at ≡ got ps e → ps ≡ []
+unfolding pairs toEnd refuse
+no-more f s zero at ps e le q = go (unlessEnd-inv [] (refuse 3) f at ps e q)
+  where
+    go : AtEnd [] f at ps e ⊎ Before (refuse 3) f at ps e → ps ≡ []
+    go (inl a) = a .same
+    go (inr b) = not-got (b .reads)
+no-more f s (suc n) at ps e le q = go (went-through n s f at ps e q)
+  where
+    go : Went n s f at ps e → ps ≡ []
+    go (Went.ended x y) = y
+    go (Went.went p m qs lt pr rest y) = absurd (omega arith)
+
+module _ {f l₀ l : List ℕ} {place left : ℕ} {out : List ℕ} {o : ℕ} {m : List ℕ} {p : ℕ} (g : PairsPrinting f l₀ l place left out o m p) where
+  pub pairs-done : length f ≤ place → PairsPrinted f l₀ out o m p
+  unfolding printPairs
+  pairs-done le =
+      record {
+        text = λ K.
+            let B = g .left-to K in
+            let z = no-more f (view f l) left place (B .more .ledger) (B .more .end) le (B .more .read) in
+            leads-end (B .leads) (ap (printPairs (view f l)) z);
+      }
+
+  module _ (lt : place < length f) where
+    pub pairs-too-many : left ≡ 0 → PairsPrinted f l₀ out o m p
+    pairs-too-many z =
+        record {
+          text = λ K.
+              let B = g .left-to K in
+              absurd (none-at-all f (view f l) place (B .more .ledger) (B .more .end) lt (rw z at (B .more .read)));
+        }
+
+    pub pair-asks : WalkReady f l₀ → (left ≡ 0 → ⊥) → PairsThere f l₀ 32 0 → PairReady f l place × PairThere f l place
+    pair-asks R some K =
+        let B = g .left-to K in (
+          record { steady = B .ready; bytes = R .bytes; small = R .small; inside = B .inside; block = omega (arith, B .block) },
+          one-more f l left place (B .more) lt .one,
+        )
+
+    pub pairs-on :
+        {l′ m₂ : List ℕ} {h : Behind} → (left ≡ 0 → ⊥) → length l′ ≡ length l → length m₂ ≡ length m → PairPrinted f l l′ place m p m₂ h
+        → PairsPrinting f l₀ l′ (h .next .at) (left - 1) out o m₂ (h .at)
+    unfolding printPairs
+    pairs-on {l′} {m₂} {h} some table kept Q =
+        record {
+          long = kept ∙ g .long;
+          table = table ∙ g .table;
+          left-to = λ K.
+              let B = g .left-to K in
+              let M = one-more f l left place (B .more) lt in
+              let T = Q .printed (M .one) in
+              let split : printPairs (view f l) (B .more .ledger) ≡ printPair (view f l) (M .one .own) ++ printPairs (view f l′) (M .rest) =
+              ap (printPairs (view f l)) (M .is) ∙ ap (λ (u : State). printPair (view f l) (M .one .own) ++ printPairs u (M .rest)) (sym (T .state)) in
+              record {
+                ready = T .steady;
+                inside = rw (T .next) (T .inside);
+                block = omega (arith, T .block, B .block);
+                more =
+                    record {
+                      ledger = M .rest;
+                      end = B .more .end;
+                      read =
+                          ap (λ (u : State). pairs (left - 1) u f (h .next .at)) (T .state)
+                          ∙ ap (pairs (left - 1) (afterPair (view f l) (M .one .own)) f) (T .next)
+                          ∙ M .reads;
+                    };
+                leads = leads-on (B .leads) split (T .text);
+              };
+        }

@@ -2,10 +2,12 @@
 ghost use Rattle.walk.specs.RegionTurns.{RegionReady};
 ghost use Rattle.walk.specs.PairLaws.{PairReady};
 ghost use Rattle.listing.specs.Regions.{RegionPrinted};
-ghost use Rattle.listing.specs.Pairs.{PairThere, PairPrinted};
+ghost use Rattle.walk.specs.PairTurns.{WalkReady};
+ghost use Rattle.listing.specs.Pairs.{PairThere, PairPrinted, PairsThere, PairsPrinted};
 use crate::fronts::print_front;
 use numbers::Cursor;
 use numbers::Number;
+use paper::Ledger;
 use show::Behind;
 use show::show_chunk;
 use table::counts::next_block;
@@ -59,4 +61,26 @@ fn print_pair(file: &[u8], c: Cursor, work: &mut [u32], out: &mut [u8], at: usiz
         next: Cursor { at: end },
         at: p,
     }
+}
+
+// The lines of all pairs.
+pub fn print_pairs(file: &[u8], work: &mut [u32], out: &mut [u8], at: usize) -> usize
+    requires { ⌜ WalkReady (now file) (now work) × PairsThere (now file) (now work) 32 0 ⌝ }
+    ensures { λ r. ⌜ PairsPrinted (now (file .entry)) (now (work .entry)) (now (out .entry)) at (now (out .exit)) r ⌝ }
+{
+    let mut place: usize = 0;
+    let mut p = at;
+    let mut left = Ledger::PAIRS;
+    while place < file.len() {
+        // No accepted file has more.
+        if left == 0 {
+            return p;
+        }
+        let one = print_pair(file, Cursor { at: place }, work, out, p);
+        let next = one.next;
+        place = next.at;
+        p = one.at;
+        left -= 1;
+    }
+    p
 }
