@@ -1,0 +1,6 @@
+pub mod Answers
+pub mod LineLaws
+pub mod StringLaws
+pub mod OldLaws
+pub mod KindLaws
+pub mod NewLaws

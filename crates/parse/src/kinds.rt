@@ -1,0 +1,146 @@
+// A kind in a listing: its numbers joined by commas. A kind that breaks a rule of its own is `Bad` like one that cannot be read.
+ghost use mathlib.Core.Path.{_≡_};
+ghost use mathlib.Core.List.{List};
+ghost use Prim.Native.Nat.{ℕ, _≤_};
+ghost use Rattle.paper.specs.Ledger.{plain};
+ghost use Rattle.paper.specs.Reader.{give};
+ghost use Rattle.paper.specs.Rules.{elementKindRules, anyType};
+ghost use Rattle.paper.specs.Keeps.{number?};
+ghost use Rattle.paper.specs.Scan.{readKind};
+ghost use Rattle.parse.specs.Answers.{widthOf, Half, constantOf, arrayOf, manyOf, KindReads};
+use paper::Ledger;
+use words::read::Number;
+use words::read::Place;
+use words::read::Step;
+
+const COMMA: u64 = 44;
+
+// 2 ^ 64 - 1
+const MOST: u64 = 18446744073709551615;
+
+// A kind by three numbers: the first, of which 32 stands for all above; a constant's bits or an array's length, and else 0;
+// and the last, which is the element kind, or the kind's only number. A constant's is 0.
+pub struct Kind {
+    pub k: u64,
+    pub a: u64,
+    pub e: u64,
+}
+
+pub enum KindWord {
+    Got(Kind, Place),
+    Bad,
+}
+
+// An element kind: 6 to 14, or 32 upwards.
+fn is_element(k: u64) -> bool
+    ensures { λ r. ⌜ r ≡ number? (elementKindRules anyType) k ⌝ }
+{
+    match k {
+        0..=5 | 15..=31 => false,
+        _ => true,
+    }
+}
+
+// Half the range of a constant's value: i8, i16, i32, and else 64 bits.
+fn half_of(k: u64) -> u64
+    ensures { λ r. ⌜ Half (widthOf k) r ⌝ }
+{
+    match k {
+        0 => 128,
+        1 => 32768,
+        2 => 2147483648,
+        _ => 9223372036854775808,
+    }
+}
+
+// A constant's value follows its number. It is read as 64 bits, and of a narrower value only those that the kind has are kept.
+fn constant(t: &[u8], p: Place, k: u64) -> KindWord
+    requires { ⌜ k ≤ 4 ⌝ }
+    ensures { λ r. ⌜ KindReads (constantOf k) (now (t .entry)) (p .at) r ⌝ }
+{
+    let Step::To(value) = p.byte(t, COMMA) else {
+        return KindWord::Bad;
+    };
+    let Number::Got(bits, next) = value.integer(t) else {
+        return KindWord::Bad;
+    };
+    let half = half_of(k);
+    if bits < half {
+        return KindWord::Got(Kind { k, a: bits, e: 0 }, next);
+    }
+    // The value is as far below -1 as its bits are below the top.
+    let below = MOST - bits;
+    if half <= below {
+        return KindWord::Bad;
+    }
+    let above = half - 1 - below;
+    let kept = half + above;
+    KindWord::Got(Kind { k, a: kept, e: 0 }, next)
+}
+
+// An array's length and element kind follow its number.
+fn array(t: &[u8], p: Place) -> KindWord
+    ensures { λ r. ⌜ KindReads arrayOf (now (t .entry)) (p .at) r ⌝ }
+{
+    let Step::To(length) = p.byte(t, COMMA) else {
+        return KindWord::Bad;
+    };
+    let Number::Got(n, element) = length.natural_ended(t, COMMA) else {
+        return KindWord::Bad;
+    };
+    let Number::Got(e, next) = element.natural(t) else {
+        return KindWord::Bad;
+    };
+    if Ledger::OBJECTS < n {
+        return KindWord::Bad;
+    }
+    if is_element(e) {
+        return KindWord::Got(Kind { k: 15, a: n, e }, next);
+    }
+    KindWord::Bad
+}
+
+// Of a kind whose values have lengths of their own only the element kind follows the number.
+fn many(t: &[u8], p: Place, k: u64) -> KindWord
+    requires { ⌜ (17 ≤ k) × (k ≤ 19) ⌝ }
+    ensures { λ r. ⌜ KindReads (manyOf k) (now (t .entry)) (p .at) r ⌝ }
+{
+    let Step::To(element) = p.byte(t, COMMA) else {
+        return KindWord::Bad;
+    };
+    let Number::Got(e, next) = element.natural(t) else {
+        return KindWord::Bad;
+    };
+    if is_element(e) {
+        return KindWord::Got(Kind { k, a: 0, e }, next);
+    }
+    KindWord::Bad
+}
+
+// The number is all.
+fn alone(p: Place, k: u64) -> KindWord
+    ensures { λ r. ⌜ ((t : List ℕ) → KindReads (give (plain k)) t (p .at) r) ⌝ }
+{
+    if is_element(k) {
+        if 32 < k {
+            return KindWord::Got(Kind { k: 32, a: 0, e: k }, p);
+        }
+        return KindWord::Got(Kind { k, a: 0, e: k }, p);
+    }
+    KindWord::Bad
+}
+
+// A kind. Its number tells what follows.
+pub fn kind_word(t: &[u8], p: Place) -> KindWord
+    ensures { λ r. ⌜ KindReads readKind (now (t .entry)) (p .at) r ⌝ }
+{
+    let Number::Got(k, next) = p.natural(t) else {
+        return KindWord::Bad;
+    };
+    match k {
+        0..=4 => constant(t, next, k),
+        15 => array(t, next),
+        17..=19 => many(t, next, k),
+        _ => alone(next, k),
+    }
+}
