@@ -2,13 +2,14 @@
 ghost use mathlib.Core.Path.{_≡_};
 ghost use mathlib.Core.List.{[]};
 ghost use lib.IntN.{pos};
-ghost use Rattle.paper.specs.Calls.{afterCheck, afterObjects, afterColumn};
+ghost use Rattle.paper.specs.Calls.{afterCheck, afterObjects, afterColumn, afterListing};
 ghost use Rattle.calls.specs.Told.{answerOf};
 ghost use Rattle.capi.specs.Coded.{upToTop, coded, Coded};
 use calls::check;
 use calls::column;
 use calls::objects;
 use calls::replies::Reply;
+use listing::listing;
 
 // No answer comes near the top of the range; what would pass it is not wrapped to another number.
 fn up_to_top(n: u64) -> i64
@@ -58,4 +59,12 @@ pub extern "C" fn th_column(
     ensures { λ z. ⌜ Coded z (now (work .exit)) (now (out .exit)) (afterColumn (now (file .entry)) (now (owner .entry)) (now (name .entry)) k (now (work .entry)) (now (out .entry))) ⌝ }
 {
     one_number(column(file, owner, name, k, work, out))
+}
+
+// The listing of a file: its bytes are the first of `out`.
+#[no_mangle]
+pub extern "C" fn th_listing(file: &[u8], work: &mut [u32], out: &mut [u8]) -> i64
+    ensures { λ z. ⌜ Coded z (now (work .exit)) (now (out .exit)) (afterListing (now (file .entry)) (now (work .entry)) (now (out .entry))) ⌝ }
+{
+    one_number(listing(file, work, out))
 }
