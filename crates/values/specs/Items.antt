@@ -95,7 +95,7 @@ alike-whole k {f} = go (ltb (k - 7) 4)
     go false = alike-turned v64 _
 
 module _ {s : State} {k strings : ℕ} {first last : List ℕ} (K : Known s k strings first last) (listed : elementKind? k ≡ true) where
-  link-is : 13 < k → (n : ℕ) → link? s k n ≡ (if eqb k 14 then atMost strings n else someObject first last n)
+  pub link-is : 13 < k → (n : ℕ) → link? s k n ≡ (if eqb k 14 then atMost strings n else someObject first last n)
   unfolding link? atMost someObject if_then_else_
   link-is h n = go (eqb k 14) refl
     where

@@ -70,7 +70,7 @@ fn near(last: &[u32], n: u64) -> usize {
 }
 
 // The same as `search`, with one look before it that finds nearly all.
-fn range_of(first: &[u32], last: &[u32], n: u64) -> usize
+pub fn range_of(first: &[u32], last: &[u32], n: u64) -> usize
     requires { ⌜ length (now first) ≡ length (now last) ⌝ }
     ensures { λ r. ⌜ Placed (now (first .entry)) (now (last .entry)) n r ⌝ }
 {

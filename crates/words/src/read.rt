@@ -44,7 +44,7 @@ pub struct Bytes {
 }
 
 // The byte at a place. Past the end there is none, and 256 is no byte: so a reader has no test of the length.
-fn peek(t: &[u8], at: usize) -> u64
+pub fn peek(t: &[u8], at: usize) -> u64
     ensures { λ r. ⌜ Peeked (now (t .entry)) at r ⌝ }
 {
     if at < t.len() {

@@ -1,0 +1,22 @@
+use native.Mathlib.Omega.{arith}
+use Rattle.texts.specs.Told.{refuses}
+use Rattle.texts.specs.Chunks.{list-refused, list-long, list-told}
+use borrow.Author.Needs.{needs}
+use Rattle.texts.proofs.list_text.Statement.{statement}
+use Rattle.texts.proofs.list_text.Tie as tie
+
+pub list-text-spec : {M : Type 1} → statement M
+list-text-spec =
+    tie.close
+    (tie.spec
+    (λ c. search needs)
+    (λ c κs. search needs)
+    (λ c. search needs)
+    (λ c. search needs)
+    (λ c. refuses (list-refused _ _ _ _ (rw (c .enum-told .given .1) at (c .before .before .literal .ensures))))
+    (λ c κs. search needs)
+    (λ c. refuses (list-long _ _ _ _ (rw (c .before .before .before .elements .given .1) at (c .before .before .before .before .before .literal .ensures)) (c .before .tabs-left .ensures) (omega arith)))
+    (λ c κs. search needs)
+    (λ c κs. search needs)
+    (λ c. search needs)
+    (λ c. list-told _ _ _ _ (rw (c .before .before .before .before .before .before .before .before .before .before .before .elements .given .1) at (c .before .before .before .before .before .before .before .before .before .before .before .before .before .literal .ensures)) (c .before .before .before .before .before .before .before .before .before .tabs-left .ensures) (omega arith) (c .before .before .before .before .before .before .put-v64 .ensures) (c .before .before .rest-of-line .ensures)))

@@ -1,0 +1,97 @@
+-- What a reading of text gives, laid down as bytes: one reading, and so many of them. Assumes nothing.
+use mathlib.Core.Path.{_≡_, refl, sym, ap, _∙_}
+use mathlib.Core.List.{List, [], _∷_, _++_, append-assoc, append-nil}
+use Prim.Native.Nat.{ℕ, zero, suc, _-_, _≤_, _<_}
+use native.Mathlib.Omega.{arith}
+use lib.ListN.{length}
+use Rattle.paper.specs.Reader.{Reader, Out, got, no as bad, andThen, repeat}
+use Rattle.paper.specs.Lists.{flat}
+use Rattle.lay.specs.Laid.{most, Laid, laid-none, laid-then, laid-as}
+use Rattle.texts.specs.Exact.{repeat-more, repeat-over}
+use Rattle.texts.specs.declared.Taken.{Taken}
+use Rattle.texts.specs.declared.TextRead.{TextRead}
+use Rattle.texts.specs.declared.TextRead.the-variants.{Got, Bad}
+
+-- what r reads from place `from` of t stands as the bytes w in m, which is l besides, and k is behind both
+pub record Lays {A : Type 0} (r : Reader A) (w : A → List ℕ) (t : List ℕ) (from : ℕ) (l : List ℕ) (at : ℕ) (m : List ℕ) (k : Taken) : Type 0 where
+  pub value : A
+  pub reads : r t from ≡ got value (k .next .at)
+  pub laid : Laid l at (w value) m (k .at)
+
+-- an answer: that, or that r refuses
+pub data Told {A : Type 0} (r : Reader A) (w : A → List ℕ) (t : List ℕ) (from : ℕ) (l : List ℕ) (at : ℕ) (m : List ℕ) : TextRead → Type 0 where
+  takes : (k : Taken) → Lays r w t from l at m k → Told r w t from l at m (Got k)
+  refuses : r t from ≡ bad 20 0 → Told r w t from l at m Bad
+
+pub was-got :
+    {A : Type 0} {r : Reader A} {w : A → List ℕ} {t : List ℕ} {from : ℕ} {l : List ℕ} {at : ℕ} {m : List ℕ} {o : TextRead} {k : Taken}
+    → Told r w t from l at m o → o ≡ Got k → Lays r w t from l at m k
+was-got {k = j} (takes k L) is = let same : k ≡ j = cc is in rw same at L
+was-got (refuses h) is = let z : _≡_ {A = ℕ} 0 1 = cc is in absurd (omega arith)
+
+pub was-bad :
+    {A : Type 0} {r : Reader A} {w : A → List ℕ} {t : List ℕ} {from : ℕ} {l : List ℕ} {at : ℕ} {m : List ℕ} {o : TextRead}
+    → Told r w t from l at m o → o ≡ Bad → r t from ≡ bad 20 0
+was-bad (takes k L) is = let z : _≡_ {A = ℕ} 0 1 = cc is in absurd (omega arith)
+was-bad (refuses h) is = h
+
+-- ── so many, one after the other: what is left to take from here gives the whole ──
+
+pub record Taking {A : Type 0} (r : Reader A) (w : A → List ℕ) (t : List ℕ) (n from : ℕ) (l : List ℕ) (at rest : ℕ) (m : List ℕ) (o : Taken) : Type 0 where
+  pub long : length m ≡ length l
+  pub fewer : rest ≤ n
+  pub done : List A
+  pub reads : repeat n r t from ≡ andThen (repeat rest r t (o .next .at)) (λ more q. got (done ++ more) q)
+  pub laid : Laid l at (flat w done) m (o .at)
+
+alone : {A : Type 0} (o : Out (List A)) → o ≡ andThen o (λ more q. got ([] ++ more) q)
+alone (got a e) = refl
+alone (bad n p) = refl
+
+flat-more : {A : Type 0} (w : A → List ℕ) (done : List A) (a : A) → flat w done ++ w a ≡ flat w (done ++ a ∷ [])
+unfolding flat
+flat-more w [] a = sym (append-nil (w a))
+flat-more w (b ∷ done) a = append-assoc (w b) (flat w done) (w a) ∙ ap (λ (z : List ℕ). w b ++ z) (flat-more w done a)
+
+module _ {A : Type 0} (r : Reader A) (w : A → List ℕ) (t : List ℕ) (n : ℕ) (l : List ℕ) (at : ℕ) where
+  pub taking-start : (o : Taken) → length l ≤ most → o .at ≤ most → o .at ≡ at → Taking r w t n (o .next .at) l at n l o
+  unfolding flat
+  taking-start o h k is =
+      record { long = refl; fewer = omega arith; done = []; reads = alone (repeat n r t (o .next .at)); laid = rw is (laid-none h (rw is at k)) }
+
+module _ {A : Type 0} {r : Reader A} {w : A → List ℕ} {t : List ℕ} {n from : ℕ} {l : List ℕ} {at rest : ℕ} {m : List ℕ} {o : Taken} (g : Taking r w t n from l at rest m o) where
+  module _ (due : 0 < rest) where
+    one-more :
+        repeat rest r t (o .next .at)
+        ≡ andThen (r t (o .next .at)) (λ a e. andThen (repeat (rest - 1) r t e) λ more q. got (a ∷ more) q)
+    one-more = go rest due
+      where
+        go : (j : ℕ) → 0 < j → repeat j r t (o .next .at) ≡ andThen (r t (o .next .at)) (λ a e. andThen (repeat (j - 1) r t e) λ more q. got (a ∷ more) q)
+        go zero h = absurd (omega arith)
+        go (suc j) h = let less : suc j - 1 ≡ j = omega arith in rw less (repeat-more r j t (o .next .at))
+
+    module _ {m₂ : List ℕ} {x : TextRead} (one : Told r w t (o .next .at) m (o .at) m₂ x) where
+      pub taking-next : {k : Taken} → x ≡ Got k → length m₂ ≡ length m → Taking r w t n from l at (rest - 1) m₂ k
+      taking-next {k} is kept =
+          let L = was-got one is in
+          record {
+            long = kept ∙ g .long;
+            fewer = omega (arith, g .fewer);
+            done = g .done ++ L .value ∷ [];
+            reads = g .reads ∙ rw (one-more, L .reads) (go (L .value) (repeat (rest - 1) r t (k .next .at)));
+            laid = laid-as (laid-then (g .laid) (L .laid)) (flat-more w (g .done) (L .value));
+          }
+        where
+          go :
+              (a : A) (p : Out (List A))
+              → andThen (andThen p (λ more q. got (a ∷ more) q)) (λ more q. got (g .done ++ more) q) ≡ andThen p (λ more q. got ((g .done ++ a ∷ []) ++ more) q)
+          go a (got more q) = rw (append-assoc (g .done) (a ∷ []) more)
+          go a (bad c d) = refl
+
+      pub taking-bad : x ≡ Bad → {m₃ : List ℕ} → Told (repeat n r) (flat w) t from l at m₃ Bad
+      taking-bad is = refuses (g .reads ∙ rw (one-more, was-bad one is))
+
+  pub taking-done : rest ≤ 0 → Told (repeat n r) (flat w) t from l at m (Got o)
+  taking-done z =
+      let over : rest ≡ 0 = omega arith in
+      takes o (record { value = g .done; reads = g .reads ∙ rw (over, repeat-over r t (o .next .at), append-nil (g .done)); laid = g .laid })
