@@ -4,7 +4,7 @@ ghost use mathlib.Core.List.{[]};
 ghost use lib.IntN.{pos};
 ghost use Rattle.paper.specs.Calls.{afterCheck, afterObjects, afterColumn, afterListing};
 ghost use Rattle.calls.specs.Told.{answerOf};
-ghost use Rattle.capi.specs.Coded.{upToTop, coded, Coded};
+ghost use Rattle.capi.specs.Coded.{upToTop, codedUpTo, Coded};
 use calls::check;
 use calls::column;
 use calls::objects;
@@ -22,7 +22,7 @@ fn up_to_top(n: u64) -> i64
 }
 
 fn one_number(r: Reply) -> i64
-    ensures { λ z. ⌜ z ≡ coded (answerOf r) ⌝ }
+    ensures { λ z. ⌜ z ≡ codedUpTo (answerOf r) ⌝ }
 {
     match r {
         Reply::Done(n) => up_to_top(n),

@@ -77,3 +77,25 @@ pub fn column(
 ) -> Result<usize, Refusal> {
     refusal::of_answer(library::column(file, type_name, field, kind, work, out))
 }
+
+/// Writes the listing of a file, which is text in ASCII, to the front of
+/// `out`; gives its length.
+///
+/// The rest of `out` is untouched, and a refusal leaves all of it as it was.
+///
+/// A listing has at most 9 bytes for each byte of the file. Only values of an
+/// array field of fixed length 0 come on top: each takes no byte of the file
+/// and 4 of the listing, at most 33,553,920 in all. So lend 9 times the file's
+/// length, and after [`Refusal::Room`] 33,553,920 bytes more.
+///
+/// ```
+/// let file = [0u8; 2]; // one pair, with no strings and no entries
+/// let mut work = vec![0; tidehinge::WORK];
+/// let mut out = vec![0; 9 * file.len()];
+/// let length = tidehinge::listing(&file, &mut work, &mut out)?;
+/// assert_eq!(out[..length], *b"pair\t0\t0\n");
+/// # Ok::<(), tidehinge::Refusal>(())
+/// ```
+pub fn listing(file: &[u8], work: &mut [u32], out: &mut [u8]) -> Result<usize, Refusal> {
+    refusal::of_answer(library::listing(file, work, out))
+}

@@ -38,6 +38,15 @@ mod foreign {
             out: *mut i64,
             out_length: usize,
         ) -> i64;
+
+        pub fn th_listing(
+            file: *const u8,
+            file_length: usize,
+            work: *mut u32,
+            work_length: usize,
+            out: *mut u8,
+            out_length: usize,
+        ) -> i64;
     }
 }
 
@@ -80,6 +89,20 @@ pub fn column(
             field.as_ptr(),
             field.len(),
             kind,
+            work.as_mut_ptr(),
+            work.len(),
+            out.as_mut_ptr(),
+            out.len(),
+        )
+    }
+}
+
+pub fn listing(file: &[u8], work: &mut [u32], out: &mut [u8]) -> i64 {
+    // SAFETY: as for `column`.
+    unsafe {
+        foreign::th_listing(
+            file.as_ptr(),
+            file.len(),
             work.as_mut_ptr(),
             work.len(),
             out.as_mut_ptr(),

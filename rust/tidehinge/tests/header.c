@@ -1,5 +1,5 @@
 /* Prints what the header says of numbers: the bounds, and each refusal with its words. Then it
- * makes a call, so that it has to be linked with the library. It is a program in C and in C++. */
+ * makes calls, so that it has to be linked with the library. It is a program in C and in C++. */
 #include <stdio.h>
 
 #include "tidehinge.h"
@@ -22,5 +22,9 @@ int main(void) {
     static const uint8_t file[] = {0};
     static uint32_t work[TH_WORK];
     printf("%s\n", th_words(th_check(file, sizeof file, work, TH_WORK)));
+    static const uint8_t pair[] = {0, 0};
+    static uint8_t text[9 * sizeof pair];
+    int64_t length = th_listing(pair, sizeof pair, work, TH_WORK, text, sizeof text);
+    printf("%.*s", (int)length, (const char *)text);
     return 0;
 }

@@ -2,7 +2,8 @@
 
 mod common;
 
-use common::{check, column, e, e_with, objects, COUNT, D, END, FIELDS, SEVERAL};
+use common::{check, column, e, e_with, listing, objects};
+use common::{COUNT, D, END, FIELDS, LISTING, SEVERAL};
 use tidehinge::Refusal;
 
 #[test]
@@ -13,6 +14,13 @@ fn the_two_files() {
     assert_eq!(check(&e()), Ok(()));
     assert_eq!(objects(&e(), "date"), Ok(3));
     assert_eq!(column(&e(), "date", "date", 11), Ok(vec![1, -1, 256]));
+}
+
+#[test]
+fn the_two_listings() {
+    assert_eq!(listing(&e()).as_deref(), Ok(LISTING));
+    let last_pair = LISTING.find("pair\t0").unwrap();
+    assert_eq!(listing(&D).as_deref(), Ok(&LISTING[..last_pair]));
 }
 
 /// The files of the folder `examples` are the same two.
@@ -27,11 +35,13 @@ fn the_empty_file() {
     assert_eq!(check(&[]), Ok(()));
     assert_eq!(objects(&[], ""), Err(Refusal::NoType));
     assert_eq!(column(&[], "", "", 11), Err(Refusal::NoType));
+    assert_eq!(listing(&[]).as_deref(), Ok(""));
 }
 
 /// Every call tells the fault, whatever it was asked for.
 fn assert_refused(file: &[u8], refusal: Refusal) {
     assert_eq!(check(file), Err(refusal));
+    assert_eq!(listing(file), Err(refusal));
     for name in ["date", "no such name"] {
         assert_eq!(objects(file, name), Err(refusal));
         assert_eq!(column(file, name, "date", 11), Err(refusal));
@@ -95,6 +105,30 @@ fn kinds() {
     assert_kind("a", "c", 6, &[1, 0]);
     assert_kind("b", "a", 32, &[2]);
     assert_kind("b", "b", 14, &[3]);
+}
+
+/// Strings in hex, a constant, a subtype with its start, and values of kinds
+/// that are not v64.
+#[test]
+fn listing_of_several_kinds() {
+    let lines = [
+        "pair\t3\t2",
+        "str\t61",
+        "str\t62",
+        "str\t63",
+        "type\t1\t0\t-\t2\t2",
+        "new\t0,3\t2",
+        "new\t6\t3",
+        "type\t2\t1\t1\t1\t2",
+        "new\t33\t1",
+        "new\t14\t2",
+        "val\t1",
+        "val\t0",
+        "val\t2",
+        "val\t3",
+    ];
+    let expected = lines.map(|line| format!("{line}\n")).concat();
+    assert_eq!(listing(&SEVERAL), Ok(expected));
 }
 
 #[test]

@@ -2,10 +2,13 @@
 
 mod common;
 
-use common::{check, column, objects, table};
+use common::{check, column, listing, objects, table};
 use tidehinge::Refusal;
 
 const WEAR: &[u8] = include_bytes!("../../../examples/wear.skill");
+
+/// What the second program prints for it.
+const LISTING: &str = include_str!("../../../examples/wear.listing");
 
 /// The wear of the forty drives, a line for each week in which some came.
 #[rustfmt::skip]
@@ -49,6 +52,11 @@ fn room_for_forty() {
     assert_eq!(out, VALUES);
 }
 
+#[test]
+fn listing_of_all_weeks() {
+    assert_eq!(listing(WEAR).as_deref(), Ok(LISTING));
+}
+
 /// The hours come in week 9, for the drives before it too.
 #[test]
 fn the_late_field() {
@@ -85,6 +93,7 @@ fn cut_short() {
         match column(part, "drive", "wear", 11) {
             Ok(wear) => {
                 assert_eq!(wear, VALUES[..wear.len()]);
+                assert!(LISTING.starts_with(&listing(part).unwrap()));
                 weeks += 1;
             }
             Err(Refusal::NoType) => assert_eq!(length, 0),

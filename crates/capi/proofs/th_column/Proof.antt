@@ -1,10 +1,12 @@
 use mathlib.Core.Path.{_∙_}
+use native.Mathlib.Omega.{arith}
 use mir.Facts.{toZ-ofZ}
-use Rattle.capi.specs.Coded.{as-coded}
+use Rattle.walk.specs.FileLaws.{all-bytes}
+use Rattle.capi.specs.Coded.{as-coded, column-plain}
 use borrow.Author.Needs.{needs}
 use Rattle.capi.proofs.th_column.Statement.{statement}
 use Rattle.capi.proofs.th_column.Tie as tie
 
 pub th-column-spec : {M : Type 1} → statement M
 th-column-spec =
-    tie.close (tie.spec (λ c κs. search needs) (λ c κs. search needs) (λ c. search needs) (λ c. search needs) (λ c. as-coded _ (toZ-ofZ (record { sfits = c .one-number .ok }) ∙ c .one-number .ensures) (c .before .before .before .before .column .ensures)))
+    tie.close (tie.spec (λ c κs. search needs) (λ c κs. search needs) (λ c. search needs) (λ c. search needs) (λ c. as-coded _ (toZ-ofZ (record { sfits = c .one-number .ok }) ∙ c .one-number .ensures) (c .before .before .before .before .column .ensures) (column-plain _ _ (all-bytes ((c .before .before .before .before .before .before .before .before .before .before .before) .args .file .now) (λ i. omega (arith, c .before .before .before .before .before .before .before .before .before .before .shared-slice-known .given i))) _ _ _ _)))

@@ -14,6 +14,20 @@ pub const D: [u8; 29] = [
 /// What stands behind `D` in the second file: one more object, value 256.
 pub const LAST_PAIR: [u8; 8] = [0x00, 0x01, 0x01, 0x01, 0x01, 0x02, 0x80, 0x02];
 
+/// The listing of the second file.
+pub const LISTING: &str = "\
+pair\t1\t1
+str\t64617465
+type\t1\t0\t-\t2\t1
+new\t11\t1
+val\t1
+val\t-1
+pair\t0\t1
+type\t1\t-\t-\t1\t1
+old
+val\t256
+";
+
 /// Places in the last pair.
 pub const COUNT: usize = 3;
 pub const FIELDS: usize = 4;
@@ -70,4 +84,16 @@ pub fn column(file: &[u8], type_name: &str, field: &str, kind: u64) -> Result<Ve
     );
     out.truncate(count);
     Ok(out)
+}
+
+/// A listing with room for any that has no fixed arrays of length 0.
+pub fn listing(file: &[u8]) -> Result<String, Refusal> {
+    let mut out = vec![7; 9 * file.len()];
+    let length = tidehinge::listing(file, &mut table(), &mut out)?;
+    assert!(
+        out[length..].iter().all(|&byte| byte == 7),
+        "the rest of the output is touched"
+    );
+    out.truncate(length);
+    Ok(String::from_utf8(out).expect("a listing is text"))
 }
