@@ -38,25 +38,29 @@ fn of_file<R: Reader>(
 ) -> Result<(), Mismatch> {
     let tables = tables(comparison);
     comparison.ask_tables(origin, file, &Call::Check, &tables)?;
-    let calls = calls(file, &mut comparison.random);
+    let (listings, calls) = calls(file, &mut comparison.random);
+    for call in listings {
+        comparison.ask_tables(origin, file, &call, &tables)?;
+    }
     for call in calls.iter().take(affordable(file.len())) {
         comparison.ask_call(origin, file, call)?;
     }
     Ok(())
 }
 
-/// What to ask beyond a check, the more telling calls first. A refused file gets one of each.
-fn calls(file: &[u8], random: &mut Random) -> Vec<Call> {
+/// What to ask beyond a check: listings, and names and kinds, the more telling ones first. A refused file gets few of
+/// each.
+fn calls(file: &[u8], random: &mut Random) -> (Vec<Call>, Vec<Call>) {
     match reader::read(file) {
         Ok(ledger) => {
             let Calls { right, wrong } = plan::calls(file, &ledger, random);
-            [right, wrong].concat()
+            (plan::listings(file, random), [right, wrong].concat())
         }
-        Err(_) => plan::any_calls(random),
+        Err(_) => (plan::any_listings(random), plan::any_calls(random)),
     }
 }
 
-/// The lengths of the table that every file is checked with.
+/// The lengths of the table that every file is checked and listed with.
 fn tables<R: Reader>(comparison: &mut Comparison<'_, R>) -> [usize; 7] {
     let short = comparison.short_table();
     let long = comparison.long_table();

@@ -5,7 +5,7 @@ use std::fmt::Display;
 use second::bounds::{OBJECTS, TABLE};
 use second::generate::random::Random;
 
-use crate::question::{Call, Question};
+use crate::question::Question;
 
 /// Guard numbers on either side. They are odd in number, so that what is lent begins at no rounder address than its type
 /// asks for.
@@ -27,6 +27,19 @@ impl<T: Copy + PartialEq + Display> Lent<T> {
         for part in [guard, numbers, guard] {
             self.cells.extend_from_slice(part);
         }
+    }
+
+    /// Lends so many numbers, these ones over and over, between these guards.
+    fn lend_again(&mut self, numbers: &[T], room: usize, guard: &[T]) {
+        self.cells.clear();
+        self.cells.extend_from_slice(guard);
+        let mut left = room;
+        while left > 0 {
+            let some = left.min(numbers.len());
+            self.cells.extend_from_slice(&numbers[..some]);
+            left -= some;
+        }
+        self.cells.extend_from_slice(guard);
     }
 
     pub fn numbers(&self) -> &[T] {
@@ -63,6 +76,7 @@ pub struct Memory {
     pub field_name: Lent<u8>,
     pub table: Lent<u32>,
     pub out: Lent<i64>,
+    pub text: Lent<u8>,
 }
 
 impl Memory {
@@ -73,24 +87,24 @@ impl Memory {
             field_name: Lent::empty(),
             table: Lent::empty(),
             out: Lent::empty(),
+            text: Lent::empty(),
         }
     }
 
     /// Lends what a question needs. `start` chooses the contents: the same one gives the same.
     pub fn lend(&mut self, question: &Question<'_>, contents: &Contents, start: usize) {
         let (type_name, field_name) = question.call.names();
-        let bytes = &contents.bytes[start..start + GUARD];
-        self.file.lend(question.file, bytes);
-        self.type_name.lend(type_name, bytes);
-        self.field_name.lend(field_name, bytes);
+        let bytes = &contents.bytes[start..start + Contents::MORE];
+        let guard = &bytes[..GUARD];
+        self.file.lend(question.file, guard);
+        self.type_name.lend(type_name, guard);
+        self.field_name.lend(field_name, guard);
         let table = &contents.table[start..];
         self.table.lend(&table[..question.table], &table[..GUARD]);
-        let room = match question.call {
-            Call::Column { room, .. } => *room,
-            Call::Check | Call::Objects { .. } => 0,
-        };
+        let (numbers, text) = question.call.rooms();
         let out = &contents.out[start..];
-        self.out.lend(&out[..room], &out[..GUARD]);
+        self.out.lend(&out[..numbers], &out[..GUARD]);
+        self.text.lend_again(bytes, text, guard);
     }
 
     /// What differs, and where first.
@@ -101,6 +115,7 @@ impl Memory {
             ("field name", self.field_name.difference(&second.field_name)),
             ("table", self.table.difference(&second.table)),
             ("output", self.out.difference(&second.out)),
+            ("text", self.text.difference(&second.text)),
         ];
         let mut found = parts.into_iter();
         found.find_map(|(part, where_first)| where_first.map(|text| (part, text)))
@@ -122,10 +137,11 @@ impl Contents {
     pub const MORE: usize = 4_096;
 
     pub fn new(random: &mut Random) -> Self {
+        let bytes = Self::STARTS + Self::MORE;
         let table = Self::STARTS + TABLE + Self::MORE;
         let out = Self::STARTS + OBJECTS as usize + Self::MORE;
         Contents {
-            bytes: (0..Self::STARTS + GUARD).map(|_| random.byte()).collect(),
+            bytes: (0..bytes).map(|_| random.byte()).collect(),
             // No number is 0, so one that was not cleared is seen.
             table: (0..table).map(|_| random.word() as u32 | 1).collect(),
             out: (0..out).map(|_| random.word() as i64).collect(),
@@ -136,6 +152,7 @@ impl Contents {
 #[cfg(test)]
 mod tests {
     use super::*;
+    use crate::question::Call;
 
     fn lent(numbers: &[u32]) -> Lent<u32> {
         let mut lent = Lent::empty();
@@ -164,19 +181,13 @@ mod tests {
         assert_eq!(said, Some("number 2 of 3: 7, second 3".to_string()));
     }
 
-    #[test]
-    fn a_changed_file_or_name_is_seen() {
+    /// What is seen of a change in the memory of a call.
+    fn seen(call: &Call, change: fn(&mut Memory)) -> Option<&'static str> {
         let contents = Contents::new(&mut Random::new(1));
-        let call = Call::Column {
-            type_name: b"a".to_vec(),
-            field_name: b"b".to_vec(),
-            kind: 11,
-            room: 2,
-        };
         let question = Question {
             origin: "a test",
             file: &[0, 0],
-            call: &call,
+            call,
             table: 3,
         };
         let memory = || {
@@ -184,16 +195,35 @@ mod tests {
             memory.lend(&question, &contents, 5);
             memory
         };
-        let seen = |change: fn(&mut Memory)| {
-            let mut changed = memory();
-            change(&mut changed);
-            changed.difference(&memory()).map(|(part, _)| part)
+        let mut changed = memory();
+        change(&mut changed);
+        changed.difference(&memory()).map(|(part, _)| part)
+    }
+
+    #[test]
+    fn a_changed_part_is_seen() {
+        let call = Call::Column {
+            type_name: b"a".to_vec(),
+            field_name: b"b".to_vec(),
+            kind: 11,
+            room: 2,
         };
+        let seen = |change| seen(&call, change);
         assert_eq!(seen(|_| ()), None);
         assert_eq!(seen(|m| m.file.numbers_mut()[0] ^= 1), Some("file"));
         assert_eq!(seen(|m| m.type_name.cells[0] ^= 1), Some("type name"));
         assert_eq!(seen(|m| m.field_name.cells[61] ^= 1), Some("field name"));
         assert_eq!(seen(|m| m.table.numbers_mut()[2] ^= 1), Some("table"));
         assert_eq!(seen(|m| m.out.cells[63] ^= 1), Some("output"));
+    }
+
+    #[test]
+    fn a_changed_text_is_seen() {
+        let room = 3 * Contents::MORE + 1;
+        let seen = |change| seen(&Call::Listing { room }, change);
+        assert_eq!(seen(|_| ()), None);
+        assert_eq!(seen(|m| m.text.numbers_mut()[12_288] ^= 1), Some("text"));
+        assert_eq!(seen(|m| m.text.cells[60] ^= 1), Some("text"));
+        assert_eq!(seen(|m| m.text.cells[12_350] ^= 1), Some("text"));
     }
 }

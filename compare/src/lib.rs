@@ -1,9 +1,9 @@
 //! Holds a reader of ledgers to the second program.
 //!
 //! Both are asked the same calls over equal memory. Afterwards the answers must be equal, and so must every number that
-//! was lent: file, names, work table, column, and the guards around each of them. The proved library is one such reader
-//! (it stands in the program, so that this part needs nothing linked); the tests put wrong ones in its place, and each
-//! must be noticed.
+//! was lent: file, names, work table, column, text, and the guards around each of them. The proved library is one such
+//! reader (it stands in the program, so that this part needs nothing linked); the tests put wrong ones in its place, and
+//! each must be noticed.
 
 #![forbid(unsafe_code)]
 

@@ -9,7 +9,7 @@ const LAST: usize = 21;
 #[derive(Default)]
 pub struct Met {
     /// By call: done, then each refusal by its number.
-    answers: [[u64; LAST + 1]; 3],
+    answers: [[u64; LAST + 1]; NAMES.len()],
 }
 
 impl Met {
@@ -57,12 +57,13 @@ fn named(number: usize) -> String {
     }
 }
 
-/// Whether a call can give this answer. No file gets 8, and 20 is for listings.
+/// Whether a call can give this answer. No file gets 8, and 20 is for what is built from a listing.
 fn possible(call: usize, number: usize) -> bool {
     match number {
         8 | 20 => false,
-        16 => call >= 1,
-        17..=19 => call == 2,
+        16 => matches!(NAMES[call], "objects" | "column"),
+        17 | 18 => NAMES[call] == "column",
+        19 => matches!(NAMES[call], "column" | "listing"),
         _ => true,
     }
 }

@@ -1,10 +1,12 @@
 //! What is asked of a file: right and wrong names, kinds and rooms.
 
+use second::bounds::{FIELDS, OBJECTS, TABLE};
 use second::generate::random::Random;
 use second::kind::REFERENCE;
 use second::ledger::Ledger;
 
 use crate::question::Call;
+use crate::reader::{Reader, Second};
 
 /// The calls to ask of an accepted file, in an order by chance, so that the front of a list is a fair choice.
 pub struct Calls {
@@ -31,6 +33,34 @@ pub fn calls(file: &[u8], ledger: &Ledger<'_>, random: &mut Random) -> Calls {
     random.shuffle(&mut right);
     random.shuffle(&mut wrong);
     Calls { right, wrong }
+}
+
+/// The listing of an accepted file, with rooms of all sizes, the exact one first.
+pub fn listings(file: &[u8], random: &mut Random) -> Vec<Call> {
+    let rooms = rooms(listing_length(file), random).into_iter();
+    rooms.map(|room| Call::Listing { room }).collect()
+}
+
+/// The length of an accepted file's listing.
+fn listing_length(file: &[u8]) -> usize {
+    // Values of fixed arrays of length 0 have no byte in the file.
+    let empty = b"val\n".len() * FIELDS * OBJECTS as usize;
+    let lengths = [0, empty].into_iter().map(|more| {
+        let mut text = vec![0; LONGEST * file.len() + more];
+        Second.listing(file, &mut vec![0; TABLE], &mut text)
+    });
+    let mut enough = lengths.filter_map(|length| usize::try_from(length).ok());
+    enough.next().expect("a listing is longer than we say")
+}
+
+/// How many bytes of a listing stand for one of the file at most, as `c/tidehinge.h` says: an i8 may be `val`, a tab,
+/// `-128` and a newline.
+const LONGEST: usize = 9;
+
+/// The listing of a file that is refused.
+pub fn any_listings(random: &mut Random) -> Vec<Call> {
+    let rooms = [0, random.index(90), random.index(9_000)];
+    rooms.map(|room| Call::Listing { room }).to_vec()
 }
 
 /// Two calls on a file that is refused, whatever is asked.
@@ -122,7 +152,7 @@ impl Plan<'_, '_> {
     }
 
     fn with_rooms(&mut self, right: Column<'_>) {
-        for room in self.rooms(right.room) {
+        for room in rooms(right.room, self.random) {
             self.right.push(Column { room, ..right }.call());
         }
     }
@@ -176,15 +206,6 @@ impl Plan<'_, '_> {
         }
     }
 
-    /// Rooms for so many numbers: exact, more, too little, none.
-    fn rooms(&mut self, exact: usize) -> Vec<usize> {
-        let mut rooms = vec![exact, exact + 1, exact + self.random.index(90)];
-        if exact > 0 {
-            rooms.extend([exact - 1, self.random.index(exact), 0]);
-        }
-        rooms
-    }
-
     /// Names that are nearly this one, and others of the file.
     fn near(&mut self, name: &[u8]) -> Vec<Vec<u8>> {
         let mut names = vec![[name, b"\0"].concat(), Vec::new()];
@@ -199,6 +220,15 @@ impl Plan<'_, '_> {
         names.push(self.file[..self.random.index(self.file.len().min(300))].to_vec());
         names
     }
+}
+
+/// Rooms for so many numbers or bytes: exact, more, too little, none.
+fn rooms(exact: usize, random: &mut Random) -> Vec<usize> {
+    let mut rooms = vec![exact, exact + 1, exact + random.index(90)];
+    if exact > 0 {
+        rooms.extend([exact - 1, random.index(exact), 0]);
+    }
+    rooms
 }
 
 /// Kinds to ask for where the field has another: all small numbers, and some that are the right one if only their low bits

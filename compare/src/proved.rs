@@ -28,6 +28,15 @@ extern "C" {
         out: *mut i64,
         out_length: usize,
     ) -> i64;
+
+    fn th_listing(
+        file: *const u8,
+        file_length: usize,
+        work: *mut u32,
+        work_length: usize,
+        out: *mut u8,
+        out_length: usize,
+    ) -> i64;
 }
 
 /// The proved library as a reader.
@@ -70,6 +79,20 @@ impl Reader for Proved {
                 table.len(),
                 out.as_mut_ptr(),
                 out.len(),
+            )
+        }
+    }
+
+    fn listing(&self, file: &[u8], table: &mut [u32], text: &mut [u8]) -> i64 {
+        // SAFETY: as for `column`.
+        unsafe {
+            th_listing(
+                file.as_ptr(),
+                file.len(),
+                table.as_mut_ptr(),
+                table.len(),
+                text.as_mut_ptr(),
+                text.len(),
             )
         }
     }

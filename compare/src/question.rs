@@ -19,10 +19,14 @@ pub enum Call {
         /// How many numbers of output are lent.
         room: usize,
     },
+    Listing {
+        /// How many bytes of output are lent.
+        room: usize,
+    },
 }
 
 /// The names of the calls, in the order of [`Call::index`].
-pub const NAMES: [&str; 3] = ["check", "objects", "column"];
+pub const NAMES: [&str; 4] = ["check", "objects", "column", "listing"];
 
 impl Call {
     pub fn index(&self) -> usize {
@@ -30,19 +34,29 @@ impl Call {
             Call::Check => 0,
             Call::Objects { .. } => 1,
             Call::Column { .. } => 2,
+            Call::Listing { .. } => 3,
         }
     }
 
     /// The names of type and field, empty where the call has none.
     pub fn names(&self) -> (&[u8], &[u8]) {
         match self {
-            Call::Check => (&[], &[]),
+            Call::Check | Call::Listing { .. } => (&[], &[]),
             Call::Objects { type_name } => (type_name, &[]),
             Call::Column {
                 type_name,
                 field_name,
                 ..
             } => (type_name, field_name),
+        }
+    }
+
+    /// How many numbers and how many bytes of output are lent.
+    pub fn rooms(&self) -> (usize, usize) {
+        match *self {
+            Call::Check | Call::Objects { .. } => (0, 0),
+            Call::Column { room, .. } => (room, 0),
+            Call::Listing { room } => (0, room),
         }
     }
 }
@@ -65,6 +79,7 @@ impl Question<'_> {
             field_name,
             table,
             out,
+            text,
         } = memory;
         let (file, table) = (file.numbers(), table.numbers_mut());
         let (type_name, field_name) = (type_name.numbers(), field_name.numbers());
@@ -79,6 +94,7 @@ impl Question<'_> {
                 };
                 reader.column(file, asked, table, out.numbers_mut())
             }
+            Call::Listing { .. } => reader.listing(file, table, text.numbers_mut()),
         }
     }
 }
@@ -95,6 +111,9 @@ impl Display for Question<'_> {
         }
         if let Call::Column { kind, room, .. } = self.call {
             write!(to, ", field {}, kind {kind}, room {room}", hex(field_name))?;
+        }
+        if let Call::Listing { room } = self.call {
+            write!(to, ", room {room}")?;
         }
         writeln!(to, ", table {}", self.table)?;
         write!(to, "file    {}, {} bytes", self.origin, self.file.len())?;

@@ -2,13 +2,15 @@
 
 use second::Refusal;
 
-/// The three calls as the C functions have them: an answer of 0 or more is done, one below 0 is minus the refusal number.
+/// The four calls as the C functions have them: an answer of 0 or more is done, one below 0 is minus the refusal number.
 pub trait Reader {
     fn check(&self, file: &[u8], table: &mut [u32]) -> i64;
 
     fn objects(&self, file: &[u8], type_name: &[u8], table: &mut [u32]) -> i64;
 
     fn column(&self, file: &[u8], asked: Asked<'_>, table: &mut [u32], out: &mut [i64]) -> i64;
+
+    fn listing(&self, file: &[u8], table: &mut [u32], text: &mut [u8]) -> i64;
 }
 
 /// Which column is asked for.
@@ -39,6 +41,10 @@ impl Reader for Second {
         } = asked;
         let answer = second::column(file, type_name, field_name, kind, table, out);
         number(answer)
+    }
+
+    fn listing(&self, file: &[u8], table: &mut [u32], text: &mut [u8]) -> i64 {
+        number(second::listing(file, table, text))
     }
 }
 

@@ -2,7 +2,7 @@
 
 mod common;
 
-use common::{e, e_with, table, END};
+use common::{e, e_with, table, END, LISTING};
 use tidehinge::{Refusal, WORK};
 
 /// Any call, over a table.
@@ -35,12 +35,17 @@ fn column_of(file: &[u8], kind: u64, work: &mut [u32], out: &mut [i64]) -> Resul
     tidehinge::column(file, b"date", b"date", kind, work, out)
 }
 
+fn listing_of(file: &[u8], work: &mut [u32]) -> Result<usize, Refusal> {
+    tidehinge::listing(file, work, &mut [0; 400])
+}
+
 #[test]
 fn tables_after_an_answer() {
     let file = e();
     assert_tables(&|work| tidehinge::check(&file, work).map(|()| 0), Ok(0));
     assert_tables(&|work| tidehinge::objects(&file, b"date", work), Ok(3));
     assert_tables(&|work| column_of(&file, 11, work, &mut [0; 9]), Ok(3));
+    assert_tables(&|work| listing_of(&file, work), Ok(LISTING.len()));
 }
 
 #[test]
@@ -50,6 +55,7 @@ fn tables_after_a_fault_of_the_file() {
     assert_tables(&|work| tidehinge::check(&file, work).map(|()| 0), refused);
     assert_tables(&|work| tidehinge::objects(&file, b"date", work), refused);
     assert_tables(&|work| column_of(&file, 11, work, &mut [0; 9]), refused);
+    assert_tables(&|work| listing_of(&file, work), refused);
 }
 
 #[test]
@@ -59,6 +65,7 @@ fn tables_after_a_file_that_is_too_long() {
     assert_tables(&|work| tidehinge::check(&file, work).map(|()| 0), refused);
     assert_tables(&|work| tidehinge::objects(&file, b"date", work), refused);
     assert_tables(&|work| column_of(&file, 11, work, &mut [0; 9]), refused);
+    assert_tables(&|work| listing_of(&file, work), refused);
 }
 
 #[test]
@@ -70,6 +77,8 @@ fn tables_after_a_question_without_an_answer() {
     assert_tables(&|work| column_of(&file, 10, work, &mut [0; 9]), other_kind);
     let room = Err(Refusal::Room);
     assert_tables(&|work| column_of(&file, 11, work, &mut [0; 2]), room);
+    let listing = |work: &mut [u32]| tidehinge::listing(&file, work, &mut [0; 94]);
+    assert_tables(&listing, room);
 }
 
 #[test]
@@ -125,6 +134,54 @@ fn a_refusal_leaves_the_column() {
     assert_eq!(out, [-5; 9]);
 }
 
+#[test]
+fn rooms_of_a_listing() {
+    assert_eq!(LISTING.len(), 95);
+    for length in 0..95 {
+        let mut out = vec![5; length];
+        let answer = tidehinge::listing(&e(), &mut table(), &mut out);
+        assert_eq!(answer, Err(Refusal::Room), "{length}");
+        assert_eq!(out, vec![5; length]);
+    }
+    for length in [95, 96, 900] {
+        let mut out = vec![5; length];
+        let answer = tidehinge::listing(&e(), &mut table(), &mut out);
+        assert_eq!(answer, Ok(95), "{length}");
+        assert_eq!(out[..95], *LISTING.as_bytes());
+        assert!(out[95..].iter().all(|&byte| byte == 5));
+    }
+}
+
+/// The empty file has an empty listing.
+#[test]
+fn no_room_is_enough_for_no_lines() {
+    assert_eq!(tidehinge::listing(&[], &mut table(), &mut []), Ok(0));
+    let mut out = [5; 3];
+    assert_eq!(tidehinge::listing(&[], &mut table(), &mut out), Ok(0));
+    assert_eq!(out, [5; 3]);
+}
+
+fn assert_listing_left(file: &[u8], work: &mut [u32], room: usize, refusal: Refusal) {
+    let mut out = vec![5; room];
+    let answer = tidehinge::listing(file, work, &mut out);
+    assert_eq!(answer, Err(refusal), "room {room}");
+    assert_eq!(out, vec![5; room]);
+}
+
+/// The table comes first, then the file, then the room; nothing is written,
+/// also where the fault stands behind good lines.
+#[test]
+fn a_refusal_leaves_the_listing() {
+    let good = e();
+    for room in [0, 94, 95, 900] {
+        assert_listing_left(&good[..36], &mut table(), room, Refusal::Short);
+        assert_listing_left(&e_with(END, 1), &mut table(), room, Refusal::Chunk);
+        for file in [&good[..], &good[..36]] {
+            assert_listing_left(file, &mut [1; WORK - 1], room, Refusal::Table);
+        }
+    }
+}
+
 /// One table serves call after call, and calls at the same time do not meet.
 #[test]
 fn threads_with_tables_of_their_own() {
@@ -137,6 +194,7 @@ fn threads_with_tables_of_their_own() {
                 for _ in 0..50 {
                     assert_eq!(column_of(&file, 11, &mut work, &mut out), Ok(3));
                     assert_eq!(out, [1, -1, 256]);
+                    assert_eq!(listing_of(&file, &mut work), Ok(95));
                     assert_eq!(
                         tidehinge::check(&file[..30], &mut work),
                         Err(Refusal::Short)
