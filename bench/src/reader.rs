@@ -4,7 +4,9 @@
 //! What is compared: both are asked by the same calls, read the whole file, and leave the lent table cleared. The second
 //! program keeps what it reads in lists on the heap, which it makes anew for each call and drops at its end; the proved one
 //! keeps it in the lent table, and has no heap. Neither is spared its own way, since a caller pays for it at every call. A
-//! file has few such lists, so nearly all of the time is the values', and the smaller sizes show what is left.
+//! file has few such lists, so nearly all of the time is the values', and the smaller sizes show what is left. A listing
+//! the second program makes on the heap and copies; the proved one counts its bytes first and then writes each where it
+//! belongs.
 //!
 //! The last column is a floor: a loop that reads one v64 after another and asks nothing of them. It has no number where a
 //! file holds more than v64 numbers.
@@ -17,7 +19,7 @@ use std::time::Instant;
 
 use compare::reader::{Asked, Reader, Second};
 use second::big;
-use second::bounds::{OBJECTS, TABLE};
+use second::bounds::{FILE, OBJECTS, TABLE};
 use second::v64;
 
 use proved::Proved;
@@ -41,6 +43,7 @@ type Maker = fn(u64) -> Vec<u8>;
 struct Memory {
     table: Vec<u32>,
     out: Vec<i64>,
+    text: Vec<u8>,
 }
 
 impl Memory {
@@ -48,6 +51,7 @@ impl Memory {
         Memory {
             table: vec![1; TABLE],
             out: vec![0; OBJECTS as usize],
+            text: vec![0; 9 * FILE],
         }
     }
 }
@@ -57,7 +61,7 @@ fn check(reader: &dyn Reader, file: &[u8], memory: &mut Memory) -> i64 {
 }
 
 fn column(reader: &dyn Reader, file: &[u8], memory: &mut Memory) -> i64 {
-    let Memory { table, out } = memory;
+    let Memory { table, out, .. } = memory;
     let asked = Asked {
         type_name: big::TYPE,
         field_name: big::FIELD,
@@ -66,25 +70,52 @@ fn column(reader: &dyn Reader, file: &[u8], memory: &mut Memory) -> i64 {
     reader.column(file, asked, table, out)
 }
 
+fn listing(reader: &dyn Reader, file: &[u8], memory: &mut Memory) -> i64 {
+    let Memory { table, text, .. } = memory;
+    reader.listing(file, table, text)
+}
+
+/// A check of a file, by its bytes.
+fn row_of_check(name: &'static str, make: Maker, part: u64) -> Row {
+    let file = make(part);
+    Row {
+        name,
+        part,
+        units: file.len(),
+        file,
+        call: check,
+    }
+}
+
+/// The listing of a file, by its own bytes.
+fn row_of_listing(name: &'static str, make: Maker, part: u64) -> Row {
+    let file = make(part);
+    Row {
+        name,
+        part,
+        units: listing(&Second, &file, &mut Memory::new()) as usize,
+        file,
+        call: listing,
+    }
+}
+
 fn rows() -> Vec<Row> {
     let checks: [(&str, Maker); 3] = [
         ("check v64 values, a byte", big::v64_values),
         ("check mixed kinds, a byte", big::mixed_kinds),
         ("check references, a byte", big::references),
     ];
+    let listings: [(&str, Maker); 3] = [
+        ("list v64 values, a byte", big::v64_values),
+        ("list mixed kinds, a byte", big::mixed_kinds),
+        ("list references, a byte", big::references),
+    ];
     let mut rows = Vec::new();
     for (name, make) in checks {
-        rows.extend(big::PARTS.map(|part| {
-            let file = make(part);
-            let units = file.len();
-            Row {
-                name,
-                part,
-                file,
-                call: check,
-                units,
-            }
-        }));
+        rows.extend(big::PARTS.map(|part| row_of_check(name, make, part)));
+    }
+    for (name, make) in listings {
+        rows.extend(big::PARTS.map(|part| row_of_listing(name, make, part)));
     }
     rows.extend(big::PARTS.map(|part| Row {
         name: "column of v64, a value",
@@ -104,6 +135,7 @@ fn agree(row: &Row) {
     assert_eq!(answer, (row.call)(&Second, &row.file, second));
     assert!(answer >= 0, "{} is refused", row.name);
     assert_eq!(first.out, second.out);
+    assert!(first.text == second.text);
 }
 
 /// Reads one v64 after another; whether that was the whole file.

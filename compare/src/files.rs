@@ -39,10 +39,9 @@ fn of_file<R: Reader>(
     let tables = tables(comparison);
     comparison.ask_tables(origin, file, &Call::Check, &tables)?;
     let (listings, calls) = calls(file, &mut comparison.random);
-    for call in listings {
-        comparison.ask_tables(origin, file, &call, &tables)?;
-    }
-    for call in calls.iter().take(affordable(file.len())) {
+    comparison.ask_tables(origin, file, &listings[0], &tables)?;
+    let affordable = calls.iter().take(affordable(file.len()));
+    for call in listings[1..].iter().chain(affordable) {
         comparison.ask_call(origin, file, call)?;
     }
     Ok(())

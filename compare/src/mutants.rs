@@ -50,8 +50,19 @@ fn of_mutant<R: Reader>(
                 comparison.ask_call(origin, file, call)?;
             }
         }
+        let listing = a_listing(file, answer == 0, &mut comparison.random);
+        comparison.ask_call(origin, file, &listing)?;
     }
     Ok(())
+}
+
+/// A listing with one of its rooms.
+fn a_listing(file: &[u8], accepted: bool, random: &mut Random) -> Call {
+    let listings = match accepted {
+        true => plan::listings(file, random),
+        false => plan::any_listings(random),
+    };
+    random.pick(&listings).clone()
 }
 
 fn bases(random: &mut Random) -> Vec<Base> {

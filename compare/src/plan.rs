@@ -57,9 +57,9 @@ fn listing_length(file: &[u8]) -> usize {
 /// `-128` and a newline.
 const LONGEST: usize = 9;
 
-/// The listing of a file that is refused.
+/// The listing of a file that is refused, first with some room.
 pub fn any_listings(random: &mut Random) -> Vec<Call> {
-    let rooms = [0, random.index(90), random.index(9_000)];
+    let rooms = [random.index(900), 0, random.index(9_000)];
     rooms.map(|room| Call::Listing { room }).to_vec()
 }
 

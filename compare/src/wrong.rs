@@ -14,52 +14,67 @@ struct Left<'a> {
     type_name: &'a [u8],
     answer: i64,
     table: &'a mut [u32],
+    /// The output of a column.
     out: &'a mut [i64],
-    /// The output as it was lent.
+    /// The same as it was lent.
     lent: Vec<i64>,
+    /// The output of a listing.
+    text: &'a mut [u8],
+    /// The same as it was lent.
+    lent_text: Vec<u8>,
+}
+
+impl<'a> Left<'a> {
+    /// What a call without names and output leaves.
+    fn of(file: &'a [u8], answer: i64, table: &'a mut [u32]) -> Self {
+        Left {
+            file,
+            type_name: &[],
+            answer,
+            table,
+            out: &mut [],
+            lent: Vec::new(),
+            text: &mut [],
+            lent_text: Vec::new(),
+        }
+    }
 }
 
 /// A reader that spoils what the second program leaves, and answers what the fault says.
 struct Spoiled(fn(Left<'_>) -> i64);
 
-impl Spoiled {
-    fn answer(
-        &self,
-        file: &[u8],
-        type_name: &[u8],
-        table: &mut [u32],
-        out: &mut [i64],
-        call: impl FnOnce(&mut [u32], &mut [i64]) -> i64,
-    ) -> i64 {
-        let lent = out.to_vec();
-        let answer = call(table, out);
-        (self.0)(Left {
-            file,
-            type_name,
-            answer,
-            table,
-            out,
-            lent,
-        })
-    }
-}
-
 impl Reader for Spoiled {
     fn check(&self, file: &[u8], table: &mut [u32]) -> i64 {
-        self.answer(file, b"", table, &mut [], |table, _| {
-            Second.check(file, table)
-        })
+        let answer = Second.check(file, table);
+        (self.0)(Left::of(file, answer, table))
     }
 
     fn objects(&self, file: &[u8], type_name: &[u8], table: &mut [u32]) -> i64 {
-        self.answer(file, type_name, table, &mut [], |table, _| {
-            Second.objects(file, type_name, table)
+        let answer = Second.objects(file, type_name, table);
+        (self.0)(Left {
+            type_name,
+            ..Left::of(file, answer, table)
         })
     }
 
     fn column(&self, file: &[u8], asked: Asked<'_>, table: &mut [u32], out: &mut [i64]) -> i64 {
-        self.answer(file, asked.type_name, table, out, |table, out| {
-            Second.column(file, asked, table, out)
+        let lent = out.to_vec();
+        let answer = Second.column(file, asked, table, out);
+        (self.0)(Left {
+            type_name: asked.type_name,
+            out,
+            lent,
+            ..Left::of(file, answer, table)
+        })
+    }
+
+    fn listing(&self, file: &[u8], table: &mut [u32], text: &mut [u8]) -> i64 {
+        let lent_text = text.to_vec();
+        let answer = Second.listing(file, table, text);
+        (self.0)(Left {
+            text,
+            lent_text,
+            ..Left::of(file, answer, table)
         })
     }
 }
@@ -99,10 +114,13 @@ fn an_idle_comparison_is_noticed() {
     let mut comparison = Comparison::new(&Second, SEED);
     assert!(files::compare(&mut comparison, "a test", &accepted).is_ok());
     let missing = comparison.met.missing();
-    for answer in ["check #1", "objects #21", "column done", "column #19"] {
+    let never = ["check #1", "objects #21", "column done", "column #19"];
+    for answer in never.into_iter().chain(["listing #14", "listing #19"]) {
         assert!(missing.iter().any(|said| said == answer), "{answer}");
     }
-    for answer in ["check done", "check #8", "check #16", "column #16"] {
+    let met = ["check done", "column #16", "listing done", "listing #15"];
+    let impossible = ["check #8", "check #16", "listing #16", "listing #20"];
+    for answer in met.into_iter().chain(impossible) {
         assert!(missing.iter().all(|said| said != answer), "{answer}");
     }
 }
@@ -162,7 +180,7 @@ fn reads_the_first_pair_and_pretends_for_the_values_of_the_rest() {
 #[test]
 fn invented_number_of_objects() {
     caught("answer", |left| match left.answer {
-        2.. => left.answer + 1,
+        2.. if left.text.is_empty() => left.answer + 1,
         other => other,
     });
 }
@@ -259,4 +277,124 @@ fn swapped(left: Left<'_>, from: i64, to: i64) -> i64 {
         refusal if refusal == from => to,
         other => other,
     }
+}
+
+#[test]
+fn prints_nothing() {
+    caught("text", |left| {
+        left.text.copy_from_slice(&left.lent_text);
+        left.answer
+    });
+}
+
+#[test]
+fn prints_one_byte_too_many() {
+    caught("text", |left| {
+        let behind = usize::try_from(left.answer).ok();
+        if let Some(byte) = behind.and_then(|at| left.text.get_mut(at)) {
+            *byte = byte.wrapping_add(1);
+        }
+        left.answer
+    });
+}
+
+#[test]
+fn prints_on_a_refusal() {
+    let faults: [fn(Left<'_>) -> i64; 4] = [
+        |left| printed_on(-1, left),
+        |left| printed_on(-14, left),
+        |left| printed_on(-15, left),
+        |left| printed_on(-19, left),
+    ];
+    for fault in faults {
+        caught("text", fault);
+    }
+}
+
+fn printed_on(refusal: i64, left: Left<'_>) -> i64 {
+    if left.answer == refusal {
+        left.text.fill(b'\n');
+    }
+    left.answer
+}
+
+/// The room is asked for before the file is read.
+#[test]
+fn room_before_the_file() {
+    caught("answer", |left| match left.answer {
+        -14..=-1 if left.text.len() < left.file.len() => -19,
+        other => other,
+    });
+}
+
+/// A listing with other lines, in the room of the right one.
+fn relined(left: Left<'_>, line: fn(&str) -> String) -> i64 {
+    let Ok(length) = usize::try_from(left.answer) else {
+        return left.answer;
+    };
+    if left.text.is_empty() {
+        return left.answer;
+    }
+    let right = String::from_utf8_lossy(&left.text[..length]).into_owned();
+    let wrong: String = right.split_inclusive('\n').map(line).collect();
+    left.text.copy_from_slice(&left.lent_text);
+    let Some(front) = left.text.get_mut(..wrong.len()) else {
+        return -19;
+    };
+    front.copy_from_slice(wrong.as_bytes());
+    wrong.len() as i64
+}
+
+/// A line of a single value from -99 to -10 as one from 157 to 246: the length stays.
+fn unsigned(line: &str) -> String {
+    let value = line.strip_prefix("val\t").map(str::trim_end);
+    match value.and_then(|value| value.parse().ok()) {
+        Some(value @ -99..=-10i64) => format!("val\t{}\n", 256 + value),
+        _ => line.to_string(),
+    }
+}
+
+#[test]
+fn prints_a_value_unsigned() {
+    caught("text", |left| relined(left, unsigned));
+}
+
+#[test]
+fn prints_minus_one_unsigned() {
+    let fault = |left: Left<'_>| relined(left, |line| line.replace("\t-1\n", "\t255\n"));
+    caught("answer", fault);
+}
+
+#[test]
+fn prints_other_words() {
+    let faults: [fn(Left<'_>) -> i64; 4] = [
+        |left| relined(left, |line| line.replace("old", "new")),
+        |left| relined(left, |line| line.replace('-', "0")),
+        |left| relined(left, |line| line.replace('\t', " ")),
+        |left| relined(left, |line| line.replace('f', "F")),
+    ];
+    for fault in faults {
+        caught("text", fault);
+    }
+}
+
+#[test]
+fn invented_length_of_a_listing() {
+    caught("answer", |left| match left.answer {
+        2.. if !left.text.is_empty() => left.answer + 1,
+        other => other,
+    });
+}
+
+#[test]
+fn prints_the_first_pair_and_pretends_for_the_rest() {
+    let fault = |left: Left<'_>| {
+        if left.answer > 0 && !left.text.is_empty() {
+            let first = first_pair(left.file);
+            let printed = Second.listing(first, left.table, left.text) as usize;
+            left.text[printed..].copy_from_slice(&left.lent_text[printed..]);
+        }
+        left.answer
+    };
+    assert_eq!(noticed(&generate::small(), fault), Some("text"));
 }

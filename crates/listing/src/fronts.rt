@@ -14,7 +14,7 @@ use lines::put_pair;
 use lines::put_string;
 use numbers::Cursor;
 use numbers::Number;
-use reader::heads::small;
+use reader::ruled::small;
 use reader::strings::Step;
 use reader::strings::read_strings;
 use reader::strings::refused_step;

@@ -108,19 +108,3 @@ module _ {f : List ℕ} {at : ℕ} {a : Number} (read : Read v64 (2 ^ 64) f at a
       pub count-in : inRange? s super start n ≡ true → Read (number (countRules s super start)) 65536 f at (Got n c)
       unfolding number countRules
       count-in e = read-got read (countRules s super start) (omega (arith, few-most s super n few)) is (rw (few, e))
-
--- ── the number of restrictions ──
-
-module _ {f : List ℕ} {at : ℕ} {a : Number} (read : Read v64 (2 ^ 64) f at a) where
-  pub none-no : {e : Refusal} → a ≡ No e → Read restrictions 1 f at a
-  unfolding restrictions number
-  none-no is = read-no read restrictionRules (omega arith) is
-
-  module _ {n : ℕ} {c : Cursor} (is : a ≡ Got n c) where
-    pub none-bad : (n ≡ 0 → ⊥) → Read restrictions 1 f at (No (record { number = 9; place = at }))
-    unfolding restrictions number restrictionRules
-    none-bad ne = read-bad read restrictionRules (omega arith) is (rw (ne-eqb n 0 ne))
-
-    pub none-got : n ≡ 0 → Read restrictions 1 f at (Got n c)
-    unfolding restrictions number restrictionRules
-    none-got e = read-got read restrictionRules (omega arith) is (rw (eq-eqb n 0 e))

@@ -6,7 +6,7 @@ ghost use Prim.Native.Nat.{ℕ, _+_, _^_, _<_, _≤_};
 ghost use lib.ListN.{length, getD};
 ghost use Rattle.paper.specs.Numbers.{number};
 ghost use Rattle.paper.specs.Rules.{fieldCountRules, fieldNameRules, valuesDue};
-ghost use Rattle.paper.specs.File.{restrictions, endOffset};
+ghost use Rattle.paper.specs.File.{endOffset};
 ghost use Rattle.numbers.specs.Cursors.{Read};
 ghost use Rattle.table.specs.View.{view, kindFrom, fldsOf, Ok, Holds, said};
 ghost use Rattle.reader.specs.Sound.{Open};
@@ -17,30 +17,13 @@ use super::kinds::KindRead;
 use super::kinds::Named;
 use super::kinds::read_kind;
 use super::kinds::refused_kind;
+use super::ruled::no_restrictions;
 use numbers::Cursor;
 use numbers::Number;
 use numbers::Refusal;
 use paper::Ledger;
 use table::names::Found;
 use table::rows::FieldRow;
-
-// The number of restrictions: none is known.
-fn no_restrictions(file: &[u8], c: Cursor) -> Number
-    ensures { λ r. ⌜ Read restrictions 1 (now (file .entry)) (c .at) r ⌝ }
-{
-    let at = c.at;
-    let a = c.v64(file);
-    let Number::Got(n, next) = a else {
-        return a;
-    };
-    if n != 0 {
-        return Number::No(Refusal {
-            number: 9,
-            place: at,
-        });
-    }
-    Number::Got(n, next)
-}
 
 // An end offset, which does not fall below the one before it.
 fn end_offset(file: &[u8], c: Cursor, before: u64) -> Number

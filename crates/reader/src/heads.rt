@@ -15,6 +15,8 @@ ghost use Rattle.table.specs.Answers.{rangeIn};
 ghost use Rattle.table.specs.Asks.{found};
 ghost use Rattle.reader.specs.Sound.{Sound};
 ghost use Rattle.reader.specs.Heads.{foundBelow, Known, Resolved, NamePlaced, NameRead, noName, SuperPlaced, SuperRead, AboveRead, noAbove, DueRead, TopRead, noTop, rangeFor, Declares, TypeEntered, TopEntered};
+use super::ruled::no_restrictions;
+use super::ruled::small;
 use numbers::Cursor;
 use numbers::Number;
 use numbers::Refusal;
@@ -252,24 +254,6 @@ fn super_name(file: &[u8], c: Cursor, work: &[u32], name: Name) -> Above
     Above::Got(Super { number: 0, up }, c)
 }
 
-// A number that is held to the bound of objects.
-pub fn small(file: &[u8], c: Cursor) -> Number
-    ensures { λ r. ⌜ Read small 65536 (now (file .entry)) (c .at) r ⌝ }
-{
-    let at = c.at;
-    let a = c.v64(file);
-    let Number::Got(x, next) = a else {
-        return a;
-    };
-    if Ledger::OBJECTS < x {
-        return Number::No(Refusal {
-            number: 3,
-            place: at,
-        });
-    }
-    Number::Got(x, next)
-}
-
 // The local start, which only a type with a super type has.
 fn local_start(file: &[u8], c: Cursor, up: u32) -> Number
     ensures { λ r. ⌜ DueRead (given? (maybe up)) small 65536 (now (file .entry)) (c .at) r ⌝ }
@@ -338,25 +322,14 @@ fn object_count(file: &[u8], c: Cursor, work: &[u32], up: u32, start: u32) -> Nu
     Number::Got(n, next)
 }
 
-// The number of restrictions, which only a new type has: 0.
-fn no_restrictions(file: &[u8], c: Cursor, fresh: bool) -> Number
+// The number of restrictions, which only a new type has.
+fn type_restrictions(file: &[u8], c: Cursor, fresh: bool) -> Number
     ensures { λ r. ⌜ DueRead fresh restrictions 1 (now (file .entry)) (c .at) r ⌝ }
 {
     if !fresh {
         return Number::Got(0, c);
     }
-    let at = c.at;
-    let a = c.v64(file);
-    let Number::Got(n, next) = a else {
-        return a;
-    };
-    if n != 0 {
-        return Number::No(Refusal {
-            number: 9,
-            place: at,
-        });
-    }
-    Number::Got(n, next)
+    no_restrictions(file, c)
 }
 
 pub fn read_head(file: &[u8], c: Cursor, work: &[u32]) -> Topped
@@ -380,7 +353,7 @@ pub fn read_head(file: &[u8], c: Cursor, work: &[u32]) -> Topped
     let Number::Got(n, after_count) = e else {
         return Topped::No(refused(e));
     };
-    let g = no_restrictions(file, after_count, name.fresh);
+    let g = type_restrictions(file, after_count, name.fresh);
     let Number::Got(_, end) = g else {
         return Topped::No(refused(g));
     };

@@ -7,11 +7,11 @@ ghost use Rattle.paper.specs.Rules.{elementKindRules};
 ghost use Rattle.paper.specs.File.{small};
 ghost use Rattle.numbers.specs.Cursors.{Read};
 ghost use Rattle.reader.specs.Kinds.{named?, bitsOf, constantOf, arrayOf, manyOf, KindReadBy, KindReads, refusalOfKind};
+use super::ruled::small;
 use numbers::Cursor;
 use numbers::Number;
 use numbers::Refusal;
 use numbers::refused;
-use paper::Ledger;
 
 // Which kinds from 32 upwards name a type: all of them while any type may still be declared, else those of so many types.
 pub struct Named {
@@ -85,24 +85,6 @@ fn element_kind(file: &[u8], c: Cursor, named: Named) -> Number
             })
         }
     }
-}
-
-// A count, local start or length, which is held to the bound of objects.
-pub fn small(file: &[u8], c: Cursor) -> Number
-    ensures { λ r. ⌜ Read small 65536 (now (file .entry)) (c .at) r ⌝ }
-{
-    let at = c.at;
-    let a = c.v64(file);
-    let Number::Got(n, next) = a else {
-        return a;
-    };
-    if Ledger::OBJECTS < n {
-        return Number::No(Refusal {
-            number: 3,
-            place: at,
-        });
-    }
-    Number::Got(n, next)
 }
 
 // The bits of a constant's value: i8, i16, i32, i64 or v64.

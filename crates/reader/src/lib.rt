@@ -3,4 +3,5 @@ pub mod entries;
 pub mod fields;
 pub mod heads;
 pub mod kinds;
+pub mod ruled;
 pub mod strings;

@@ -5,7 +5,7 @@ use Rattle.reader.proofs.entries.front.Tie as tie
 use Rattle.reader.proofs.entries.front.Reads as reads
 use Rattle.reader.proofs.entries.front.Lts as lts
 use Rattle.reader.proofs.entries.entries.Reads as entries-reads
-use Rattle.reader.proofs.heads.small.Reads as small-reads
+use Rattle.reader.proofs.ruled.small.Reads as small-reads
 use Rattle.reader.proofs.strings.read_strings.Reads as read-strings-reads
 use Rattle.reader.proofs.strings.refused_step.Reads as refused-step-reads
 

@@ -1,8 +1,8 @@
 -- `reader::fields::no_restrictions` meets its contract. Assumes nothing.
 use Rattle.reader.specs.FieldNumbers.{restrictions-no, restrictions-some, restrictions-none}
 use borrow.Author.Needs.{needs}
-use Rattle.reader.proofs.fields.no_restrictions.Statement.{statement}
-use Rattle.reader.proofs.fields.no_restrictions.Tie as tie
+use Rattle.reader.proofs.ruled.no_restrictions.Statement.{statement}
+use Rattle.reader.proofs.ruled.no_restrictions.Tie as tie
 
 pub no-restrictions-spec : {M : Type 1} → statement M
 no-restrictions-spec =

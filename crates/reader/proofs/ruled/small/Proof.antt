@@ -1,8 +1,8 @@
 use native.Mathlib.Omega.{arith}
 use borrow.Author.Needs.{needs}
 use Rattle.reader.specs.Ruled.{small-no, small-big, small-got}
-use Rattle.reader.proofs.kinds.small.Statement.{statement}
-use Rattle.reader.proofs.kinds.small.Tie as tie
+use Rattle.reader.proofs.ruled.small.Statement.{statement}
+use Rattle.reader.proofs.ruled.small.Tie as tie
 
 pub small-spec : {M : Type 1} → statement M
 small-spec =
