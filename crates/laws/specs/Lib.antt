@@ -20,6 +20,7 @@ pub mod Digits
 pub mod Before
 pub mod Words
 pub mod Hexes
+pub mod Hexed
 pub mod Cells
 pub mod Lines
 pub mod Turns
