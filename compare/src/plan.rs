@@ -41,6 +41,10 @@ pub fn listings(file: &[u8], random: &mut Random) -> Vec<Call> {
     rooms.map(|room| Call::Listing { room }).collect()
 }
 
+/// How many bytes of a listing stand for one of the file at most, as `c/tidehinge.h` says: an i8 may be `val`, a tab,
+/// `-128` and a newline.
+const LONGEST: usize = 9;
+
 /// The length of an accepted file's listing.
 fn listing_length(file: &[u8]) -> usize {
     // Values of fixed arrays of length 0 have no byte in the file.
@@ -52,10 +56,6 @@ fn listing_length(file: &[u8]) -> usize {
     let mut enough = lengths.filter_map(|length| usize::try_from(length).ok());
     enough.next().expect("a listing is longer than we say")
 }
-
-/// How many bytes of a listing stand for one of the file at most, as `c/tidehinge.h` says: an i8 may be `val`, a tab,
-/// `-128` and a newline.
-const LONGEST: usize = 9;
 
 /// The listing of a file that is refused, first with some room.
 pub fn any_listings(random: &mut Random) -> Vec<Call> {

@@ -1,4 +1,4 @@
--- The ways out of the readers of a local start, a count and a number of restrictions, on plain values. Assumes nothing.
+-- The ways out of the readers of a local start and of a count, on plain values. Assumes nothing.
 use mathlib.Core.Path.{_≡_, refl, sym, ap, _∙_, subst}
 use mathlib.Core.Bool.{Bool, true, false}
 use mathlib.Core.List.{List}
@@ -11,8 +11,7 @@ use Rattle.paper.specs.Reader.{if_then_else_, Reader, got, only, give, turned}
 use Rattle.paper.specs.Numbers.{v64, number}
 use Rattle.paper.specs.Lists.{any, all, given?}
 use Rattle.paper.specs.Ledger.{State, objectsInAll}
-use Rattle.paper.specs.Rules.{around?, clear?, inRange?, fewObjects?, countRules, restrictionRules}
-use Rattle.paper.specs.File.{restrictions}
+use Rattle.paper.specs.Rules.{around?, clear?, inRange?, fewObjects?, countRules}
 use Rattle.numbers.specs.Cursors.{Read}
 use Rattle.numbers.specs.declared.Number.{Number}
 use Rattle.numbers.specs.declared.Number.the-variants.{Got, No}
