@@ -6,7 +6,7 @@ use native.Mathlib.Omega.{arith}
 use native.Mathlib.Numerals.{add-one}
 use native.Mathlib.Nat.{add-zero, min-eq-left, min-eq-right, le-of-lt, lt-of-not-le}
 use native.Mathlib.Decide.{decLe}
-use lib.ListN.{length, getD, drop, set, length-append, length-set}
+use lib.ListN.{length, getD, drop, set, length-append, length-set, drop-of-length-le}
 use lib.Seq.{sets, set-out, length-sets, drop-cons}
 
 -- the largest number that a count reaches: there it stands still
@@ -76,6 +76,36 @@ module _ (l : List ℕ) (at b : ℕ) where
   pub laid-still : length l ≤ most → at ≡ most → Laid l at (b ∷ []) l at
   laid-still h e =
       record { bytes = sym (set-out l at b (omega arith)); next = omega arith; room = h }
+
+-- a text that lies wholly behind the end
+pub laid-over : {l w : List ℕ} {at r : ℕ} → length l ≤ most → length l ≤ at → r ≡ min (at + length w) most → Laid l at w l r
+laid-over {l} {w} {at} h le is = record { bytes = sym (sets-out w l at le); next = is; room = h }
+
+-- one that fits wholly
+pub laid-whole : {l w m : List ℕ} {at : ℕ} → length l ≤ most → at + length w ≤ length l → m ≡ sets l at w → Laid l at w m (at + length w)
+laid-whole h fits is = record { bytes = is; next = sym (min-eq-left (omega arith)); room = h }
+
+-- bytes that are stored one by one
+pub record Storing (l : List ℕ) (at : ℕ) (w m : List ℕ) (i : ℕ) : Type 0 where
+  pub long : length m ≡ length l
+  pub within : i ≤ length w
+  pub same : sets m (at + i) (drop i w) ≡ sets l at w
+
+pub storing-start : (l : List ℕ) (at : ℕ) (w : List ℕ) → Storing l at w l 0
+storing-start l at w = record { long = refl; within = omega arith; same = rw add-zero }
+
+module _ {l : List ℕ} {at : ℕ} {w m : List ℕ} {i : ℕ} (g : Storing l at w m i) where
+  pub storing-on : i < length w → Storing l at w (set m (at + i) (getD w i 0)) (i + 1)
+  storing-on lt =
+      let next : at + (i + 1) ≡ suc (at + i) = omega arith in
+      record {
+        long = length-set m (at + i) (getD w i 0) ∙ g .long;
+        within = omega arith;
+        same = rw (next, add-one) (rw (drop-cons w i 0 lt) at (g .same));
+      }
+
+  pub storing-done : length w ≤ i → m ≡ sets l at w
+  storing-done le = rw (drop-of-length-le w le) at (g .same)
 
 -- ── loops: what is left to write leads to the whole ──
 

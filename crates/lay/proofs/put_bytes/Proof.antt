@@ -1,35 +1,30 @@
-use borrow.Author.Needs.{needs}
-use Prim.Native.Nat.{_≤_, _-_}
 use native.Mathlib.Omega.{arith}
-use lib.ListN.{length, drop, drop-of-length-le}
-use lib.Seq.{drop-cons}
-use Rattle.lay.specs.Laid.{most, Leads, leads-start, leads-on, leads-end}
-use Rattle.lay.specs.Laid.{drop-more}
+use Rattle.lay.specs.Laid.{most, laid-over, laid-whole}
+use borrow.Author.Needs.{needs}
 use Rattle.lay.proofs.put_bytes.Statement.{statement}
 use Rattle.lay.proofs.put_bytes.Tie as tie
 
-abbrev Inv-loop : tie.InvT-loop
-Inv-loop out₀ at s p₀ i₀ out p i = (i ≤ length s) × Leads out₀ at s out p (drop i s)
-
-abbrev μ-loop : tie.MeasureT-loop
-μ-loop out₀ at s p₀ i₀ out p i = length s - i
-
--- src/lib.rt:91:5
-loop-holds : tie.Need-loop-holds Inv-loop μ-loop
+-- src/lib.rt:65:9
+returns : tie.Need-returns
 unfolding most
-loop-holds c = (omega arith, leads-start (omega arith) (omega arith))
+returns c = laid-over (omega arith) (c .before .if1 .taken) (c .behind .ensures)
+
+-- src/lib.rt:69:9
+returns-2 : tie.Need-returns-2
+unfolding most
+returns-2 c = laid-whole (omega arith) (omega arith) (c .before .before .store .ensures)
 
 pub put-bytes-spec : {M : Type 1} → statement M
 put-bytes-spec =
     tie.close
     (tie.spec
-    Inv-loop
-    μ-loop
-    loop-holds
-    (λ c. omega arith)
     (λ c κs. search needs)
-    (λ c. omega arith)
-    (λ c. omega arith)
-    (λ c. (omega arith, leads-on (c .before .before .before .before .before .before .loop .inv .1) (drop-more ((c .before .before .before .before .before .before .before .before .before) .args .s .now) (c .before .before .before .before .before .before .loop .i) (omega arith)) (c .before .before .put .ensures)))
-    (λ c. c .before .loop .inv .1 .long)
-    (λ c. let z : length ((c .before .before .before .before) .args .s .now) ≤ c .before .loop .i = omega arith in leads-end (c .before .loop .inv .1) (drop-of-length-le ((c .before .before .before .before) .args .s .now) z)))
+    returns
+    (λ c. search needs)
+    (λ c κs. search needs)
+    (λ c. search needs)
+    (λ c. search needs)
+    returns-2
+    (λ c κs. search needs)
+    (λ c. search needs)
+    (λ c. search needs))
