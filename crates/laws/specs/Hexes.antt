@@ -1,7 +1,7 @@
 -- Words in hex: what is read is what would be written, and what is written is read. Assumes nothing.
 use mathlib.Core.Path.{_≡_, refl, sym, _∙_, ap}
 use mathlib.Core.Bool.{Bool, true, false}
-use mathlib.Core.List.{List, [], _∷_, _++_}
+use mathlib.Core.List.{List, [], _∷_, _++_, append-nil}
 use Prim.Native.Nat.{ℕ, zero, suc, _+_, _*_, _/_, _%_, _^_, _≤_, _<_}
 use native.Mathlib.Omega.{arith}
 use native.Mathlib.Nat.{pow-zero, pow-succ'}
@@ -128,9 +128,11 @@ hexPairs-ends e [] h = refl
 hexPairs-ends e (a ∷ []) h = refl
 hexPairs-ends e (a ∷ b ∷ ts) h = rw (eq-eqb (nibble a) 16 (nibble-below a h))
 
-hexPairs-goes : (s : List ℕ) (e : ℕ) (rest : List ℕ) → Bytes s → Stops rest → hexPairs e (hex s ++ rest) ≡ got s (e + length (hex s))
+-- where no pair follows
+hexPairs-goes :
+    (s : List ℕ) (e : ℕ) (rest : List ℕ) → Bytes s → ((d : ℕ) → hexPairs d rest ≡ got [] d) → hexPairs e (hex s ++ rest) ≡ got s (e + length (hex s))
 unfolding hex flat hexPairs if_then_else_ hexDigits
-hexPairs-goes [] e rest h s = hexPairs-ends e rest s ∙ ap (got []) (omega arith)
+hexPairs-goes [] e rest h s = s e ∙ ap (got []) (omega arith)
 hexPairs-goes (b ∷ bs) e rest h s =
     let lt = h .0 in
     let v : b / 16 % 16 * 16 + b % 16 ≡ b = omega arith in
@@ -151,4 +153,9 @@ hex-bytes (b ∷ s) = (glyph-byte (b / 16 % 16) (omega arith), (glyph-byte (b % 
 
 pub hexBytes-before : (s : List ℕ) → bytes? s ≡ true → TakesBefore Stops hexBytes (hex s) s
 unfolding hexBytes
-hexBytes-before s h = front-before hexPairs (hex s) (hex-bytes s) λ at rest t. hexPairs-goes s at rest (bytes-back s h) t
+hexBytes-before s h = front-before hexPairs (hex s) (hex-bytes s) λ at rest t. hexPairs-goes s at rest (bytes-back s h) (λ d. hexPairs-ends d rest t)
+
+-- all of a text
+pub hexBytes-whole : (s : List ℕ) → bytes? s ≡ true → hexBytes (hex s) 0 ≡ got s (length (hex s))
+unfolding hexBytes hexPairs
+hexBytes-whole s h = rw append-nil at (hexPairs-goes s 0 [] (bytes-back s h) (λ d. refl)) ∙ ap (got s) (omega arith)

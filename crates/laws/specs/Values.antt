@@ -70,7 +70,7 @@ module _ {A : Type 0} (r : Reader A) (w : A → List ℕ) (ok : A → Bool) wher
 -- ── elements ──
 
 module _ (w x : ℕ) (pow : 256 ^ w ≡ 256 * x) where
-  unsigned-signed : (n : ℕ) → n < 256 ^ w → unsigned w (signed w n) ≡ n
+  pub unsigned-signed : (n : ℕ) → n < 256 ^ w → unsigned w (signed w n) ≡ n
   unfolding unsigned signed if_then_else_
   unsigned-signed n h = go (ltb n (256 ^ w / 2))
     where
@@ -98,11 +98,11 @@ module _ (w x : ℕ) (pow : 256 ^ w ≡ 256 * x) where
       let lt = ltb-true n (256 ^ w / 2) h in
       rw (le-ltb (256 ^ w - 1 - n) (256 ^ w / 2) (omega arith)) (ap negsuc (omega arith))
 
-pow-more : (w : ℕ) → 0 < w → 256 ^ w ≡ 256 * 256 ^ (w - 1)
+pub pow-more : (w : ℕ) → 0 < w → 256 ^ w ≡ 256 * 256 ^ (w - 1)
 pow-more zero h = absurd (omega arith)
 pow-more (suc w) h = pow-succ' 256 w ∙ ap (λ (z : ℕ). 256 * 256 ^ z) (omega arith)
 
-two-pow : (k : ℕ) → 0 < 2 ^ k
+pub two-pow : (k : ℕ) → 0 < 2 ^ k
 two-pow k = one-le-pow k 2 (omega arith)
 
 pub whole-kept : (k : ℕ) → Kept (wholeOf k) (putWhole k) (whole? k)

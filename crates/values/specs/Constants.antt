@@ -24,7 +24,7 @@ signed-top w most a is half le =
     let none : 256 ^ w - 1 - a ≡ 0 = omega arith in
     rw (le-ltb a (256 ^ w / 2) (omega arith), none)
 
-signed-capped : (w most : ℕ) → 256 ^ w ≡ most + 1 → 256 ^ w / 2 ≤ most → {a r : ℕ} → Capped a most r → signed w r ≡ signed w a
+pub signed-capped : (w most : ℕ) → 256 ^ w ≡ most + 1 → 256 ^ w / 2 ≤ most → {a r : ℕ} → Capped a most r → signed w r ≡ signed w a
 signed-capped w most is half {a} {r} C =
     elim (decLe a most) [
       | yes d ↦ ap (signed w) (C .same d)

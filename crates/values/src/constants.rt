@@ -6,7 +6,7 @@ ghost use Rattle.table.specs.View.{kindFrom};
 ghost use Rattle.values.specs.Constants.{Capped};
 use numbers::sign;
 
-fn at_most(a: u64, most: u64) -> u64
+pub fn at_most(a: u64, most: u64) -> u64
     ensures { λ r. ⌜ Capped a most r ⌝ }
 {
     if most < a {
