@@ -22,7 +22,7 @@ pub fn put(out: &mut [u8], at: usize, b: u8) -> usize
 }
 
 // The place n behind another; it stands still at the largest number.
-fn behind(at: usize, n: usize) -> usize
+pub fn behind(at: usize, n: usize) -> usize
     ensures { λ r. ⌜ r ≡ min (at + n) most ⌝ }
 {
     if n <= 18446744073709551615 - at {

@@ -2,6 +2,7 @@
 ghost use mathlib.Core.Path.{_≡_};
 ghost use mathlib.Core.List.{[], _∷_};
 ghost use Prim.Native.Nat.{_/_, _%_, _^_, _<_};
+ghost use lib.ListN.{length};
 ghost use Rattle.lay.specs.Laid.{Laid};
 ghost use Rattle.paper.specs.Listing.{glyph, decimal, decimalℤ, hexDigits, hex};
 ghost use Rattle.paper.specs.Numbers.{signed, unsigned};
@@ -19,11 +20,32 @@ pub fn put_glyph(out: &mut [u8], at: usize, d: u64) -> usize
     lay::put(out, at, (87 + d) as u8)
 }
 
+// How many digits a number has, without making them.
+fn digits_of(x: u64) -> usize
+    ensures { λ r. ⌜ r ≡ length (decimal x) ⌝ }
+{
+    let mut n: usize = 1;
+    let mut top: u64 = 10;
+    while top <= x {
+        n += 1;
+        // 64 bits have no more digits.
+        if n == 20 {
+            return n;
+        }
+        top *= 10;
+    }
+    n
+}
+
 // The digits come last first, so they are set down in a local from its end, and laid all at once: twice as fast for a long
 // number as a recursion that lays each digit. 64 bits have at most 20 of them.
 pub fn put_decimal(out: &mut [u8], at: usize, x: u64) -> usize
     ensures { λ r. ⌜ Laid (now (out .entry)) at (decimal x) (now (out .exit)) r ⌝ }
 {
+    // Lent no room, it only counts.
+    if out.len() <= at {
+        return lay::behind(at, digits_of(x));
+    }
     let mut digits = [0u8; 20];
     let mut first: usize = 19;
     let mut left = x;

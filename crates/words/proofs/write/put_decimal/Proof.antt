@@ -7,7 +7,7 @@ use borrow.Author.Needs.{needs}
 use lib.ListN.{length, set, take, drop, drop-of-length-le, length-drop, length-set}
 use lib.Seq.{drop-cons, drop-set-lt, getD-set-same, take-all}
 use Rattle.paper.specs.Listing.{decimal}
-use Rattle.lay.specs.Laid.{laid-as}
+use Rattle.lay.specs.Laid.{most, laid-as, laid-over}
 use Rattle.words.specs.Decimals.{glyph-low, decimal-low, decimal-high}
 use Rattle.words.proofs.write.put_decimal.Statement.{statement}
 use Rattle.words.proofs.write.put_decimal.Tie as tie
@@ -67,12 +67,19 @@ Inv-loop out at x digits₀ first₀ left₀ digits first left = Rest x digits f
 abbrev μ-loop : tie.MeasureT-loop
 μ-loop out at x digits₀ first₀ left₀ digits first left = left
 
+counted : tie.Need-returns Inv-loop μ-loop
+unfolding most
+counted c = laid-over (omega arith) (c .before .before .if1 .taken) (rw (← c .before .digits-of .ensures) (c .behind .ensures))
+
 pub put-decimal-spec : {M : Type 1} → statement M
 put-decimal-spec =
     tie.close
     (tie.spec
     Inv-loop
     μ-loop
+    (λ c κs. search needs)
+    (λ c κs. search needs)
+    counted
     (λ c. rest-start _ _ (omega arith) refl)
     (λ c. omega arith)
     (λ c. omega arith)
