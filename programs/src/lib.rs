@@ -1,0 +1,65 @@
+//! Holds a proved program to the second one's, as processes.
+//!
+//! Each file goes through both, by a pipe: all at once, and in pieces with pauses between them, so that reads are short.
+//! What the two write has to be equal, byte for byte.
+
+#![forbid(unsafe_code)]
+
+pub mod cases;
+pub mod feed;
+pub mod process;
+
+use feed::Feed;
+use process::Process;
+use second::generate::Case;
+
+/// What was compared.
+#[derive(Clone, Copy, Debug, Default, PartialEq, Eq)]
+pub struct Met {
+    pub files: usize,
+    pub refused: usize,
+    pub in_pieces: usize,
+}
+
+/// Runs every file through both programs. The first difference ends it.
+pub fn compare(proved: &Process, second: &Process, cases: &[Case]) -> Result<Met, String> {
+    let mut met = Met::default();
+    for (number, case) in cases.iter().enumerate() {
+        let mut feeds = vec![Feed::Whole];
+        // Every file in pieces would take minutes of pauses.
+        if number % 5 == 0 || case.bytes.len() >= cases::LARGE {
+            feeds.push(Feed::Pieces(number as u64));
+        }
+        for feed in feeds {
+            let expected = second.run(&case.bytes, Feed::Whole)?;
+            let found = proved.run(&case.bytes, feed)?;
+            if expected != found {
+                return Err(difference(case, feed, &expected, &found));
+            }
+            met.refused += usize::from(feed == Feed::Whole && expected.starts_with(b"refused\t"));
+            met.in_pieces += usize::from(feed != Feed::Whole);
+        }
+        met.files += 1;
+    }
+    Ok(met)
+}
+
+fn difference(case: &Case, feed: Feed, expected: &[u8], found: &[u8]) -> String {
+    let same = expected.iter().zip(found).take_while(|(a, b)| a == b);
+    format!(
+        "{} ({} bytes, {feed:?}): {} bytes, not {}; they differ at {}\nsecond: {}\nproved: {}",
+        case.label,
+        case.bytes.len(),
+        found.len(),
+        expected.len(),
+        same.count(),
+        start(expected),
+        start(found),
+    )
+}
+
+/// The start of a text, for people.
+fn start(text: &[u8]) -> String {
+    let text = &text[..text.len().min(80)];
+    text.escape_ascii().to_string()
+}
