@@ -70,7 +70,7 @@ wider w le (pos n) h = less w n le h
 wider w le (negsuc n) h = less w n le h
 
 -- a number of fewer bytes is one of eight
-whole-64 : (k : ℕ) (v : ℤ) → whole? k v ≡ true → signed? 8 v ≡ true
+pub whole-64 : (k : ℕ) (v : ℤ) → whole? k v ≡ true → signed? 8 v ≡ true
 unfolding whole? if_then_else_
 whole-64 k v h = go (ltb k 4) refl h
   where

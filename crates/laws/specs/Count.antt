@@ -201,7 +201,7 @@ unfolding fold afterNew made
 fold-fields t [] s = sym (append-nil (s .fields))
 fold-fields t (g ∷ gs) s = fold-fields t gs (afterNew t s g) ∙ append-assoc (s .fields) (made t g ∷ []) (map (made t) gs)
 
-fold-objects : (t : ℕ) (gs : List New) (s : State) (u : ℕ) → objectsOf (fold (afterNew t) s gs) u ≡ objectsOf s u
+pub fold-objects : (t : ℕ) (gs : List New) (s : State) (u : ℕ) → objectsOf (fold (afterNew t) s gs) u ≡ objectsOf s u
 unfolding fold afterNew objectsOf
 fold-objects t [] s u = refl
 fold-objects t (g ∷ gs) s u = fold-objects t gs (afterNew t s g) u

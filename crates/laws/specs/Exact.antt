@@ -182,7 +182,7 @@ unfolding putFront putStrings
 front-length s ss l es = rw (length-append, length-append, length-append, length-append) (omega arith)
 
 -- the bytes of a pair's chunks
-abbrev chunksOf : State → Pair → List (List ℕ)
+abbrev pub chunksOf : State → Pair → List (List ℕ)
 chunksOf s p = putChunks (afterFront s (p .strings) (p .entries)) (dues (withStrings s (p .strings)) (p .entries)) (p .chunks)
 
 pair-length : (s : State) (p : Pair) → (length (flat (λ s. s) (p .strings)) ≤ length (putPair s p)) × (length (flat (λ c. c) (chunksOf s p)) ≤ length (putPair s p))

@@ -31,3 +31,4 @@ pub mod Refill
 pub mod Refused
 pub mod Objects
 pub mod Answers
+pub mod Short
