@@ -1,2 +1,4 @@
 pub mod Strings
 pub mod Spelling
+pub mod Fronts
+pub mod FrontLaws

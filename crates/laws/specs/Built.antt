@@ -8,7 +8,7 @@ use native.Mathlib.Omega.{arith}
 use lib.Dec.{eqb}
 use lib.ListN.{length, replicate, length-replicate}
 use borrow.Author.Tests.{leb-true, eqb-true, eq-eqb}
-use Rattle.paper.specs.Reader.{Reader, got, _>>=_, _>>_, give, Rule}
+use Rattle.paper.specs.Reader.{Reader, got, _>>=_, _>>_, give, times, Rule}
 use Rattle.paper.specs.Bounds.{mostPairs}
 use Rattle.paper.specs.Lists.{all, flat, given?, or}
 use Rattle.paper.specs.Ledger.{Kind, constant, plain, array, many, Element, Entry, Chunk, Pair, Ledger, Due, State, nothing, fieldAt}
@@ -111,6 +111,9 @@ entries-written : (s : State) (l : List Entry) → written entryLines afterEntry
 unfolding written printEntries entryLines
 entries-written s [] = refl
 entries-written s (e ∷ l) = ap (λ (z : List ℕ). entryLines s e ++ z) (entries-written (afterEntry s e) l)
+
+pub entries-kept : (n : ℕ) (s : State) → Says (times n entryText afterEntry s) (λ es cs. (printEntries s es ≡ cs) × (length es ≡ n) × (inTurn entry? afterEntry s es ≡ true))
+entries-kept n s = weaker _ (λ es cs k. (sym (entries-written s es) ∙ k .0, k .1, k .2)) (times-kept afterEntry entry? entryLines entry-kept n s)
 
 -- ── chunks ──
 

@@ -15,7 +15,8 @@ use Rattle.paper.specs.Reader.{got}
 use Rattle.paper.specs.Bounds.{mostObjects}
 use Rattle.paper.specs.Ledger.{Kind, array, many, plain, New, Entry, Field, State, noField}
 use Rattle.paper.specs.Rules.{smallRules, elementKind?, elementKindRules, anyType, typeOf, afterHead, afterNew, afterEntry, withStrings, afterFront}
-use Rattle.paper.specs.Keeps.{number?, kindKept?, new-field?, entry?}
+use Rattle.paper.specs.Lists.{fold}
+use Rattle.paper.specs.Keeps.{inTurn, number?, kindKept?, new-field?, entry?}
 use Rattle.paper.specs.File.{Front, front}
 use Rattle.laws.specs.Bools.{and-split, every-split, number-split}
 use Rattle.laws.specs.Bounds.{turn-keeps}
@@ -94,8 +95,11 @@ entry-listed s e h l =
     let t = typeOf s (e .head .name) in
     turn-keeps (new-field? t) (afterNew t) (λ (u : State). Listed (u .fields)) (new-listed t) (e .news) (afterHead s (e .head)) news l
 
+pub entries-listed : (es : List Entry) (s : State) → inTurn entry? afterEntry s es ≡ true → Listed (s .fields) → Listed (fold afterEntry s es .fields)
+entries-listed = turn-keeps entry? afterEntry (λ (u : State). Listed (u .fields)) entry-listed
+
 -- so does a front that is read
 pub front-listed : (s : State) (f : List ℕ) (at : ℕ) (d : Front) (e : ℕ) → Bytes f → at ≤ length f → front anyType s f at ≡ got d e → Listed (s .fields) → Listed (afterFront s (d .strings) (d .entries) .fields)
 unfolding afterFront withStrings
 front-listed s f at d e b h q l =
-    turn-keeps entry? afterEntry (λ (u : State). Listed (u .fields)) entry-listed (d .entries) (withStrings s (d .strings)) (front-says s .at f at d e b h q .said .kept) l
+    entries-listed (d .entries) (withStrings s (d .strings)) (front-says s .at f at d e b h q .said .kept) l

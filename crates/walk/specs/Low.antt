@@ -74,8 +74,11 @@ entry-low s e h low =
     let tot = low-total (before? (s .block) (baseOf s (e .head))) 0 (s .log) low in
     rw (news-log _ (e .news) (afterHead s (e .head))) (low-snoc 0 (s .log) (newRange s (e .head)) low ct (omega arith))
 
+pub entries-low : (es : List Entry) (s : State) → inTurn entry? afterEntry s es ≡ true → Low 0 (s .log) → Low 0 (fold afterEntry s es .log)
+entries-low = turn-keeps entry? afterEntry (λ (u : State). Low 0 (u .log)) entry-low
+
 -- a pair that is read leaves the log low
 pub front-low : (s : State) (f : List ℕ) (at : ℕ) (d : Front) (e : ℕ) → Bytes f → at ≤ length f → front anyType s f at ≡ got d e → Low 0 (s .log) → Low 0 (afterFront s (d .strings) (d .entries) .log)
 unfolding afterFront withStrings
 front-low s f at d e b h q low =
-    turn-keeps entry? afterEntry (λ (u : State). Low 0 (u .log)) entry-low (d .entries) (withStrings s (d .strings)) (front-says s .at f at d e b h q .said .kept) low
+    entries-low (d .entries) (withStrings s (d .strings)) (front-says s .at f at d e b h q .said .kept) low
