@@ -2,3 +2,4 @@ pub mod Strings
 pub mod Spelling
 pub mod Fronts
 pub mod FrontLaws
+pub mod Pairs

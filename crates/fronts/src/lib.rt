@@ -1,0 +1,147 @@
+// The entries of a listed pair as bytes. Their lines stand in a text that was read and judged before, and the sizes of their
+// chunks in the table: the lines are gone through again, and with each field the end of its chunk is laid. A line that cannot be
+// read leaves all as it is, and then nothing is said of the bytes: no text that was read has one.
+ghost use mathlib.Core.Path.{_≡_};
+ghost use mathlib.Core.List.{List, map};
+ghost use Prim.Native.Nat.{ℕ, _^_, _<_};
+ghost use lib.ListN.{length};
+ghost use Rattle.paper.specs.Reader.{got, times, repeat};
+ghost use Rattle.paper.specs.Ledger.{State, Entry, Due};
+ghost use Rattle.paper.specs.Rules.{afterEntry, dues};
+ghost use Rattle.paper.specs.Scan.{entryText};
+ghost use Rattle.paper.specs.Encode.{putEntries};
+ghost use Rattle.lay.specs.Laid.{Laid};
+ghost use Rattle.table.specs.View.{duesOf, Ok};
+ghost use Rattle.words.specs.Answers.{option};
+ghost use Rattle.lines.specs.Lines.{orDashOf};
+ghost use Rattle.fronts.specs.Ends.{sum, endsOf, NextEnd};
+ghost use Rattle.fronts.specs.Lines.{needed, written, fieldLine, oneEnd, fieldBytes, entryLines, endsOfEntry, entryBytes};
+ghost use Rattle.fronts.specs.Puts.{Puts};
+use lines::OrDash;
+use numbers::write::put_v64;
+use parse::NewRead;
+use parse::TypeRead;
+use parse::new_line;
+use parse::type_line;
+use puts::put_head;
+use puts::put_new;
+use table::rows::due_at;
+use table::rows::dues;
+use words::read::Maybe;
+use words::read::Place;
+use words::read::Step;
+
+// 2 ^ 64 - 1
+const MOST: u64 = 18446744073709551615;
+
+// The row of the next chunk that is due, and where the chunk before it ends.
+pub struct Ends {
+    pub row: u32,
+    pub end: u64,
+}
+
+// Where the text goes on, which ends come next, and where the next bytes go.
+pub struct Here {
+    pub next: Place,
+    pub ends: Ends,
+    pub at: usize,
+}
+
+// Behind one chunk more. The end stands still at the most that 64 bits hold, and behind the last row.
+fn next_end(work: &[u32], e: Ends) -> Ends
+    requires { ⌜ Ok (now work) ⌝ }
+    ensures { λ r. ⌜ NextEnd (now (work .entry)) e r ⌝ }
+{
+    if e.row < dues(work) {
+        let due = due_at(work, e.row);
+        let row = e.row + 1;
+        let room = MOST - e.end;
+        if room < due.size {
+            return Ends { row, end: MOST };
+        }
+        return Ends {
+            row,
+            end: e.end + due.size,
+        };
+    }
+    e
+}
+
+// The field whose line comes next, with its chunk's end: of a known field the end is all.
+fn put_field(text: &[u8], work: &[u32], h: Here, out: &mut [u8]) -> Here
+    requires { ⌜ Ok (now work) ⌝ }
+    ensures { λ r. ⌜ Puts fieldLine oneEnd fieldBytes (now (text .entry)) (now (work .entry)) h (now (out .entry)) (now (out .exit)) r ⌝ }
+{
+    let p = h.next;
+    let ends = next_end(work, h.ends);
+    let old = p.literal(text, b"old\n");
+    if let Step::To(next) = old {
+        let at = put_v64(out, h.at, ends.end);
+        return Here { next, ends, at };
+    }
+    let NewRead::Got(line, next) = new_line(text, p) else {
+        return h;
+    };
+    let at = put_new(out, h.at, line.k, line.a, line.e, line.name, ends.end);
+    Here { next, ends, at }
+}
+
+// The next n fields.
+fn put_fields(text: &[u8], n: u64, work: &[u32], h: Here, out: &mut [u8]) -> Here
+    requires { ⌜ Ok (now work) ⌝ }
+    ensures { λ r. ⌜ Puts (repeat n fieldLine) (needed oneEnd) (written oneEnd fieldBytes) (now (text .entry)) (now (work .entry)) h (now (out .entry)) (now (out .exit)) r ⌝ }
+{
+    let mut here = h;
+    let mut rest = n;
+    while 0 < rest {
+        here = put_field(text, work, here, out);
+        rest -= 1;
+    }
+    here
+}
+
+// What a line may leave out is what an entry may.
+fn or_dash(x: Maybe) -> OrDash
+    ensures { λ r. ⌜ orDashOf r ≡ option x ⌝ }
+{
+    match x {
+        Maybe::Dash => OrDash::Dash,
+        Maybe::Some(n) => OrDash::Number(n),
+    }
+}
+
+// The entry whose lines come next.
+fn put_entry(text: &[u8], work: &[u32], h: Here, out: &mut [u8]) -> Here
+    requires { ⌜ Ok (now work) ⌝ }
+    ensures { λ r. ⌜ Puts entryLines endsOfEntry entryBytes (now (text .entry)) (now (work .entry)) h (now (out .entry)) (now (out .exit)) r ⌝ }
+{
+    let TypeRead::Got(line, next) = type_line(text, h.next) else {
+        return h;
+    };
+    let above = line.sup;
+    let sup = or_dash(above);
+    let from = line.start;
+    let start = or_dash(from);
+    let ends = h.ends;
+    let behind_head = put_head(out, h.at, line.name, sup, start, line.count);
+    let at = put_v64(out, behind_head, line.fields);
+    put_fields(text, line.fields, work, Here { next, ends, at }, out)
+}
+
+// The n entries whose lines begin at p, and the ends that the sizes in the table give from its first row on.
+pub fn put_entries(text: &[u8], p: Place, n: u64, work: &[u32], out: &mut [u8], at: usize) -> usize
+    requires { ⌜ Ok (now work) ⌝ }
+    ensures { λ r. ⌜ ((s : State) (es : List Entry) (next : ℕ) → times n entryText afterEntry s (now (text .entry)) (p .at) ≡ got es next → length (duesOf (now (work .entry))) ≡ length (dues s es) → sum (map (λ (d : Due × ℕ). d .1) (duesOf (now (work .entry)))) < 2 ^ 64 → Laid (now (out .entry)) at (putEntries s es (endsOf 0 (map (λ (d : Due × ℕ). d .1) (duesOf (now (work .entry)))))) (now (out .exit)) r) ⌝ }
+{
+    let mut here = Here {
+        next: p,
+        ends: Ends { row: 0, end: 0 },
+        at,
+    };
+    let mut rest = n;
+    while 0 < rest {
+        here = put_entry(text, work, here, out);
+        rest -= 1;
+    }
+    here.at
+}
