@@ -3,3 +3,4 @@ pub mod Spelling
 pub mod Fronts
 pub mod FrontLaws
 pub mod Pairs
+pub mod Call

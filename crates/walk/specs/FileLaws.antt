@@ -18,7 +18,7 @@ use Rattle.paper.specs.Calls.{known}
 use Rattle.laws.specs.Says.{Bytes}
 use Rattle.numbers.specs.declared.Cursor.{Cursor}
 use Rattle.numbers.specs.declared.Refusal.{Refusal}
-use Rattle.table.specs.View.{fldsOf, logOf, said, Said, Holds}
+use Rattle.table.specs.View.{view, fldsOf, logOf, said, Said, Holds}
 use Rattle.table.specs.Counts.{begun, Begun}
 use Rattle.walk.specs.Pairs.{pairsTo, saidOf, pairs-are}
 use Rattle.walk.specs.Low.{Low}
@@ -58,27 +58,36 @@ pub all-bytes : (f : List ℕ) → ((i : ℕ) → getD f i 0 < 256) → Bytes f
 all-bytes [] h = tt
 all-bytes (b ∷ f) h = (h 0, all-bytes f (λ i. h (suc i)))
 
-module _ (f : List ℕ) {l : List ℕ} (le : length f ≤ 1048576) (B : Begun l) where
+module _ (f : List ℕ) {l : List ℕ} (lt : length f < 4294967296) (B : Begun l) where
   now-begun : said f l ≡ begun
-  now-begun = B .says f (omega arith) .says
+  now-begun = B .says f lt .says
 
-  steady-begun : Steady f l
+  -- a table that knows nothing, over bytes whose places fit its cells
+  pub steady-begun : Steady f l
   unfolding begun nothing
   steady-begun =
       record {
-        holds = B .says f (omega arith) .holds;
+        holds = B .says f lt .holds;
         between = rw now-begun (record { block = omega arith; names = omega arith; flds = omega arith; known = tt; past = tt; room = omega arith; none = refl; chunks = omega arith });
         low = subst (λ (s : Said). Low 0 (s .state .log)) (sym now-begun) tt;
         listed = subst (λ (s : Said). Listed (s .state .fields)) (sym now-begun) tt;
       }
 
+  pub state-begun : view f l ≡ nothing
+  unfolding begun
+  state-begun = ap (λ (s : Said). s .state) now-begun
+
+module _ (f : List ℕ) {l : List ℕ} (le : length f ≤ 1048576) (B : Begun l) where
+  small : length f < 4294967296
+  small = omega arith
+
   pub walk-ready : Bytes f → WalkReady f l
   unfolding begun nothing
-  walk-ready b = record { steady = steady-begun; bytes = b; small = le; block = ap (λ (s : Said). s .state .block) now-begun }
+  walk-ready b = record { steady = steady-begun f small B; bytes = b; small = le; block = ap (λ (s : Said). s .state .block) (now-begun f small B) }
 
   file-is : turned (saidOf 32 begun f 0) (file f) ≡ pairsTo 32 (said f l) f 0
   unfolding file if_then_else_ begun
-  file-is = rw (le-leb (length f) mostBytes le, now-begun) (sym (pairs-are 32 begun f 0 refl))
+  file-is = rw (le-leb (length f) mostBytes le, now-begun f small B) (sym (pairs-are 32 begun f 0 refl))
 
   pub file-read : {l′ : List ℕ} {r : Step} → WalkDone f l l′ r → FileRead f l′ r
   unfolding saidOf begun known spots

@@ -1,0 +1,128 @@
+-- The call: the file whose listing a text is. Assumes nothing.
+use mathlib.Core.Path.{_≡_, refl, sym, ap, _∙_, subst}
+use mathlib.Core.Bool.{Bool, true, false}
+use mathlib.Core.List.{List, [], _∷_, _++_}
+use mathlib.Core.Option.{Option, none, some}
+use Prim.Native.Nat.{ℕ, zero, suc, _+_, _^_, _≤_, _<_}
+use native.Mathlib.Omega.{arith}
+use lib.Dec.{leb}
+use lib.ListN.{length, drop}
+use lib.Seq.{sets}
+use borrow.Author.Tests.{le-leb, lt-leb}
+use Rattle.paper.specs.Reader.{if_then_else_, Out, got, no}
+use Rattle.paper.specs.Bounds.{mostBytes}
+use Rattle.paper.specs.Ledger.{Ledger}
+use Rattle.paper.specs.Encode.{encode}
+use Rattle.paper.specs.Listing.{print}
+use Rattle.paper.specs.Scan.{scan, short, fileOf}
+use Rattle.paper.specs.Calls.{Answer, done, refused, _>>=_, _>>_, need, found, fitted, build, howMany, leftIn, cleared, writes, afterBuild}
+use Rattle.lay.specs.Laid.{most, Laid}
+use Rattle.laws.specs.Says.{Bytes}
+use Rattle.laws.specs.Promises.{Accepted, accepted-exactly, forth, fitted-done}
+use Rattle.laws.specs.Short.{print-short}
+use Rattle.table.specs.Counts.{noughts}
+use Rattle.values.specs.Filling.{sets-front}
+use Rattle.texts.specs.declared.Taken.{Taken}
+use Rattle.texts.specs.declared.TextRead.{TextRead}
+use Rattle.texts.specs.declared.TextRead.the-variants.{Got, Bad}
+use Rattle.calls.specs.Told.{answerOf, after, Wrote, wrote-none, wrote-all}
+use Rattle.calls.specs.Table.{untouched, noughts-first}
+use Rattle.calls.specs.Fixed.{one-way}
+use Rattle.calls.specs.declared.replies.Reply.{Reply}
+use Rattle.calls.specs.declared.replies.Reply.the-variants.{Done, Refused}
+use Rattle.build.specs.Pairs.{PairsBuilt, FileBuilt, fileBy, not-short}
+
+-- ── what the definitions answer, with a table that is long enough ──
+
+module _ (room : ℕ) (t : List ℕ) where
+  build-none : fileOf t ≡ none → build room 16384 t ≡ refused 20
+  unfolding build need found _>>=_ _>>_
+  build-none h = rw h
+
+  build-some : {f : List ℕ} → fileOf t ≡ some f → build room 16384 t ≡ fitted room f
+  unfolding build need found _>>=_ _>>_
+  build-some h = rw h
+
+-- a text whose places do not fit 32 bits is no listing
+pub text-too-long : (t : List ℕ) → Bytes t → 4294967295 < length t → fileOf t ≡ none
+text-too-long t b h = go (fileOf t) refl
+  where
+    go : (o : Option (List ℕ)) → fileOf t ≡ o → o ≡ none
+    go none is = refl
+    go (some f) is =
+        let (l, a, p) = forth t f b is in
+        let s : length (print l) < 4294967296 = print-short l (accepted-exactly f l .0 a .0) in
+        let q : length (print l) ≡ length t = ap length p in
+        absurd (omega arith)
+
+-- ── a text that was read, by its file's length ──
+
+module _ {t out m : List ℕ} {k : Taken} (B : FileBuilt t out 0 m k) where
+  file-over : mostBytes < k .at → fileOf t ≡ none
+  unfolding fileOf most
+  file-over h = rw (B .reads) (not-short (B .ledger) (B .end) (omega (arith, B .laid .next)))
+
+  file-fits : k .at ≤ mostBytes → fileOf t ≡ some (encode (B .ledger))
+  unfolding fileOf short if_then_else_ most
+  file-fits h = rw (B .reads, le-leb (length (encode (B .ledger))) mostBytes (omega (arith, B .laid .next)))
+
+  file-length : k .at ≤ mostBytes → length (encode (B .ledger)) ≡ k .at
+  unfolding most
+  file-length h = omega (arith, B .laid .next)
+
+-- ── counted, and then written ──
+
+module _ {t out out₁ : List ℕ} (same : out₁ ≡ out) {m : List ℕ} {a : TextRead} (C : PairsBuilt t [] 0 m a) where
+  pub build-bad : a ≡ Bad → Wrote (build (length out) 16384 t) out (Refused 20) out₁
+  build-bad is = rw same (wrote-none (build-none (length out) t (subst (fileBy t [] 0 m) is (C .told))))
+
+  module _ {k : Taken} (is : a ≡ Got k) where
+    counted : FileBuilt t [] 0 m k
+    counted = subst (fileBy t [] 0 m) is (C .told)
+
+    pub build-over : 1048576 < k .at → Wrote (build (length out) 16384 t) out (Refused 20) out₁
+    build-over h = rw same (wrote-none (build-none (length out) t (file-over counted h)))
+
+    module _ (le : k .at ≤ 1048576) where
+      pub build-no-room : length out₁ < k .at → Wrote (build (length out) 16384 t) out (Refused 19) out₁
+      unfolding fitted need _>>_ _>>=_
+      build-no-room lt =
+          let long : length out₁ ≡ length out = ap length same in
+          let many = file-length counted le in
+          rw same (wrote-none (build-some (length out) t (file-fits counted le) ∙ rw (lt-leb (length (encode (counted .ledger))) (length out) (omega arith))))
+
+      pub build-written : k .at ≤ length out₁ → {m₂ : List ℕ} {b : TextRead} → PairsBuilt t out₁ 0 m₂ b → Wrote (build (length out) 16384 t) out (Done (k .at)) m₂
+      build-written room {m₂} {b} W = go b (rw same at (W .told))
+        where
+          go : (b : TextRead) → fileBy t out 0 m₂ b → Wrote (build (length out) 16384 t) out (Done (k .at)) m₂
+          go (Got j) B =
+              let long : length out₁ ≡ length out = ap length same in
+              let again : B .ledger ≡ counted .ledger = cc (sym (B .reads) ∙ counted .reads) in
+              let many : length (encode (B .ledger)) ≡ k .at = rw again (file-length counted le) in
+              let fits : length (encode (B .ledger)) ≤ length out = omega arith in
+              wrote-all
+              (build-some (length out) t (rw again (file-fits counted le)) ∙ fitted-done (length out) (encode (B .ledger)) fits)
+              many (B .laid .bytes ∙ sets-front (encode (B .ledger)) out fits)
+          go Bad h = let z : none ≡ some (encode (counted .ledger)) = sym h ∙ file-fits counted le in let y : _≡_ {A = ℕ} 0 1 = cc z in absurd (omega arith)
+
+-- a text that is too long is not read at all
+pub build-too-long : (t : List ℕ) → Bytes t → 4294967295 < length t → {out : List ℕ} → Wrote (build (length out) 16384 t) out (Refused 20) out
+build-too-long t b h {out} = wrote-none (build-none (length out) t (text-too-long t b h))
+
+-- ── by the length of the lent work table ──
+
+pub build-short : (t w out : List ℕ) → length w < 16384 → after (Refused 15) w out ≡ afterBuild t w out
+unfolding afterBuild writes build need _>>_ _>>=_ answerOf howMany leftIn
+build-short t w out lt = rw (lt-leb 16384 (length w) lt, untouched t w lt)
+
+pub build-long :
+    (t w : List ℕ) → 16384 ≤ length w → (r : Reply) {v : List ℕ} → v ≡ noughts → {out out′ : List ℕ} → Wrote (build (length out) 16384 t) out r out′
+    → after r (v ++ drop 16384 w) out′ ≡ afterBuild t w out
+unfolding afterBuild writes build need
+build-long t w le r left h = rw (le-leb 16384 (length w) le, noughts-first t w le, left, h .says, h .left)
+
+-- ── the contract fixes the reply and all that is lent ──
+
+pub build-fixed :
+    (t work out : List ℕ) {r q : Reply} {w v o p : List ℕ} → after r w o ≡ afterBuild t work out → after q v p ≡ afterBuild t work out → (r ≡ q) × (w ≡ v) × (o ≡ p)
+build-fixed t work out a b = one-way a b
