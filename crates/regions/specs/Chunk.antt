@@ -1,9 +1,9 @@
 -- One chunk that is due: the lines of its values, by what the table says of its field. Assumes nothing.
 use mathlib.Core.Path.{_≡_, sym, ap, _∙_, subst}
 use mathlib.Core.List.{List}
-use Prim.Native.Nat.{ℕ, _-_, _≤_, _<_}
+use Prim.Native.Nat.{ℕ, _-_, _<_}
 use native.Mathlib.Omega.{arith}
-use lib.ListN.{length, getD, take}
+use lib.ListN.{getD, take}
 use Rattle.paper.specs.Reader.{repeat}
 use Rattle.paper.specs.Lists.{flat}
 use Rattle.paper.specs.Ledger.{Kind, Field, noField, fieldAt, object?}
@@ -13,7 +13,6 @@ use Rattle.table.specs.View.{kindFrom, fldsOf, logOf, view, Holds}
 use Rattle.table.specs.Answers.{fieldIn, dueIn}
 use Rattle.table.specs.declared.rows.DueRow.{DueRow}
 use Rattle.table.specs.declared.rows.FieldRow.{FieldRow}
-use Rattle.values.specs.Items.{Known}
 use Rattle.walk.specs.Gather.{Gathered}
 use Rattle.texts.specs.Told.{Told}
 use Rattle.texts.specs.Chunks.{ChunkTaken}

@@ -1,9 +1,9 @@
 -- What the table says of the chunks due once the first of them have their sizes. Assumes nothing.
-use mathlib.Core.Path.{_≡_, refl, sym, ap, ap₂, _∙_}
+use mathlib.Core.Path.{_≡_, refl, sym, ap}
 use mathlib.Core.List.{List, [], _∷_, _++_, map}
-use Prim.Native.Nat.{ℕ, zero, suc, _+_, _≤_, _<_, min}
+use Prim.Native.Nat.{ℕ, zero, suc, _≤_, _<_, min}
 use native.Mathlib.Omega.{arith}
-use lib.ListN.{length, getD, set}
+use lib.ListN.{length, getD}
 use Rattle.paper.specs.File.{what}
 use Rattle.paper.specs.Ledger.{Chunk, Due, State}
 use Rattle.paper.specs.Encode.{zip, putChunk, putChunks}

@@ -4,7 +4,7 @@ use mathlib.Core.List.{List, [], _∷_, _++_, map}
 use Prim.Native.Nat.{ℕ, zero, suc, _+_, _≤_, _<_, min}
 use native.Mathlib.Omega.{arith}
 use lib.ListN.{length, getD, List·getD-map, length-map}
-use Rattle.paper.specs.Reader.{got, no}
+use Rattle.paper.specs.Reader.{Out, got, no}
 use Rattle.paper.specs.Lists.{flat}
 use Rattle.paper.specs.File.{what}
 use Rattle.paper.specs.Ledger.{Chunk, Due, State}
@@ -21,12 +21,12 @@ use Rattle.words.specs.declared.read.Step.the-variants as step
 use Rattle.reader.specs.Sound.{Sound, Every, Declared}
 use Rattle.walk.specs.Low.{Low}
 use Rattle.walk.specs.Listed.{Listed}
-use Rattle.texts.specs.Told.{Lays, Told, takes, refuses, was-got, was-bad, flat-more}
+use Rattle.texts.specs.Told.{Told, takes, refuses, was-got, was-bad, flat-more}
 use Rattle.texts.specs.declared.Taken.{Taken}
 use Rattle.texts.specs.declared.TextRead.{TextRead}
 use Rattle.texts.specs.declared.TextRead.the-variants.{Got, Bad}
 use Rattle.regions.specs.Chunks.{chunksText, Left, left-start, left-done, left-bad, left-next, put-more}
-use Rattle.regions.specs.Sizes.{counted, sizedBy, sized-none, sized-at, sized-more, sized-all}
+use Rattle.regions.specs.Sizes.{counted, sizedBy, sized-none, sized-at, sized-same, sized-more, sized-all}
 
 -- what the chunks of a region ask of the table: it is one that a front was read into
 pub record RegionReady (t l : List ℕ) : Type 0 where
@@ -120,6 +120,7 @@ module _ {t l : List ℕ} {i : ℕ} (D : DueReady t l i) {from : ℕ} {out m : L
 -- the chunks end at e, and the table says the size of each
 pub record Sized (t l : List ℕ) (from e : ℕ) (l′ : List ℕ) : Type 0 where
   pub chunks : List Chunk
+  pub count : length chunks ≡ length (whatDue l)
   pub reads : chunksText (view t l) (whatDue l) t from ≡ got chunks e
   pub now : Now t l′ (record { state = view t l; due = zip (whatDue l) (map counted (putChunks (view t l) (whatDue l) chunks)); chunks = chunksOf l })
 
@@ -162,6 +163,7 @@ module _ {t l₀ : List ℕ} {from : ℕ} (R : RegionReady t l₀) {l : List ℕ
             let same : at ≡ next .at = cc q in
             record {
               chunks = G .done;
+              count = omega (arith, all, length-map (duesOf l₀) what);
               reads = reads ∙ ap (λ (e : ℕ). got (G .done) e) same;
               now = record { holds = G .holds; says = λ j. record { state = G .state j; due = whole j; chunks = G .chunks j } };
             };
@@ -179,7 +181,7 @@ module _ {t l₀ : List ℕ} {from : ℕ} (R : RegionReady t l₀) {l : List ℕ
     dues-long = ap length (G .due) ∙ sized-long (duesOf l₀) (G .done)
       where
         sized-long : (ds : List (Due × ℕ)) (cs : List Chunk) → length (sizedBy (view t l₀) ds cs) ≡ length ds
-        sized-long ds cs = sym (length-map (sizedBy (view t l₀) ds cs) what) ∙ ap length (Rattle.regions.specs.Sizes.sized-same (view t l₀) ds cs) ∙ length-map ds what
+        sized-long ds cs = sym (length-map (sizedBy (view t l₀) ds cs) what) ∙ ap length (sized-same (view t l₀) ds cs) ∙ length-map ds what
 
     pub sizing-ready : DueReady t l i
     sizing-ready =
@@ -197,7 +199,7 @@ module _ {t l₀ : List ℕ} {from : ℕ} (R : RegionReady t l₀) {l : List ℕ
 
     module _ {r : Step} {l′ : List ℕ} (C : ChunkSized t l at i r l′) where
       -- the turn's reading, by what the region began with
-      as-first : (e : Rattle.paper.specs.Reader.Out Chunk) → chunkText (view t l) (dueAt l i) t at ≡ e → chunkText (view t l₀) (getD (whatDue l₀) i (what noDue)) t at ≡ e
+      as-first : (e : Out Chunk) → chunkText (view t l) (dueAt l i) t at ≡ e → chunkText (view t l₀) (getD (whatDue l₀) i (what noDue)) t at ≡ e
       as-first e h =
           ap (λ (d : Due). chunkText (view t l₀) d t at) (what-at l₀ i ∙ ap (λ (d : Due × ℕ). d .0) (sym row-same))
           ∙ ap (λ (s : State). chunkText s (dueAt l i) t at) (sym (G .state)) ∙ h

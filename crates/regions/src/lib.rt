@@ -115,14 +115,7 @@ fn chunk_bytes(
 }
 
 // The i-th chunk that is due, laid as its bytes.
-fn due_bytes(
-    text: &[u8],
-    p: Place,
-    i: u32,
-    work: &[u32],
-    out: &mut [u8],
-    at: usize,
-) -> TextRead
+fn due_bytes(text: &[u8], p: Place, i: u32, work: &[u32], out: &mut [u8], at: usize) -> TextRead
     requires { ⌜ DueReady (now text) (now work) i ⌝ }
     ensures { λ r. ⌜ DueTold (now (text .entry)) (now (work .entry)) i (p .at) (now (out .entry)) at (now (out .exit)) r ⌝ }
 {

@@ -9,9 +9,9 @@ use native.Mathlib.Omega.{arith}
 use lib.ListN.{length, getD, set, length-set}
 use lib.Seq.{sets, length-sets, ext-getD, getD-set-same, getD-set-other}
 use Rattle.paper.specs.Ledger.{Due}
-use Rattle.table.specs.Rows.{cells, seg, Each}
+use Rattle.table.specs.Rows.{cells, seg}
 use Rattle.table.specs.RowLaws.{lt-or-ge, cells-cong, cells-sets, sets-other, seg-at, seg-kept, each-kept}
-use Rattle.table.specs.Layout.{width, most, starts, head-le, kinds-apart}
+use Rattle.table.specs.Layout.{width, most, starts, kinds-apart}
 use Rattle.table.specs.View.{wide, textOf, typOf, fldOf, rangeOf, dueOf, spotOf, strsOf, namesOf, typesOf, titlesOf, fldsOf, logOf, duesOf, chunksOf, view, Ok, Within, Holds, Now}
 use Rattle.table.specs.ViewLaws.{count-dues, Fits, ok-fits, ok-of, In, holds-of, holds-in, same-or-not}
 use Rattle.table.specs.RowReads.{due-row}
