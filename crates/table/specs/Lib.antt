@@ -8,6 +8,7 @@ pub mod Packed
 pub mod ViewLaws
 pub mod Pushes
 pub mod RowReads
+pub mod Sizes
 pub mod Counts
 pub mod Asks
 pub mod Loops

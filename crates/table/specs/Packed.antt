@@ -33,7 +33,7 @@ dueCells field values size = field ∷ values ∷ lower size ∷ upper size ∷ 
 abbrev pub chunkCells : ℕ → ℕ → ℕ → List ℕ
 chunkCells field start end = (field + 128 * start) ∷ end ∷ []
 
-halves : (n : ℕ) → wide (lower n) (upper n) ≡ n
+pub halves : (n : ℕ) → wide (lower n) (upper n) ≡ n
 halves n = omega arith
 
 pub field-cells : (r : FieldRow) → fldOf (fieldCells r) ≡ fieldIn r

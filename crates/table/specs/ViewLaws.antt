@@ -127,7 +127,7 @@ record Others (c : ℕ) (f l l′ : List ℕ) : Type 0 where
   pub chunks : 5 ≢ c → chunksOf l′ ≡ chunksOf l
   pub block : getD l′ 6 0 ≡ getD l 6 0
 
-same-or-not : (a b : ℕ) → (a ≡ b) ⊎ (a ≢ b)
+pub same-or-not : (a b : ℕ) → (a ≡ b) ⊎ (a ≢ b)
 same-or-not a b =
     ⊎-elim (λ (lt : a < b). inr (λ e. omega arith)) (λ (ge : b ≤ a). ⊎-elim (λ (e : b ≡ a). inl (sym e)) (λ (gt : b < a). inr (λ e. omega arith)) (eq-or-lt-of-le ge)) (lt-or-ge a b)
 

@@ -9,6 +9,7 @@ ghost use Rattle.table.specs.View.{Ok};
 ghost use Rattle.table.specs.Answers.{Small};
 ghost use Rattle.table.specs.Packed.{typeCells, fieldCells, rangeCells, dueCells, chunkCells};
 ghost use Rattle.table.specs.Pushes.{Pushed};
+ghost use Rattle.table.specs.Sizes.{DueSized};
 use super::cells::put2;
 use super::cells::put3;
 use super::cells::put4;
@@ -94,6 +95,17 @@ pub fn push_due(work: &mut [u32], field: u32, values: u32, size: u64)
     let high = (size / 4294967296) as u32;
     put4(work, 7312 + 4 * (n as usize), field, values, low, high);
     work[4] = n + 1;
+}
+
+// The size of the i-th chunk that is due: of a listing it is known only when the chunk's values were read.
+pub fn size_due(work: &mut [u32], i: u32, size: u64)
+    requires { ⌜ Ok (now work) ⌝ }
+    requires { ⌜ i < getD (now work) 4 0 ⌝ }
+    ensures { λ _. ⌜ DueSized i size (now (work .entry)) (now (work .exit)) ⌝ }
+{
+    let low = (size % 4294967296) as u32;
+    let high = (size / 4294967296) as u32;
+    put2(work, 7312 + 4 * (i as usize) + 2, low, high);
 }
 
 pub fn push_chunk(work: &mut [u32], field: u32, start: u32, end: u32)

@@ -48,7 +48,7 @@ alone : {A : Type 0} (o : Out (List A)) → o ≡ andThen o (λ more q. got ([] 
 alone (got a e) = refl
 alone (bad n p) = refl
 
-flat-more : {A : Type 0} (w : A → List ℕ) (done : List A) (a : A) → flat w done ++ w a ≡ flat w (done ++ a ∷ [])
+pub flat-more : {A : Type 0} (w : A → List ℕ) (done : List A) (a : A) → flat w done ++ w a ≡ flat w (done ++ a ∷ [])
 unfolding flat
 flat-more w [] a = sym (append-nil (w a))
 flat-more w (b ∷ done) a = append-assoc (w b) (flat w done) (w a) ∙ ap (λ (z : List ℕ). w b ++ z) (flat-more w done a)

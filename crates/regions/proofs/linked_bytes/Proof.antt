@@ -1,0 +1,26 @@
+-- `regions::linked_bytes` meets its contract: the ranges that were gathered are those of the type. Assumes nothing.
+use mathlib.Core.Path.{sym, _∙_}
+use Rattle.walk.specs.Gather.{first-lent, last-lent}
+use Rattle.regions.specs.Chunk.{taken-linked}
+use borrow.Author.Needs.{needs}
+use Rattle.regions.proofs.linked_bytes.Statement.{statement}
+use Rattle.regions.proofs.linked_bytes.Tie as tie
+
+pub linked-bytes-spec : {M : Type 1} → statement M
+linked-bytes-spec =
+    tie.close
+    (tie.spec
+    (λ c. search needs)
+    (λ c. search needs)
+    (λ c. search needs)
+    (λ c κs. search needs)
+    (λ c. search needs)
+    (λ c κs. search needs)
+    (λ c. search needs)
+    (λ c. search needs)
+    (λ c. first-lent (c .before .before .before .before .before .gather .ensures))
+    (λ c. search needs)
+    (λ c. last-lent (c .before .before .before .before .before .before .gather .ensures))
+    (λ c κs. ((c .before .before .before .before .before .before .before .before .before .before .before .before .before .before) .pre .1 .0, sym (first-lent (c .before .before .before .before .before .before .before .gather .ensures)) ∙ last-lent (c .before .before .before .before .before .before .before .gather .ensures)))
+    (λ c. search needs)
+    (λ c. taken-linked ((c .before .before .before .before .before .before .before .before .before .before .before .before .before .before .before .before .before) .args .kind) ((c .before .before .before .before .before .before .before .before .before .before .before .before .before .before .before .before .before) .pre .0 .0) (c .before .before .before .before .before .before .strings .ensures) (c .before .before .before .before .before .before .before .before .before .before .gather .ensures) (c .before .before .chunk-text .ensures)))

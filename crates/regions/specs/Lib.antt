@@ -1,0 +1,6 @@
+pub mod Chunk
+pub mod Chunks
+pub mod Sizes
+pub mod Sums
+pub mod Turns
+pub mod After

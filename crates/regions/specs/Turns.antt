@@ -1,0 +1,294 @@
+-- The chunks that are due in code: a turn for each, which puts down its size, or lays its bytes. Assumes nothing.
+use mathlib.Core.Path.{_≡_, refl, sym, ap, _∙_, subst}
+use mathlib.Core.List.{List, [], _∷_, _++_, map}
+use Prim.Native.Nat.{ℕ, zero, suc, _+_, _≤_, _<_, min}
+use native.Mathlib.Omega.{arith}
+use lib.ListN.{length, getD, List·getD-map, length-map}
+use Rattle.paper.specs.Reader.{Out, got, no}
+use Rattle.paper.specs.Lists.{flat}
+use Rattle.paper.specs.File.{what}
+use Rattle.paper.specs.Ledger.{Chunk, Due, State}
+use Rattle.paper.specs.Encode.{zip, putChunk, putChunks}
+use Rattle.paper.specs.Scan.{chunkText}
+use Rattle.lay.specs.Laid.{most, Laid, laid-none, laid-then, laid-as, laid-long}
+use Rattle.table.specs.View.{fldsOf, logOf, duesOf, chunksOf, view, said, Said, Holds, Now}
+use Rattle.table.specs.Answers.{dueIn, noDue}
+use Rattle.table.specs.Sizes.{resized, DueSized}
+use Rattle.table.specs.declared.rows.DueRow.{DueRow}
+use Rattle.words.specs.declared.read.Place.{Place}
+use Rattle.words.specs.declared.read.Step.{Step}
+use Rattle.words.specs.declared.read.Step.the-variants as step
+use Rattle.reader.specs.Sound.{Sound, Every, Declared}
+use Rattle.walk.specs.Low.{Low}
+use Rattle.walk.specs.Listed.{Listed}
+use Rattle.texts.specs.Told.{Told, takes, refuses, was-got, was-bad, flat-more}
+use Rattle.texts.specs.declared.Taken.{Taken}
+use Rattle.texts.specs.declared.TextRead.{TextRead}
+use Rattle.texts.specs.declared.TextRead.the-variants.{Got, Bad}
+use Rattle.regions.specs.Chunks.{chunksText, Left, left-start, left-done, left-bad, left-next, put-more}
+use Rattle.regions.specs.Sizes.{counted, sizedBy, sized-none, sized-at, sized-same, sized-more, sized-all}
+
+-- what the chunks of a region ask of the table: it is one that a front was read into
+pub record RegionReady (t l : List ℕ) : Type 0 where
+  pub holds : Holds t l
+  pub sound : Sound (said t l)
+  pub low : Low 0 (logOf l)
+  pub listed : Listed (fldsOf l)
+
+abbrev pub whatDue : List ℕ → List Due
+whatDue l = map what (duesOf l)
+
+every-at : (P : Due × ℕ → Type 0) (ds : List (Due × ℕ)) (i : ℕ) → Every P ds → i < length ds → P (getD ds i noDue)
+every-at P [] i h lt = absurd (omega arith)
+every-at P (d ∷ ds) zero h lt = h .0
+every-at P (d ∷ ds) (suc i) h lt = every-at P ds i (h .1) (omega arith)
+
+-- ── one chunk, by its place among those due ──
+
+-- what a turn asks
+pub record DueReady (t l : List ℕ) (i : ℕ) : Type 0 where
+  pub holds : Holds t l
+  pub low : Low 0 (logOf l)
+  pub listed : Listed (fldsOf l)
+  pub due : i < getD l 4 0
+  pub declared : getD (duesOf l) i noDue .0 .field < getD l 2 0
+
+abbrev pub dueAt : List ℕ → ℕ → Due
+dueAt l i = getD (duesOf l) i noDue .0
+
+pub ready-at : {t l : List ℕ} → RegionReady t l → (i : ℕ) → i < getD l 4 0 → DueReady t l i
+ready-at {t} {l} R i lt =
+    let ok = R .holds .ok in
+    record {
+      holds = R .holds;
+      low = R .low;
+      listed = R .listed;
+      due = lt;
+      declared = omega (arith, ok .flds-count, every-at (Declared (view t l)) (duesOf l) i (R .sound .declared) (omega (arith, ok .dues-count)) .below);
+    }
+
+pub field-declared : {t l : List ℕ} {i : ℕ} → DueReady t l i → (d : DueRow) → dueIn d ≡ getD (duesOf l) i noDue → d .field < getD l 2 0
+field-declared {t} {l} {i} D d is = omega (arith, ap (λ (x : Due × ℕ). x .0 .field) is, D .declared)
+
+-- its reading and its bytes
+abbrev pub DueTold : List ℕ → List ℕ → ℕ → ℕ → List ℕ → ℕ → List ℕ → TextRead → Type 0
+DueTold t l i from out at m r = Told (chunkText (view t l) (dueAt l i)) (putChunk (view t l) (dueAt l i)) t from out at m r
+
+pub due-told :
+    {t : List ℕ} (l : List ℕ) (i : ℕ) {from : ℕ} {out : List ℕ} {at : ℕ} {m : List ℕ} {r : TextRead} (d : DueRow) → dueIn d ≡ getD (duesOf l) i noDue
+    → Told (chunkText (view t l) (dueIn d .0)) (putChunk (view t l) (dueIn d .0)) t from out at m r → DueTold t l i from out at m r
+due-told {t} l i {from} {out} {at} {m} {r} d is T =
+    subst (λ (u : Due). Told (chunkText (view t l) u) (putChunk (view t l) u) t from out at m r) (ap (λ (x : Due × ℕ). x .0) is) T
+
+-- ── its size ──
+
+-- the chunk ends at e, and the table says its size
+pub record OneSized (t l : List ℕ) (from i e : ℕ) (l′ : List ℕ) : Type 0 where
+  pub chunk : Chunk
+  pub reads : chunkText (view t l) (dueAt l i) t from ≡ got chunk e
+  pub now : Now t l′ (record { state = view t l; due = resized i (counted (putChunk (view t l) (dueAt l i) chunk)) (duesOf l); chunks = chunksOf l })
+
+pub record ChunkSized (t l : List ℕ) (from i : ℕ) (r : Step) (l′ : List ℕ) : Type 0 where
+  pub holds : Holds t l′
+  pub sized : (next : Place) → r ≡ step.To next → OneSized t l from i (next .at) l′
+  pub refused : r ≡ step.Bad → chunkText (view t l) (dueAt l i) t from ≡ no 20 0
+
+module _ {t l : List ℕ} {i : ℕ} (D : DueReady t l i) {from : ℕ} {out m : List ℕ} {a : TextRead} (T : DueTold t l i from out 0 m a) where
+  pub sized-bad : a ≡ Bad → ChunkSized t l from i step.Bad l
+  sized-bad is =
+      record {
+        holds = D .holds;
+        sized = λ next q. let z : _≡_ {A = ℕ} 0 1 = cc q in absurd (omega arith);
+        refused = λ q. was-bad T is;
+      }
+
+  pub sized-got : {k : Taken} {l′ : List ℕ} → a ≡ Got k → DueSized i (k .at) l l′ → ChunkSized t l from i (step.To (k .next)) l′
+  sized-got {k} {l′} is S =
+      let L = was-got T is in
+      let size : k .at ≡ counted (putChunk (view t l) (dueAt l i) (L .value)) = L .laid .next ∙ ap (λ (n : ℕ). min n most) (omega arith) in
+      let after = subst (λ (n : ℕ). Now t l′ (record { state = view t l; due = resized i n (duesOf l); chunks = chunksOf l })) size (S .says t (D .holds)) in
+      record {
+        holds = after .holds;
+        sized = λ next q.
+            let same : k .next .at ≡ next .at = cc q in
+            record { chunk = L .value; reads = L .reads ∙ ap (λ (e : ℕ). got (L .value) e) same; now = after };
+        refused = λ q. let z : _≡_ {A = ℕ} 0 1 = cc q in absurd (omega arith);
+      }
+
+-- ── all sizes ──
+
+-- the chunks end at e, and the table says the size of each
+pub record Sized (t l : List ℕ) (from e : ℕ) (l′ : List ℕ) : Type 0 where
+  pub chunks : List Chunk
+  pub count : length chunks ≡ length (whatDue l)
+  pub reads : chunksText (view t l) (whatDue l) t from ≡ got chunks e
+  pub now : Now t l′ (record { state = view t l; due = zip (whatDue l) (map counted (putChunks (view t l) (whatDue l) chunks)); chunks = chunksOf l })
+
+pub record RegionSized (t l : List ℕ) (from : ℕ) (r : Step) (l′ : List ℕ) : Type 0 where
+  pub holds : Holds t l′
+  pub long : length l′ ≡ length l
+  pub sized : (next : Place) → r ≡ step.To next → Sized t l from (next .at) l′
+  pub refused : r ≡ step.Bad → chunksText (view t l) (whatDue l) t from ≡ no 20 0
+
+-- i of them have their sizes
+pub record Sizing (t l₀ : List ℕ) (from : ℕ) (l : List ℕ) (at i : ℕ) : Type 0 where
+  pub holds : Holds t l
+  pub done : List Chunk
+  pub left : Left (view t l₀) (whatDue l₀) t from i done at
+  pub state : view t l ≡ view t l₀
+  pub due : duesOf l ≡ sizedBy (view t l₀) (duesOf l₀) done
+  pub chunks : chunksOf l ≡ chunksOf l₀
+
+pub sizing-start : {t l : List ℕ} (from : ℕ) → RegionReady t l → Sizing t l from l from 0
+sizing-start {t} {l} from R =
+    record { holds = R .holds; done = []; left = left-start (view t l) (whatDue l) t from; state = refl; due = sym (sized-none (view t l) (duesOf l)); chunks = refl }
+
+-- the same chunk by either list
+what-at : (l : List ℕ) (i : ℕ) → getD (whatDue l) i (what noDue) ≡ dueAt l i
+what-at l i = List·getD-map what (duesOf l) i noDue
+
+what-long : {t l : List ℕ} → Holds t l → length (whatDue l) ≡ getD l 4 0
+what-long {t} {l} h = length-map (duesOf l) what ∙ h .ok .dues-count
+
+module _ {t l₀ : List ℕ} {from : ℕ} (R : RegionReady t l₀) {l : List ℕ} {at i : ℕ} (G : Sizing t l₀ from l at i) where
+  pub sizing-done : getD l₀ 4 0 ≤ i → i ≤ getD l₀ 4 0 → RegionSized t l₀ from (step.To (record { at = at })) l
+  sizing-done le ge =
+      let all : length (G .done) ≡ length (duesOf l₀) = omega (arith, G .left .count, R .holds .ok .dues-count) in
+      let whole = G .due ∙ sized-all (view t l₀) (duesOf l₀) (G .done) all in
+      let reads = left-done (G .left) (omega (arith, what-long (R .holds))) in
+      record {
+        holds = G .holds;
+        long = G .holds .ok .long ∙ sym (R .holds .ok .long);
+        sized = λ next q.
+            let same : at ≡ next .at = cc q in
+            record {
+              chunks = G .done;
+              count = omega (arith, all, length-map (duesOf l₀) what);
+              reads = reads ∙ ap (λ (e : ℕ). got (G .done) e) same;
+              now = record { holds = G .holds; says = λ j. record { state = G .state j; due = whole j; chunks = G .chunks j } };
+            };
+        refused = λ q. let z : _≡_ {A = ℕ} 0 1 = cc q in absurd (omega arith);
+      }
+
+  module _ (lt : i < getD l₀ 4 0) where
+    row-same : getD (duesOf l) i noDue ≡ getD (duesOf l₀) i noDue
+    row-same = ap (λ (ds : List (Due × ℕ)). getD ds i noDue) (G .due) ∙ sized-at (view t l₀) (duesOf l₀) (G .done) i (omega (arith, G .left .count))
+
+    there : i < length (whatDue l₀)
+    there = omega (arith, what-long (R .holds))
+
+    dues-long : length (duesOf l) ≡ length (duesOf l₀)
+    dues-long = ap length (G .due) ∙ sized-long (duesOf l₀) (G .done)
+      where
+        sized-long : (ds : List (Due × ℕ)) (cs : List Chunk) → length (sizedBy (view t l₀) ds cs) ≡ length ds
+        sized-long ds cs = sym (length-map (sizedBy (view t l₀) ds cs) what) ∙ ap length (sized-same (view t l₀) ds cs) ∙ length-map ds what
+
+    pub sizing-ready : DueReady t l i
+    sizing-ready =
+        let own = G .holds .ok in
+        let before = R .holds .ok in
+        let fields : length (fldsOf l) ≡ length (fldsOf l₀) = ap (λ (s : State). length (s .fields)) (G .state) in
+        let first = ready-at R i lt in
+        record {
+          holds = G .holds;
+          low = subst (λ (s : State). Low 0 (s .log)) (sym (G .state)) (R .low);
+          listed = subst (λ (s : State). Listed (s .fields)) (sym (G .state)) (R .listed);
+          due = omega (arith, own .dues-count, before .dues-count, dues-long);
+          declared = subst (λ (d : Due × ℕ). d .0 .field < getD l 2 0) (sym row-same) (omega (arith, own .flds-count, before .flds-count, fields, first .declared));
+        }
+
+    module _ {r : Step} {l′ : List ℕ} (C : ChunkSized t l at i r l′) where
+      -- the turn's reading, by what the region began with
+      as-first : (e : Out Chunk) → chunkText (view t l) (dueAt l i) t at ≡ e → chunkText (view t l₀) (getD (whatDue l₀) i (what noDue)) t at ≡ e
+      as-first e h =
+          ap (λ (d : Due). chunkText (view t l₀) d t at) (what-at l₀ i ∙ ap (λ (d : Due × ℕ). d .0) (sym row-same))
+          ∙ ap (λ (s : State). chunkText s (dueAt l i) t at) (sym (G .state)) ∙ h
+
+      pub sizing-bad : r ≡ step.Bad → RegionSized t l₀ from step.Bad l′
+      sizing-bad is =
+          let all = left-bad (G .left) (what noDue) there (as-first (no 20 0) (C .refused is)) in
+          record {
+            holds = C .holds;
+            long = C .holds .ok .long ∙ sym (R .holds .ok .long);
+            sized = λ next q. let z : _≡_ {A = ℕ} 0 1 = cc q in absurd (omega arith);
+            refused = λ q. all;
+          }
+
+      pub sizing-next : {next : Place} → r ≡ step.To next → Sizing t l₀ from l′ (next .at) (i + 1)
+      sizing-next {next} is =
+          let O = C .sized next is in
+          let c = O .chunk in
+          let said-now = O .now .says in
+          let size : counted (putChunk (view t l) (dueAt l i) c) ≡ counted (putChunk (view t l₀) (dueAt l₀ i) c) =
+          ap (λ (s : State). counted (putChunk s (dueAt l i) c)) (G .state) ∙ ap (λ (d : Due × ℕ). counted (putChunk (view t l₀) (d .0) c)) row-same in
+          record {
+            holds = C .holds;
+            done = G .done ++ c ∷ [];
+            left = left-next (G .left) (what noDue) there (as-first (got c (next .at)) (O .reads));
+            state = ap (λ (x : Said). x .state) said-now ∙ G .state;
+            due =
+                ap (λ (x : Said). x .due) said-now
+                ∙ ap (λ (n : ℕ). resized i n (duesOf l)) size
+                ∙ ap (λ (ds : List (Due × ℕ)). resized i (counted (putChunk (view t l₀) (dueAt l₀ i) c)) ds) (G .due)
+                ∙ sized-more (view t l₀) (duesOf l₀) (G .done) i c (G .left .count) (omega (arith, R .holds .ok .dues-count));
+            chunks = ap (λ (x : Said). x .chunks) said-now ∙ G .chunks;
+          }
+
+-- ── all bytes ──
+
+abbrev pub regionBytes : State → List Due → List Chunk → List ℕ
+regionBytes s ds cs = flat (λ b. b) (putChunks s ds cs)
+
+abbrev pub RegionTold : List ℕ → List ℕ → ℕ → List ℕ → ℕ → List ℕ → TextRead → Type 0
+RegionTold t l from out at m r = Told (chunksText (view t l) (whatDue l)) (regionBytes (view t l) (whatDue l)) t from out at m r
+
+-- i of them are laid
+pub record Laying (t l : List ℕ) (from : ℕ) (out : List ℕ) (at : ℕ) (m : List ℕ) (i : ℕ) (k : Taken) : Type 0 where
+  pub long : length m ≡ length out
+  pub done : List Chunk
+  pub left : Left (view t l) (whatDue l) t from i done (k .next .at)
+  pub laid : Laid out at (regionBytes (view t l) (whatDue l) done) m (k .at)
+
+put-none : (s : State) (ds : List Due) → putChunks s ds [] ≡ []
+unfolding putChunks
+put-none s [] = refl
+put-none s (d ∷ ds) = refl
+
+pub laying-start : (t l : List ℕ) (out : List ℕ) (at : ℕ) (k : Taken) → length out ≤ most → k .at ≤ most → k .at ≡ at → Laying t l (k .next .at) out at out 0 k
+unfolding flat
+laying-start t l out at k h le is =
+    record {
+      long = refl;
+      done = [];
+      left = left-start (view t l) (whatDue l) t (k .next .at);
+      laid = rw is (laid-as (laid-none h (rw is at le)) (sym (ap (flat (λ b. b)) (put-none (view t l) (whatDue l)))));
+    }
+
+module _ {t l : List ℕ} (R : RegionReady t l) {from : ℕ} {out : List ℕ} {at : ℕ} {m : List ℕ} {i : ℕ} {k : Taken} (G : Laying t l from out at m i k) where
+  pub laying-done : getD l 4 0 ≤ i → RegionTold t l from out at m (Got k)
+  laying-done le = takes k (record { value = G .done; reads = left-done (G .left) (omega (arith, what-long (R .holds))); laid = G .laid })
+
+  module _ (lt : i < getD l 4 0) {m₂ : List ℕ} {a : TextRead} (T : DueTold t l i (k .next .at) m (k .at) m₂ a) where
+    laid-there : i < length (whatDue l)
+    laid-there = omega (arith, what-long (R .holds))
+
+    -- by the list without sizes
+    by-what : Told (chunkText (view t l) (getD (whatDue l) i (what noDue))) (putChunk (view t l) (getD (whatDue l) i (what noDue))) t (k .next .at) m (k .at) m₂ a
+    by-what = subst (λ (u : Due). Told (chunkText (view t l) u) (putChunk (view t l) u) t (k .next .at) m (k .at) m₂ a) (sym (what-at l i)) T
+
+    pub laying-bad : a ≡ Bad → {m₃ : List ℕ} → RegionTold t l from out at m₃ Bad
+    laying-bad is = refuses (left-bad (G .left) (what noDue) laid-there (was-bad by-what is))
+
+    pub laying-next : {k₂ : Taken} → a ≡ Got k₂ → Laying t l from out at m₂ (i + 1) k₂
+    laying-next {k₂} is =
+        let L = was-got by-what is in
+        let s = view t l in
+        let ds = whatDue l in
+        record {
+          long = laid-long (L .laid) ∙ G .long;
+          done = G .done ++ L .value ∷ [];
+          left = left-next (G .left) (what noDue) laid-there (L .reads);
+          laid = laid-as (laid-then (G .laid) (L .laid))
+              (flat-more (λ b. b) (putChunks s ds (G .done)) (putChunk s (getD ds i (what noDue)) (L .value))
+              ∙ ap (flat (λ b. b)) (sym (put-more s ds (G .done) i (what noDue) (L .value) (G .left .count) laid-there)));
+        }
