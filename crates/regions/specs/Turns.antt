@@ -93,7 +93,7 @@ pub record ChunkSized (t l : List ℕ) (from i : ℕ) (r : Step) (l′ : List �
   pub sized : (next : Place) → r ≡ step.To next → OneSized t l from i (next .at) l′
   pub refused : r ≡ step.Bad → chunkText (view t l) (dueAt l i) t from ≡ no 20 0
 
-module _ {t l : List ℕ} {i : ℕ} (D : DueReady t l i) {from : ℕ} {out m : List ℕ} {a : TextRead} (T : DueTold t l i from out 0 m a) where
+module _ {t l : List ℕ} {i : ℕ} (D : DueReady t l i) {from : ℕ} {out : List ℕ} {at : ℕ} {m : List ℕ} {a : TextRead} (T : DueTold t l i from out at m a) where
   pub sized-bad : a ≡ Bad → ChunkSized t l from i step.Bad l
   sized-bad is =
       record {
@@ -102,8 +102,9 @@ module _ {t l : List ℕ} {i : ℕ} (D : DueReady t l i) {from : ℕ} {out m : L
         refused = λ q. was-bad T is;
       }
 
-  pub sized-got : {k : Taken} {l′ : List ℕ} → a ≡ Got k → DueSized i (k .at) l l′ → ChunkSized t l from i (step.To (k .next)) l′
-  sized-got {k} {l′} is S =
+  -- it was counted from 0
+  pub sized-got : {k : Taken} {l′ : List ℕ} → at ≡ 0 → a ≡ Got k → DueSized i (k .at) l l′ → ChunkSized t l from i (step.To (k .next)) l′
+  sized-got {k} {l′} start is S =
       let L = was-got T is in
       let size : k .at ≡ counted (putChunk (view t l) (dueAt l i) (L .value)) = L .laid .next ∙ ap (λ (n : ℕ). min n most) (omega arith) in
       let after = subst (λ (n : ℕ). Now t l′ (record { state = view t l; due = resized i n (duesOf l); chunks = chunksOf l })) size (S .says t (D .holds)) in

@@ -1,5 +1,6 @@
 -- `regions::kind_bytes` meets its contract. Assumes nothing.
 use Rattle.regions.specs.Chunk.{taken-plain}
+use native.Mathlib.Omega.{arith}
 use borrow.Author.Needs.{needs}
 use Rattle.regions.proofs.kind_bytes.Statement.{statement}
 use Rattle.regions.proofs.kind_bytes.Tie as tie
@@ -18,4 +19,4 @@ kind-bytes-spec =
     (λ c. search needs)
     (λ c κs. search needs)
     (λ c. search needs)
-    (λ c. taken-plain ((c .before .before .before .before .before .before .before .before .before .before .before .before .before) .args .kind) ((c .before .before .before .before .before .before .before .before .before .before .before .before .before) .pre .0 .0) (c .before .before .before .before .before .before .strings .ensures) (c .before .before .before .before .before .before .before .before .if1 .left) (c .before .before .chunk-text .ensures)))
+    (λ c. taken-plain ((c .before .before .before .before .before .before .before .before .before .before .before .before .before) .args .kind) ((c .before .before .before .before .before .before .before .before .before .before .before .before .before) .pre .0 .0) (c .before .before .before .before .before .before .strings .ensures) (omega arith) (c .before .before .chunk-text .ensures)))
