@@ -72,7 +72,7 @@ fn field_count(file: &[u8], c: Cursor, work: &[u32], known: u32) -> Number
 }
 
 // How many values the chunk of a field has, by the first number of its kind: 0 to 4 are constants, whose chunks are empty.
-fn values_due(kind: u32, n: u32) -> u32
+pub fn values_due(kind: u32, n: u32) -> u32
     ensures { λ r. ⌜ ((a e : ℕ) → r ≡ valuesDue (kindFrom kind a e) n) ⌝ }
 {
     if kind <= 4 {
@@ -171,7 +171,7 @@ fn field_name(file: &[u8], c: Cursor, work: &[u32], t: u32) -> Number
 
 // A field more of type t, whose name is string number `name`, and its chunk, which is due with a value for each of the
 // type's objects.
-fn add_field(work: &mut [u32], t: u32, kind: Kind, name: u64, objects: u32, size: u64)
+pub fn add_field(work: &mut [u32], t: u32, kind: Kind, name: u64, objects: u32, size: u64)
     requires { ⌜ Ok (now work) ⌝ }
     requires { ⌜ (1 ≤ name) × (name ≤ getD (now work) 0 0) ⌝ }
     requires { ⌜ kind .first ≤ 32 ⌝ }
