@@ -1,2 +1,6 @@
 pub mod Fields
 pub mod FieldDues
+pub mod FieldNews
+pub mod FieldsAll
+pub mod Entries
+pub mod EntriesLaws
