@@ -1,9 +1,13 @@
 // The fields of an entry, from the lines of a listing: the known ones and then new ones, held to the rules of a file and
 // entered in the table. Their chunks are due, and have no size yet.
-ghost use Prim.Native.Nat.{_<_};
-ghost use lib.ListN.{getD};
-ghost use Rattle.judge.specs.Fields.{Ready, OldTold, OldsTold};
+ghost use Prim.Native.Nat.{_+_, _<_, _≤_};
+ghost use lib.ListN.{length, getD};
+ghost use Rattle.table.specs.View.{fldsOf, Holds, said};
+ghost use Rattle.reader.specs.Sound.{Open};
+ghost use Rattle.judge.specs.Fields.{Ready, OldTold, OldsTold, newStep, newsStep, fieldsStep, Stepped};
 use reader::fields::values_due;
+use words::read::Place;
+use words::read::Step;
 
 // The chunk of field i, where it is a known one of type t: it has a value for each object that is added.
 fn due_if_known(work: &mut [u32], t: u32, i: u32, added: u32)
@@ -33,4 +37,41 @@ fn known_due(work: &mut [u32], t: u32, added: u32)
         due_if_known(work, t, i, added);
         i += 1;
     }
+}
+
+// A new field of type t, which has so many objects: a field that comes late has a value for each of them.
+fn new_text(text: &[u8], p: Place, work: &mut [u32], t: u32, objects: u32) -> Step
+    requires { ⌜ Holds (now text) (now work) ⌝ }
+    requires { ⌜ Open (said (now text) (now work)) t (length (fldsOf (now work))) ⌝ }
+    requires { ⌜ getD (now work) 2 0 < 128 ⌝ }
+    ensures { λ r. ⌜ Stepped (now (text .entry)) (now (work .exit)) t r (newStep t objects (said (now (text .entry)) (now (work .entry))) (now (text .entry)) (p .at)) ⌝ }
+{
+    Step::Bad
+}
+
+// So many new fields of type t.
+fn news_text(
+    text: &[u8],
+    p: Place,
+    work: &mut [u32],
+    t: u32,
+    objects: u32,
+    count: u64,
+) -> Step
+    requires { ⌜ Holds (now text) (now work) ⌝ }
+    requires { ⌜ Open (said (now text) (now work)) t (length (fldsOf (now work))) ⌝ }
+    requires { ⌜ getD (now work) 2 0 + count ≤ 128 ⌝ }
+    ensures { λ r. ⌜ Stepped (now (text .entry)) (now (work .exit)) t r (newsStep t objects count (said (now (text .entry)) (now (work .entry))) (now (text .entry)) (p .at)) ⌝ }
+{
+    let mut at = p.at;
+    let mut rest = count;
+    while 0 < rest {
+        let a = new_text(text, Place { at }, work, t, objects);
+        let Step::To(next) = a else {
+            return Step::Bad;
+        };
+        at = next.at;
+        rest -= 1;
+    }
+    Step::To(Place { at })
 }
