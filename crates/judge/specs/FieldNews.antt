@@ -2,26 +2,21 @@
 use mathlib.Core.Path.{_≡_, refl, sym, ap, _∙_}
 use mathlib.Core.Bool.{Bool, true, false, _&&_}
 use mathlib.Core.List.{List, [], _∷_}
-use Prim.Native.Nat.{ℕ, _+_, _-_, _^_, _≤_, _<_}
+use Prim.Native.Nat.{ℕ, _+_, _-_, _≤_, _<_}
 use native.Mathlib.Omega.{arith}
 use lib.ListN.{length, getD, length-append}
 use borrow.Author.Tests.{leb-true}
-use Rattle.paper.specs.Reader.{if_then_else_, Out, got, no, andThen, turned, _>>=_, _>>_, give, times, hold, Rule, _orNo_}
+use Rattle.paper.specs.Reader.{if_then_else_, Out, got, no, andThen, turned, _>>=_, _>>_, give, times}
 use Rattle.paper.specs.Lists.{fold}
 use Rattle.paper.specs.Ledger.{New, State, aString?}
 use Rattle.paper.specs.Rules.{fieldNameRules, afterNew}
-use Rattle.paper.specs.Keeps.{hold?, number?, kindKept?, new-field?}
+use Rattle.paper.specs.Keeps.{number?, kindKept?, new-field?}
 use Rattle.paper.specs.Scan.{heed, readNew, newText}
-use Rattle.laws.specs.Bools.{and-split, number-split, number-join, held-split}
-use Rattle.numbers.specs.Cursors.{outOf}
-use Rattle.numbers.specs.declared.Number.{Number}
-use Rattle.numbers.specs.declared.Number.the-variants.{Got, No}
-use Rattle.numbers.specs.declared.Cursor.{Cursor}
-use Rattle.numbers.specs.declared.Refusal.{Refusal}
+use Rattle.laws.specs.Bools.{and-split, number-split}
 use Rattle.words.specs.declared.read.Place.{Place}
 use Rattle.words.specs.declared.read.Step.{Step}
 use Rattle.words.specs.declared.read.Step.the-variants.{To, Bad}
-use Rattle.table.specs.View.{strsOf, fldsOf, view, Holds, Said, said}
+use Rattle.table.specs.View.{kindFrom, strsOf, fldsOf, view, Holds, Said, said}
 use Rattle.parse.specs.declared.NewLine.{NewLine}
 use Rattle.parse.specs.declared.NewRead.{NewRead}
 use Rattle.parse.specs.declared.NewRead.the-variants as new
@@ -33,33 +28,7 @@ use Rattle.reader.specs.NewSteps.{then-turned}
 use Rattle.reader.specs.NewRows.{open-due}
 use Rattle.judge.specs.Fields.{addText, newStep, newsStep, outSaid, Stepped}
 
--- ── a number that was held to rules ──
-
-hold-kept : (rs : List Rule) (p n q : ℕ) {v e : ℕ} → got v e ≡ hold rs p (got n q) → hold? rs ≡ true
-unfolding hold?
-hold-kept [] p n q h = refl
-hold-kept ((true orNo k) ∷ rs) p n q h = hold-kept rs p n q h
-hold-kept ((false orNo k) ∷ rs) p n q h = let z : _≡_ {A = ℕ} 0 1 = cc h in absurd (omega arith)
-
-hold-broken : (rs : List Rule) (p n q : ℕ) {k m : ℕ} → no k m ≡ hold rs p (got n q) → hold? rs ≡ false
-unfolding hold?
-hold-broken [] p n q h = let z : _≡_ {A = ℕ} 0 1 = cc h in absurd (omega arith)
-hold-broken ((true orNo k) ∷ rs) p n q h = hold-broken rs p n q h
-hold-broken ((false orNo k) ∷ rs) p n q h = refl
-
--- the answer `a` says whether n keeps its rules; its refusal and its places are no matter in a text
-module _ (rules : ℕ → List Rule) (n p q : ℕ) {a : Number} (says : outOf a ≡ hold (rules n) p (got n q)) where
-  pub judged-kept : n < 256 ^ 8 → {v : ℕ} {c : Cursor} → a ≡ Got v c → number? rules n ≡ true
-  judged-kept lt {v} {c} is = number-join rules n lt (held-split (rules n) (hold-kept (rules n) p n q (rw is at says)))
-
-  pub judged-broken : {e : Refusal} → a ≡ No e → number? rules n ≡ false
-  unfolding number?
-  judged-broken is = go (lib.Dec.ltb n (256 ^ 8)) (hold? (rules n)) (hold-broken (rules n) p n q (rw is at says))
-    where
-      go : (a b : Bool) → b ≡ false → (a && b) ≡ false
-      go true b h = h
-      go false b h = refl
-
+-- a name that keeps its rules is a string's number
 pub name-held : {f l : List ℕ} → Holds f l → (t : ℕ) {n : ℕ} → number? (fieldNameRules t (view f l)) n ≡ true → (1 ≤ n) × (n ≤ getD l 0 0)
 unfolding fieldNameRules aString?
 name-held {f} {l} h t {n} k =
@@ -67,6 +36,10 @@ name-held {f} {l} h t {n} k =
     (leb-true 1 n (H .0), omega (arith, h .strs-count, leb-true n (length (strsOf f l)) (H .1)))
 
 -- ── one field ──
+
+-- so a row of the table has room for its kind
+pub new-first : {f : List ℕ} {at : ℕ} {a : NewRead} → NewReads f at a → {x : NewLine} {c : Place} → a ≡ new.Got x c → x .k ≤ 32
+new-first line is = (rw is at line) .told .first
 
 -- the line, whose kind keeps its rules, and then the rules of the name
 new-is : (t : ℕ) (s : State) (f : List ℕ) (at : ℕ) → newText t s f at ≡ andThen (keptNew f at) (λ g e. if number? (fieldNameRules t s) (g .name) then got g e else no 20 0)
@@ -107,7 +80,7 @@ module _ {f l : List ℕ} (h : Holds f l) (t n : ℕ) {at : ℕ} {a : NewRead} (
 
   module _ {x : NewLine} {c : Place} (is : a ≡ new.Got x c) where
     read : New
-    read = record { kind = Rattle.table.specs.View.kindFrom (x .k) (x .a) (x .e); name = x .name }
+    read = record { kind = kindFrom (x .k) (x .a) (x .e); name = x .name }
 
     pub new-unnamed : number? (fieldNameRules t (view f l)) (x .name) ≡ false → Stepped f l t Bad (newStep t n (said f l) f at)
     unfolding if_then_else_

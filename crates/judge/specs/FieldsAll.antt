@@ -119,3 +119,37 @@ module _ {f l : List ℕ} (h : Holds f l) (t added n at : ℕ) {known : ℕ} (kn
               ∙ sym (counted-are objects-are ∙ rw is refl);
           still-open = news .still-open;
         }
+
+-- ── what the whole has led to ──
+
+-- the fields were read from place `at` to `next`, and the table l became l′
+pub record FieldsRead (f l : List ℕ) (t added n at : ℕ) (l′ : List ℕ) (next : ℕ) : Type 0 where
+  pub news : List New
+  pub reads : fieldsText (view f l) t added n f at ≡ got news next
+  pub now : Now f l′ (addFields added t (said f l) news)
+  pub sound : Sound (said f l′)
+
+abbrev pub fieldsSay : List ℕ → List ℕ → ℕ → ℕ → ℕ → ℕ → List ℕ → Step → Type 0
+fieldsSay f l t added n at l′ (To c) = FieldsRead f l t added n at l′ (c .at)
+fieldsSay f l t added n at l′ Bad = fieldsText (view f l) t added n f at ≡ no 20 0
+
+pub record FieldsTold (f l : List ℕ) (t added n at : ℕ) (l′ : List ℕ) (r : Step) : Type 0 where
+  pub holds : Holds f l′
+  pub says : fieldsSay f l t added n at l′ r
+
+module _ (f l : List ℕ) (t added n at : ℕ) (l′ : List ℕ) where
+  pub fields-told : (r : Step) → Stepped f l′ t r (fieldsStep t added n (said f l) f at) → FieldsTold f l t added n at l′ r
+  unfolding fieldsStep
+  fields-told (To c) S = record { holds = S .holds; says = go (fieldsText (view f l) t added n f at) refl (S .says) }
+    where
+      go : (o : Out (List New)) → fieldsText (view f l) t added n f at ≡ o → got (said f l′) (c .at) ≡ turned (addFields added t (said f l)) o → FieldsRead f l t added n at l′ (c .at)
+      go (got news e) is r =
+          let x : said f l′ ≡ addFields added t (said f l) news = cc r in
+          let y : c .at ≡ e = cc r in
+          record { news = news; reads = is ∙ ap (λ (p : ℕ). got news p) (sym y); now = record { holds = S .holds; says = x }; sound = S .still-open .sound }
+      go (no k p) is r = let z : _≡_ {A = ℕ} 0 1 = cc r in absurd (omega arith)
+  fields-told Bad S = record { holds = S .holds; says = go (fieldsText (view f l) t added n f at) (S .says) }
+    where
+      go : (o : Out (List New)) → no 20 0 ≡ turned (addFields added t (said f l)) o → o ≡ no 20 0
+      go (got news e) r = let z : _≡_ {A = ℕ} 0 1 = cc r in absurd (omega arith)
+      go (no k p) r = let x : 20 ≡ k = cc r in let y : 0 ≡ p = cc r in rw (← x, ← y)

@@ -5,7 +5,18 @@ ghost use lib.ListN.{length, getD};
 ghost use Rattle.table.specs.View.{fldsOf, Holds, said};
 ghost use Rattle.reader.specs.Sound.{Open};
 ghost use Rattle.judge.specs.Fields.{Ready, OldTold, OldsTold, newStep, newsStep, fieldsStep, Stepped};
+use numbers::Cursor;
+use numbers::Number;
+use parse::NewRead;
+use parse::new_line;
+use parse::old_lines;
+use reader::fields::add_field;
+use reader::fields::judged_field_count;
+use reader::fields::judged_field_name;
+use reader::fields::known_fields;
 use reader::fields::values_due;
+use reader::kinds::Kind;
+use table::ranges::objects_of;
 use words::read::Place;
 use words::read::Step;
 
@@ -46,7 +57,22 @@ fn new_text(text: &[u8], p: Place, work: &mut [u32], t: u32, objects: u32) -> St
     requires { ⌜ getD (now work) 2 0 < 128 ⌝ }
     ensures { λ r. ⌜ Stepped (now (text .entry)) (now (work .exit)) t r (newStep t objects (said (now (text .entry)) (now (work .entry))) (now (text .entry)) (p .at)) ⌝ }
 {
-    Step::Bad
+    let r = new_line(text, p);
+    let NewRead::Got(line, next) = r else {
+        return Step::Bad;
+    };
+    let name = line.name;
+    let a = judged_field_name(text, work, t, name, 0, Cursor { at: 0 });
+    let Number::Got(_, _) = a else {
+        return Step::Bad;
+    };
+    let kind = Kind {
+        first: line.k,
+        bits: line.a,
+        last: line.e,
+    };
+    add_field(work, t, kind, name, objects, 0);
+    Step::To(next)
 }
 
 // So many new fields of type t.
@@ -74,4 +100,26 @@ fn news_text(
         rest -= 1;
     }
     Step::To(Place { at })
+}
+
+// All n fields of an entry of type t, whose range is the last of the log and adds so many objects: a line for each known one,
+// and then new ones.
+pub fn fields_text(text: &[u8], p: Place, work: &mut [u32], t: u32, added: u32, n: u64) -> Step
+    requires { ⌜ Holds (now text) (now work) ⌝ }
+    requires { ⌜ Open (said (now text) (now work)) t 0 ⌝ }
+    ensures { λ r. ⌜ Stepped (now (text .entry)) (now (work .exit)) t r (fieldsStep t added n (said (now (text .entry)) (now (work .entry))) (now (text .entry)) (p .at)) ⌝ }
+{
+    let objects = objects_of(work, t);
+    let known = known_fields(work, t, added);
+    let a = judged_field_count(work, known, n, 0, Cursor { at: 0 });
+    let Number::Got(_, _) = a else {
+        return Step::Bad;
+    };
+    let b = old_lines(text, p, known as u64);
+    let Step::To(news) = b else {
+        return Step::Bad;
+    };
+    known_due(work, t, added);
+    let count = n - (known as u64);
+    news_text(text, news, work, t, objects, count)
 }
