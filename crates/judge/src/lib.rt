@@ -1,0 +1,2 @@
+// The front of a listed pair, held to the rules of a file and entered in the table.
+pub mod heads;
