@@ -1,3 +1,5 @@
+pub mod Heads
+pub mod HeadLaws
 pub mod Fields
 pub mod FieldDues
 pub mod FieldNews
