@@ -1,9 +1,8 @@
 -- The entries of a pair, read from a text, as steps of all that the table says. Assumes nothing.
 use mathlib.Core.Path.{_≡_, refl, sym, ap, _∙_}
-use mathlib.Core.Bool.{Bool, true, false}
+use mathlib.Core.Bool.{Bool}
 use mathlib.Core.List.{List, [], _∷_, _++_, map, append-assoc, append-nil, map-append}
 use Prim.Native.Nat.{ℕ, _-_, _≤_, _<_}
-use native.Mathlib.Omega.{arith}
 use lib.ListN.{length}
 use Rattle.paper.specs.Reader.{if_then_else_, Reader, Out, got, no, andThen, turned, _>>=_, _>>_, give, times, repeat}
 use Rattle.paper.specs.Lists.{fold}
@@ -20,16 +19,10 @@ use Rattle.reader.specs.Fields.{oldsOf}
 use Rattle.reader.specs.Heads.{addHead}
 use Rattle.reader.specs.Runs.{runs-stop, runs-step}
 use Rattle.reader.specs.NewSteps.{then-turned}
+use Rattle.judge.specs.Heads.{keptType}
 use Rattle.judge.specs.Fields.{unsized, fieldsText, addFields, fieldsStep}
 
 -- ── an entry is its head and then its fields ──
-
--- the head, held to its rules, and the number of fields
-unfoldable pub headText : State → Reader (Head × ℕ)
-headText s = do
-  h ← readType
-  heed (head? s (h .0))
-  give h
 
 unfoldable pub addEntry : Said → Entry → Said
 addEntry s e = record { state = afterEntry (s .state) e; due = s .due ++ map unsized (entryDues (s .state) e); chunks = s .chunks }
@@ -91,15 +84,15 @@ module _ (s : State) (f : List ℕ) where
   after-line (got h e) = after-rule h (rule (head? s (h .0)) e)
   after-line (no n p) = refl
 
-entry-parts : (s : State) (f : List ℕ) (at : ℕ) → entryText s f at ≡ andThen (headText s f at) (λ h e. whole s f (h .0) (behindHead s h f e))
-unfolding entryText headText fieldsText heed knownDue oldsOf fieldsOf afterHead _>>=_ _>>_ give
+entry-parts : (s : State) (f : List ℕ) (at : ℕ) → entryText s f at ≡ andThen (keptType s f at) (λ h e. whole s f (h .0) (behindHead s h f e))
+unfolding entryText keptType fieldsText heed knownDue oldsOf fieldsOf afterHead _>>=_ _>>_ give
 entry-parts s f at = after-line s f (readType f at)
 
 pub entry-is :
     (s : Said) (f : List ℕ) (at : ℕ)
-    → entryStep s f at ≡ andThen (headText (s .state) f at) (λ h e. fieldsStep (typeOf (s .state) (h .0 .name)) (h .0 .count) (h .1) (addHead s (h .0)) f e)
+    → entryStep s f at ≡ andThen (keptType (s .state) f at) (λ h e. fieldsStep (typeOf (s .state) (h .0 .name)) (h .0 .count) (h .1) (addHead s (h .0)) f e)
 unfolding entryStep fieldsStep addHead
-entry-is s f at = ap (turned (addEntry s)) (entry-parts (s .state) f at) ∙ go (headText (s .state) f at)
+entry-is s f at = ap (turned (addEntry s)) (entry-parts (s .state) f at) ∙ go (keptType (s .state) f at)
   where
     with-head : (h : Head) (o : Out (List New)) → turned (addEntry s) (andThen o (λ news e. got (record { head = h; news = news }) e)) ≡ turned (addFields (h .count) (typeOf (s .state) (h .name)) (addHead s h)) o
     with-head h (got news e) = ap (λ (u : Said). got u e) (entry-goes-on s h news)

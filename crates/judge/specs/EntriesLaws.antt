@@ -1,25 +1,26 @@
 -- The ways out of reading an entry and all entries from a text, on plain values. Assumes nothing.
 use mathlib.Core.Path.{_≡_, refl, sym, ap, _∙_}
-use mathlib.Core.Bool.{Bool, true}
-use mathlib.Core.List.{List, _++_, map}
+use mathlib.Core.List.{List}
 use Prim.Native.Nat.{ℕ, _-_, _≤_, _<_}
 use native.Mathlib.Omega.{arith}
 use lib.ListN.{length}
 use Rattle.paper.specs.Reader.{if_then_else_, Out, got, no, andThen, turned, _>>=_, _>>_, give, times}
 use Rattle.paper.specs.Lists.{fold}
-use Rattle.paper.specs.Ledger.{Entry}
-use Rattle.paper.specs.Rules.{typeOf, afterEntry, dues}
-use Rattle.paper.specs.Keeps.{head?}
-use Rattle.paper.specs.Scan.{heed, readType, entryText}
+use Rattle.paper.specs.Ledger.{Head, Entry}
+use Rattle.paper.specs.Rules.{typeOf, afterEntry}
+use Rattle.paper.specs.Scan.{heed, entryText}
 use Rattle.words.specs.declared.read.Place.{Place}
 use Rattle.words.specs.declared.read.Step.{Step}
 use Rattle.words.specs.declared.read.Step.the-variants.{To, Bad}
-use Rattle.table.specs.View.{duesOf, chunksOf, view, Holds, Said, said, Now}
-use Rattle.reader.specs.Sound.{Sound}
+use Rattle.table.specs.View.{view, Holds, Said, said}
+use Rattle.reader.specs.Sound.{Sound, Open}
 use Rattle.reader.specs.declared.heads.Top.{Top}
-use Rattle.reader.specs.Heads.{headOf, addHead, Entered}
-use Rattle.judge.specs.Fields.{unsized, fieldsStep, outSaid, openAfter, Stepped}
-use Rattle.judge.specs.Entries.{headText, addEntry, entryStep, entry-is, entriesStep, entries-stop, entries-step, entries-are, EntriesRead, EntriesTold}
+use Rattle.reader.specs.Heads.{headOf}
+use Rattle.judge.specs.declared.heads.HeadText.{HeadText}
+use Rattle.judge.specs.declared.heads.HeadText.the-variants as text
+use Rattle.judge.specs.Heads.{keptType, HeadTold}
+use Rattle.judge.specs.Fields.{fieldsStep, outSaid, openAfter, Stepped}
+use Rattle.judge.specs.Entries.{addEntry, entryStep, entry-is, entriesStep, entries-stop, entries-step, entries-are, EntriesRead, EntriesTold}
 
 abbrev pub soundAfter : List ℕ → List ℕ → Step → Type 0
 soundAfter f l (To c) = Sound (said f l)
@@ -33,19 +34,26 @@ pub record Walked (f l : List ℕ) (r : Step) (o : Out Said) : Type 0 where
 
 -- ── an entry ──
 
-module _ (f l : List ℕ) (at : ℕ) where
-  pub entry-unheaded : headText (view f l) f at ≡ no 20 0 → {l₁ : List ℕ} → Holds f l₁ → Walked f l₁ Bad (entryStep (said f l) f at)
-  entry-unheaded bad h = record { holds = h; says = sym (entry-is (said f l) f at ∙ rw bad refl); sound = tt }
+-- its head was entered: the fields may follow
+pub entry-opens : {f l l₁ : List ℕ} {at : ℕ} {a : HeadText} → HeadTold f l at a l₁ → {top : Top} {n : ℕ} {c : Place} → a ≡ text.Got top n c → Holds f l₁ × Open (said f l₁) (top .name .typ) 0
+entry-opens told is = let G = (rw is at told) .told .entered in (G .now .holds, G .opens)
 
-  module _ (top : Top) (n : ℕ) {c : Place} (read : readType f at ≡ got (headOf top, n) (c .at)) (keeps : head? (view f l) (headOf top) ≡ true) where
-    headed : headText (view f l) f at ≡ got (headOf top, n) (c .at)
-    unfolding headText heed _>>=_ _>>_ give if_then_else_
-    headed = rw (read, keeps)
+module _ {f l l₁ : List ℕ} {at : ℕ} {a : HeadText} (told : HeadTold f l at a l₁) where
+  pub entry-unheaded : a ≡ text.Bad → Walked f l₁ Bad (entryStep (said f l) f at)
+  entry-unheaded is =
+      let B = (rw is at told) .told in
+      record { holds = B .holds; says = sym (entry-is (said f l) f at ∙ rw (B .read) refl); sound = tt }
+
+  module _ {top : Top} {n : ℕ} {c : Place} (is : a ≡ text.Got top n c) where
+    headed : keptType (view f l) f at ≡ got (headOf top, n) (c .at)
+    unfolding keptType heed _>>=_ _>>_ give if_then_else_
+    headed = let G = (rw is at told) .told in rw (G .read, G .keeps) (ap (λ (h : Head). got (h, n) (c .at)) (sym (G .same)))
 
     pub entry-got :
-        {l₁ : List ℕ} → Entered f l l₁ top → {t : ℕ} → t ≡ top .name .typ → {l₂ : List ℕ} {r : Step}
+        {t : ℕ} → t ≡ top .name .typ → {l₂ : List ℕ} {r : Step}
         → Stepped f l₂ t r (fieldsStep t (top .count) n (said f l₁) f (c .at)) → Walked f l₂ r (entryStep (said f l) f at)
-    entry-got {l₁} E {t} same {l₂} {r} S =
+    entry-got {t} same {l₂} {r} S =
+        let E = (rw is at told) .told .entered in
         record {
           holds = S .holds;
           says =

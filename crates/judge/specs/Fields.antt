@@ -13,7 +13,7 @@ use Rattle.paper.specs.Scan.{heed, literal, newText}
 use Rattle.words.specs.declared.read.Step.{Step}
 use Rattle.words.specs.declared.read.Step.the-variants.{To, Bad}
 use Rattle.table.specs.View.{fldsOf, Holds, Said, said, Now}
-use Rattle.reader.specs.Sound.{Sound, Open}
+use Rattle.reader.specs.Sound.{Open}
 use Rattle.reader.specs.Fields.{oldsOf, addNew}
 
 -- the size of a chunk is known only when its values are written

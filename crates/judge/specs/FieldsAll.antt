@@ -1,6 +1,6 @@
 -- The ways out of reading all fields of an entry from a text, on plain values. Assumes nothing.
 use mathlib.Core.Path.{_≡_, refl, sym, ap, _∙_}
-use mathlib.Core.Bool.{Bool, true, false}
+use mathlib.Core.Bool.{true, false}
 use mathlib.Core.List.{List, [], _∷_, _++_, map, append-assoc, append-nil, map-append}
 use Prim.Native.Nat.{ℕ, suc, _+_, _-_, _≤_}
 use native.Mathlib.Omega.{arith}
@@ -19,10 +19,10 @@ use Rattle.words.specs.declared.read.Place.{Place}
 use Rattle.words.specs.declared.read.Step.{Step}
 use Rattle.words.specs.declared.read.Step.the-variants.{To, Bad}
 use Rattle.values.specs.Pass.{forget}
-use Rattle.table.specs.View.{fldsOf, logOf, duesOf, chunksOf, view, Holds, Said, said, Now}
+use Rattle.table.specs.View.{fldsOf, logOf, view, Holds, Said, said, Now}
 use Rattle.reader.specs.Sound.{Sound, Open}
 use Rattle.reader.specs.Fields.{oldsOf, addNew}
-use Rattle.judge.specs.Fields.{unsized, addOlds, OldsTold, addText, newsStep, fieldsText, addFields, fieldsStep, outSaid, Stepped}
+use Rattle.judge.specs.Fields.{unsized, addOlds, OldsTold, addText, newsStep, fieldsText, addFields, fieldsStep, Stepped}
 
 -- ── both kinds in turn ──
 

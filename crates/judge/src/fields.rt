@@ -76,14 +76,7 @@ fn new_text(text: &[u8], p: Place, work: &mut [u32], t: u32, objects: u32) -> St
 }
 
 // So many new fields of type t.
-fn news_text(
-    text: &[u8],
-    p: Place,
-    work: &mut [u32],
-    t: u32,
-    objects: u32,
-    count: u64,
-) -> Step
+fn news_text(text: &[u8], p: Place, work: &mut [u32], t: u32, objects: u32, count: u64) -> Step
     requires { ⌜ Holds (now text) (now work) ⌝ }
     requires { ⌜ Open (said (now text) (now work)) t (length (fldsOf (now work))) ⌝ }
     requires { ⌜ getD (now work) 2 0 + count ≤ 128 ⌝ }

@@ -1,5 +1,5 @@
 -- `judge::fields::due_if_known` meets its contract. Assumes nothing.
-use Rattle.judge.specs.FieldDues.{old-other, old-has-room, old-mine}
+use Rattle.judge.specs.FieldsKnown.{old-other, old-has-room, old-mine}
 use borrow.Author.Needs.{needs}
 use Rattle.judge.proofs.fields.due_if_known.Statement.{statement}
 use Rattle.judge.proofs.fields.due_if_known.Tie as tie

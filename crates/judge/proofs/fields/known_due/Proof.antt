@@ -1,9 +1,7 @@
 -- `judge::fields::known_due` meets its contract. Assumes nothing.
 use native.Mathlib.Omega.{arith}
 use Prim.Native.Nat.{_-_}
-use borrow.Author.Needs.{needs}
-use mathlib.Core.Path.{_∙_}
-use Rattle.judge.specs.FieldDues.{DuesGoing, dues-skip, dues-begin, dues-next, dues-done}
+use Rattle.judge.specs.FieldsKnown.{DuesGoing, dues-skip, dues-begin, dues-next, dues-done}
 use Rattle.judge.proofs.fields.known_due.Statement.{statement}
 use Rattle.judge.proofs.fields.known_due.Tie as tie
 

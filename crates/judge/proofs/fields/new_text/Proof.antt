@@ -2,7 +2,7 @@
 use native.Mathlib.Omega.{arith}
 use Rattle.reader.specs.Keeping.{judged-keeps, judged-breaks}
 use Rattle.reader.specs.NewRows.{new-has-room}
-use Rattle.judge.specs.FieldNews.{name-held, new-first, new-unread, new-unnamed, new-got}
+use Rattle.judge.specs.FieldsNew.{name-held, new-first, new-unread, new-unnamed, new-got}
 use borrow.Author.Needs.{needs}
 use Rattle.judge.proofs.fields.new_text.Statement.{statement}
 use Rattle.judge.proofs.fields.new_text.Tie as tie

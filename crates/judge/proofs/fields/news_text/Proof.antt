@@ -2,7 +2,7 @@
 use mathlib.Core.Path.{_∙_}
 use native.Mathlib.Omega.{arith}
 use borrow.Author.Needs.{needs}
-use Rattle.judge.specs.FieldNews.{NewsGoing, news-begin, news-bad, news-next, news-done}
+use Rattle.judge.specs.FieldsNew.{NewsGoing, news-begin, news-bad, news-next, news-done}
 use Rattle.judge.proofs.fields.news_text.Statement.{statement}
 use Rattle.judge.proofs.fields.news_text.Tie as tie
 

@@ -1,16 +1,16 @@
 -- The chunks of known fields, put down as due: the ways out, on plain values, for one field and for all. Assumes nothing.
 use mathlib.Core.Path.{_≡_, refl, sym, ap, _∙_}
 use mathlib.Core.Bool.{Bool, true, false}
-use mathlib.Core.List.{List, [], _∷_, _++_, map, append-assoc, append-nil}
+use mathlib.Core.List.{List, [], _∷_, append-assoc, append-nil}
 use Prim.Native.Nat.{ℕ, _+_, _≤_, _<_}
 use native.Mathlib.Omega.{arith}
 use native.Mathlib.Nat.{le-refl}
 use lib.ListN.{length, getD}
 use borrow.Author.Tests.{eq-eqb, ne-eqb}
 use Rattle.paper.specs.Reader.{if_then_else_}
-use Rattle.paper.specs.Ledger.{State, Field, Due, noField, fieldAt, owns?}
+use Rattle.paper.specs.Ledger.{State, Field, noField, fieldAt, owns?}
 use Rattle.paper.specs.Rules.{valuesDue, oldDue}
-use Rattle.table.specs.View.{fldsOf, view, Holds, Said, said, Now}
+use Rattle.table.specs.View.{fldsOf, view, Holds, Said, said}
 use Rattle.table.specs.Adds.{addDue}
 use Rattle.table.specs.Packed.{dueCells}
 use Rattle.table.specs.Pushes.{Pushed}
