@@ -1,14 +1,13 @@
--- The ways out of the readers of a local start and of a count, on plain values. Assumes nothing.
+-- The ways out of the reader of a local start, and of what holds a count to its rules, on plain values. Assumes nothing.
 use mathlib.Core.Path.{_≡_, refl, sym, ap, _∙_, subst}
 use mathlib.Core.Bool.{Bool, true, false}
-use mathlib.Core.List.{List}
+use mathlib.Core.List.{List, []}
 use mathlib.Core.Option.{Option, none}
-use Prim.Native.Nat.{ℕ, zero, suc, _+_, _-_, _^_, _≤_, _<_}
+use Prim.Native.Nat.{ℕ, zero, suc, _+_, _-_, _≤_, _<_}
 use native.Mathlib.Omega.{arith}
 use lib.Dec.{leb, eqb}
 use borrow.Author.Tests.{le-leb, lt-leb, eq-eqb, ne-eqb, leb-true}
 use Rattle.paper.specs.Reader.{if_then_else_, Reader, got, only, give, turned}
-use Rattle.paper.specs.Numbers.{v64, number}
 use Rattle.paper.specs.Lists.{any, all, given?}
 use Rattle.paper.specs.Ledger.{State, objectsInAll}
 use Rattle.paper.specs.Rules.{around?, clear?, inRange?, fewObjects?, countRules}
@@ -16,11 +15,10 @@ use Rattle.numbers.specs.Cursors.{Read}
 use Rattle.numbers.specs.declared.Number.{Number}
 use Rattle.numbers.specs.declared.Number.the-variants.{Got, No}
 use Rattle.numbers.specs.declared.Cursor.{Cursor}
-use Rattle.numbers.specs.declared.Refusal.{Refusal}
 use Rattle.laws.specs.Bools.{and-split}
-use Rattle.table.specs.View.{maybe}
-use Rattle.reader.specs.Ruled.{read-no, read-bad, read-got}
-use Rattle.reader.specs.Heads.{due, DueRead}
+use Rattle.table.specs.View.{view, maybe}
+use Rattle.reader.specs.Ruled.{judged-bad, judged-got}
+use Rattle.reader.specs.Heads.{due, DueRead, CountJudged}
 use Rattle.reader.specs.HeadLaws.{differ, only-due}
 
 -- ── what is read only if it is due ──
@@ -89,21 +87,20 @@ module _ (s : State) (start n : ℕ) where
 
 -- ── the count ──
 
-module _ {f : List ℕ} {at : ℕ} {a : Number} (read : Read v64 (2 ^ 64) f at a) (s : State) (super : Option ℕ) (start : ℕ) where
-  pub count-no : {e : Refusal} → a ≡ No e → Read (number (countRules s super start)) 65536 f at a
-  unfolding number
-  count-no is = read-no read (countRules s super start) (omega arith) is
+module _ {l : List ℕ} (up start : ℕ) {n at next : ℕ} where
+  pub count-over : ((f : List ℕ) → fewObjects? (view f l) (maybe up) n ≡ false) → CountJudged l up start n at next (No (record { number = 3; place = at }))
+  unfolding countRules
+  count-over e = record { judged = λ f h. judged-bad (countRules (view f l) (maybe up) start) (rw (e f)); below = omega arith }
 
-  module _ {n : ℕ} {c : Cursor} (is : a ≡ Got n c) where
-    pub count-over : fewObjects? s super n ≡ false → Read (number (countRules s super start)) 65536 f at (No (record { number = 3; place = at }))
-    unfolding number countRules
-    count-over e = read-bad read (countRules s super start) (omega arith) is (rw e)
+  module _ (few : (f : List ℕ) → fewObjects? (view f l) (maybe up) n ≡ true) where
+    pub count-out : ((f : List ℕ) → inRange? (view f l) (maybe up) start n ≡ false) → CountJudged l up start n at next (No (record { number = 21; place = at }))
+    unfolding countRules
+    count-out e = record { judged = λ f h. judged-bad (countRules (view f l) (maybe up) start) (rw (few f, e f)); below = omega arith }
 
-    module _ (few : fewObjects? s super n ≡ true) where
-      pub count-out : inRange? s super start n ≡ false → Read (number (countRules s super start)) 65536 f at (No (record { number = 21; place = at }))
-      unfolding number countRules
-      count-out e = read-bad read (countRules s super start) (omega arith) is (rw (few, e))
-
-      pub count-in : inRange? s super start n ≡ true → Read (number (countRules s super start)) 65536 f at (Got n c)
-      unfolding number countRules
-      count-in e = read-got read (countRules s super start) (omega (arith, few-most s super n few)) is (rw (few, e))
+    pub count-in : {c : Cursor} → c .at ≡ next → ((f : List ℕ) → inRange? (view f l) (maybe up) start n ≡ true) → CountJudged l up start n at next (Got n c)
+    unfolding countRules
+    count-in here e =
+        record {
+          judged = λ f h. judged-got (countRules (view f l) (maybe up) start) here (rw (few f, e f));
+          below = omega (arith, few-most (view [] l) (maybe up) n (few []));
+        }

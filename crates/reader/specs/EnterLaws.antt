@@ -25,7 +25,7 @@ use Rattle.reader.specs.declared.heads.Topped.{Topped}
 use Rattle.reader.specs.declared.heads.Topped.the-variants as topped
 use Rattle.reader.specs.Sound.{Sound, Headed, Open, log-room, entered-new, opened}
 use Rattle.reader.specs.Going.{Going, goHead}
-use Rattle.reader.specs.Heads.{Placed, headOf, TopRead, addHead, rangeFor, Declares, addNew, TypeEntered, leftTop, TopEntered}
+use Rattle.reader.specs.Heads.{Placed, headOf, TopRead, addHead, rangeFor, Declares, addNew, TypeEntered, Enterable, Entered, leftTop, TopEntered}
 use Rattle.reader.specs.HeadLaws.{differ, named-below}
 use Rattle.reader.specs.TopLaws.{or-due}
 
@@ -137,15 +137,49 @@ unfolding given?
 no-up zero e = refl
 no-up (suc u) e = differ (cc e)
 
--- ── the ways out of `enter_head` ──
+-- ── the steps of `enter_top` ──
 
-pub declares : {f l : List ℕ} → Holds f l → {t : Top} → Placed (view f l) t → Declares l (t .name)
-declares h p =
+pub declares : {l : List ℕ} {t : Top} → Enterable l t → Declares l (t .name)
+declares e =
     record {
-      low = p .name .low;
-      high = omega (arith, p .name .high, h .strs-count);
-      room = λ e. omega (arith, p .name .room e, h .names-count);
+      low = e .placed .name .low;
+      high = omega (arith, e .placed .name .high, e .holds .strs-count);
+      room = λ w. omega (arith, e .placed .name .room w, e .holds .names-count);
     }
+
+module _ {l : List ℕ} {t : Top} {base : ℕ} (isb : base ≡ baseUnder (typesOf l) (t .name .typ) (maybe (t .above .up))) {r : RangeRow} (isr : rangeIn r ≡ rangeFor l t base) {l₁ : List ℕ} (typed : TypeEntered (t .name) (t .above .up) base l l₁) where
+  pub range-fits : Enterable l t → Ok l₁ × ((getD l₁ 3 0 < 1024) × Small r)
+  range-fits e =
+      let small : Small r =
+      record {
+        typ-fits = omega (arith, ap (λ (x : Range). x .type) isr, e .placed .name .few);
+        block-fits = omega (arith, ap (λ (x : Range). x .block) isr, e .sound .block);
+        start-fits = omega (arith, ap (λ (x : Range). x .start) isr, e .placed .start);
+        count-fits = omega (arith, ap (λ (x : Range). x .count) isr, e .placed .count);
+      } in
+      (typed .says (e .names) (e .holds) .holds .ok, (omega (arith, typed .ranges, head-room (e .sound) (e .placed), e .holds .ok .log-count), small))
+
+  module _ {f : List ℕ} (h : Holds f l) (k : Sound (said f l)) (placed : Placed (view f l) t) where
+    base-is : baseOf (view f l) (headOf t) ≡ base
+    unfolding baseOf
+    base-is = rw (← placed .name .typ, ← placed .up) (sym isb)
+
+    range-is : newRange (view f l) (headOf t) ≡ rangeIn r
+    unfolding newRange poolBefore
+    range-is =
+        rw (or-due (given? (maybe (t .above .up))) (t .start) (λ g. placed .none (no-up (t .above .up) g)), base-is, ← placed .name .typ) (sym isr)
+
+    pub entered : {l′ : List ℕ} → Pushed 3 4240 3 (rangeCells r) l₁ l′ → Entered f l l′ t
+    entered pushed =
+        let room = range-fits (record { names = f; holds = h; sound = k; placed = placed }) in
+        let first = typed .says f h in
+        let second = pushed-range (first .holds) r (room .1 .0) (room .1 .1) (pushed .push) in
+        let now : said f _ ≡ addHead (said f l) (headOf t) =
+        second .says ∙ ap (λ (g : Said). addRange g (rangeIn r)) (first .says)
+        ∙ sym (head-added (said f l) (headOf t) ∙ rw (← placed .name .fresh, ← placed .up, base-is, range-is) refl) in
+        record { placed = placed; now = record { holds = second .holds; says = now }; opens = head-opens k placed now }
+
+-- ── the ways out of `enter_head` ──
 
 module _ {f l : List ℕ} (h : Holds f l) {at : ℕ} {a : Topped} (read : TopRead (view f l) f at a) where
   pub entered-no : {e : Refusal} → a ≡ topped.No e → TopEntered f l l at a
@@ -155,39 +189,8 @@ module _ {f l : List ℕ} (h : Holds f l) {at : ℕ} {a : Topped} (read : TopRea
     top-read : TopRead (view f l) f at (topped.Got t c)
     top-read = rw is at read
 
-    pub placed : Placed (view f l) t
-    placed = top-read .told
+    pub enterable : Sound (said f l) → Enterable l t
+    enterable k = record { names = f; holds = h; sound = k; placed = top-read .told }
 
-    module _ (k : Sound (said f l)) {base : ℕ} (isb : base ≡ baseUnder (typesOf l) (t .name .typ) (maybe (t .above .up))) {r : RangeRow} (isr : rangeIn r ≡ rangeFor l t base) {l₁ : List ℕ} (typed : TypeEntered (t .name) (t .above .up) base l l₁) where
-      pub range-fits : Ok l₁ × ((getD l₁ 3 0 < 1024) × Small r)
-      range-fits =
-          let small : Small r =
-          record {
-            typ-fits = omega (arith, ap (λ (x : Range). x .type) isr, placed .name .few);
-            block-fits = omega (arith, ap (λ (x : Range). x .block) isr, k .block);
-            start-fits = omega (arith, ap (λ (x : Range). x .start) isr, placed .start);
-            count-fits = omega (arith, ap (λ (x : Range). x .count) isr, placed .count);
-          } in
-          (typed .says f h .holds .ok, (omega (arith, typed .ranges, head-room k placed, h .ok .log-count), small))
-
-      base-is : baseOf (view f l) (headOf t) ≡ base
-      unfolding baseOf
-      base-is = rw (← placed .name .typ, ← placed .up) (sym isb)
-
-      range-is : newRange (view f l) (headOf t) ≡ rangeIn r
-      unfolding newRange poolBefore
-      range-is =
-          rw (or-due (given? (maybe (t .above .up))) (t .start) (λ g. placed .none (no-up (t .above .up) g)), base-is, ← placed .name .typ) (sym isr)
-
-      pub entered-top : {l′ : List ℕ} → Pushed 3 4240 3 (rangeCells r) l₁ l′ → TopEntered f l l′ at (topped.Got t c)
-      entered-top pushed =
-          let first = typed .says f h in
-          let second = pushed-range (first .holds) r (range-fits .1 .0) (range-fits .1 .1) (pushed .push) in
-          let now : said f _ ≡ addHead (said f l) (headOf t) =
-          second .says ∙ ap (λ (g : Said). addRange g (rangeIn r)) (first .says)
-          ∙ sym (head-added (said f l) (headOf t) ∙ rw (← placed .name .fresh, ← placed .up, base-is, range-is) refl) in
-          record {
-            says = top-read .says;
-            inside = top-read .inside;
-            left = record { placed = placed; now = record { holds = second .holds; says = now }; opens = head-opens k placed now };
-          }
+    pub entered-top : Sound (said f l) → {l′ : List ℕ} → ((g : List ℕ) → Holds g l → Sound (said g l) → Placed (view g l) t → Entered g l l′ t) → TopEntered f l l′ at (topped.Got t c)
+    entered-top k all = record { says = top-read .says; inside = top-read .inside; left = all f h k (top-read .told) }

@@ -20,7 +20,7 @@ use Rattle.numbers.specs.declared.Number.the-variants.{Got, No}
 use Rattle.numbers.specs.declared.Cursor.{Cursor}
 use Rattle.numbers.specs.declared.Refusal.{Refusal}
 use Rattle.table.specs.View.{kindFrom}
-use Rattle.reader.specs.Ruled.{read-no, read-bad, read-got}
+use Rattle.reader.specs.Ruled.{Judged, judged-bad, judged-got, read-no, read-bad, read-got}
 
 module _ {f : List ℕ} {at : ℕ} {a : Number} (read : Read v64 (2 ^ 64) f at a) where
   -- ── the number of restrictions ──
@@ -52,24 +52,20 @@ module _ {f : List ℕ} {at : ℕ} {a : Number} (read : Read v64 (2 ^ 64) f at a
     unfolding endOffset number endRules
     end-got {e} is le = read-got read (endRules before) (was-got read is .below) is (rw (le-leb before e le))
 
-  -- ── the number of fields ──
+-- ── the number of fields ──
 
-  module _ (s : State) (known : ℕ) where
-    pub count-no : {e : Refusal} → a ≡ No e → Read (number (fieldCountRules s known)) (2 ^ 64) f at a
-    unfolding number
-    count-no is = read-no read (fieldCountRules s known) (omega arith) is
+module _ (s : State) (known : ℕ) {n at next : ℕ} where
+  pub count-many : 128 < length (s .fields) + (n - known) → Judged (fieldCountRules s known) n at next (No (record { number = 3; place = at }))
+  unfolding fieldCountRules
+  count-many gt = judged-bad (fieldCountRules s known) (rw (lt-leb (length (s .fields) + (n - known)) 128 gt))
 
-    pub count-many : {n : ℕ} {c : Cursor} → a ≡ Got n c → 128 < length (s .fields) + (n - known) → Read (number (fieldCountRules s known)) (2 ^ 64) f at (No (record { number = 3; place = at }))
-    unfolding number fieldCountRules
-    count-many {n} is gt = read-bad read (fieldCountRules s known) (omega arith) is (rw (lt-leb (length (s .fields) + (n - known)) 128 gt))
+  pub count-few : length (s .fields) + (n - known) ≤ 128 → n < known → Judged (fieldCountRules s known) n at next (No (record { number = 11; place = at }))
+  unfolding fieldCountRules
+  count-few le lt = judged-bad (fieldCountRules s known) (rw (le-leb (length (s .fields) + (n - known)) 128 le, lt-leb known n lt))
 
-    pub count-few : {n : ℕ} {c : Cursor} → a ≡ Got n c → length (s .fields) + (n - known) ≤ 128 → n < known → Read (number (fieldCountRules s known)) (2 ^ 64) f at (No (record { number = 11; place = at }))
-    unfolding number fieldCountRules
-    count-few {n} is le lt = read-bad read (fieldCountRules s known) (omega arith) is (rw (le-leb (length (s .fields) + (n - known)) 128 le, lt-leb known n lt))
-
-    pub count-got : {n : ℕ} {c : Cursor} → a ≡ Got n c → length (s .fields) + (n - known) ≤ 128 → known ≤ n → Read (number (fieldCountRules s known)) (2 ^ 64) f at (Got n c)
-    unfolding number fieldCountRules
-    count-got {n} is le all = read-got read (fieldCountRules s known) (was-got read is .below) is (rw (le-leb (length (s .fields) + (n - known)) 128 le, le-leb known n all))
+  pub count-got : {c : Cursor} → c .at ≡ next → length (s .fields) + (n - known) ≤ 128 → known ≤ n → Judged (fieldCountRules s known) n at next (Got n c)
+  unfolding fieldCountRules
+  count-got here le all = judged-got (fieldCountRules s known) here (rw (le-leb (length (s .fields) + (n - known)) 128 le, le-leb known n all))
 
 -- ── how many values a chunk has ──
 

@@ -1,4 +1,5 @@
--- The ways out of the readers of an entry's type and its super type, on plain values. Assumes nothing.
+-- The ways out of what holds the names of an entry's type and its super type to their rules, and of their readers, on plain
+-- values. Assumes nothing.
 use mathlib.Core.Path.{_≡_, refl, sym, ap, _∙_}
 use mathlib.Core.Bool.{Bool, true, false}
 use mathlib.Core.List.{List, [], _∷_}
@@ -32,7 +33,7 @@ use Rattle.reader.specs.declared.heads.Named.{Named}
 use Rattle.reader.specs.declared.heads.Named.the-variants as named
 use Rattle.reader.specs.declared.heads.Above.{Above}
 use Rattle.reader.specs.declared.heads.Above.the-variants as above
-use Rattle.reader.specs.Heads.{due, foundBelow, Known, Resolved, toldName, NameRead, toldPlace, NamePlaced, knownRules, toldUp, SuperPlaced, toldSuper, SuperRead, toldAbove, AboveRead}
+use Rattle.reader.specs.Heads.{due, foundBelow, Known, Resolved, toldName, NameJudged, NameRead, toldPlace, NamePlaced, knownRules, toldUp, SuperPlaced, toldSuper, SuperJudged, SuperRead, toldAbove, AboveRead}
 
 pub differ {ℓ} : {X : Type ℓ} → _≡_ {A = ℕ} 0 1 → X
 differ z = absurd (omega arith)
@@ -125,37 +126,41 @@ module _ {l : List ℕ} (ok : Ok l) {n at e : ℕ} where
 
 -- ── the name of an entry's type ──
 
-module _ {f l : List ℕ} (h : Holds f l) {at : ℕ} {a : Number} (read : Read v64 (2 ^ 64) f at a) where
-  pub name-no : {e u : Refusal} → a ≡ No e → u ≡ refusalOf a → NameRead (view f l) f at (named.No u)
-  name-no is same = record { says = sym (number-no read (typeNameRules (view f l)) is same); inside = its-refusal read is same .inside; told = tt }
+module _ {f l : List ℕ} (h : Holds f l) {n at next : ℕ} where
+  pub name-bad : aString? (view f l) n ≡ false → NameJudged (view f l) n at next (named.No (record { number = 5; place = at }))
+  unfolding typeNameRules
+  name-bad e = record { says = rw e refl; inside = λ m lo hi. lo; told = tt }
 
-  module _ {n : ℕ} {c : Cursor} (is : a ≡ Got n c) where
-    pub name-bad : aString? (view f l) n ≡ false → NameRead (view f l) f at (named.No (record { number = 5; place = at }))
-    unfolding typeNameRules
-    name-bad e = record { says = sym (number-is read (typeNameRules (view f l)) is ∙ rw e refl); inside = λ lo. lo; told = tt }
+  pub name-placed : aString? (view f l) n ≡ true → {o : Found} → Known f l n o → {r : Named} → NamePlaced l n (found o) at next r → NameJudged (view f l) n at next r
+  unfolding typeNameRules new? typeOf entered?
+  name-placed e {o} k {r} p = record { says = p .says f h ∙ sym (rw (e, k .is) refl); inside = p .inside; told = go r (p .told) }
+    where
+      go : (r : Named) → toldPlace l n (found o) r → toldName (view f l) r
+      go (named.Got x e′) t =
+          let there = string-there h e in
+          record {
+            low = omega (arith, t .number, there .0);
+            high = omega (arith, t .number, there .1, h .strs-count);
+            fresh = t .fresh ∙ rw (t .number, k .is) refl;
+            typ = t .typ ∙ rw (t .number, k .is, h .names-count) refl;
+            few = t .few;
+            room = λ w. omega (arith, h .names-count, t .room w);
+            first = t .first;
+          }
+      go (named.No x) t = tt
 
-    pub name-placed : aString? (view f l) n ≡ true → {o : Found} → Known f l n o → {r : Named} → NamePlaced l n (found o) at (c .at) r → NameRead (view f l) f at r
-    unfolding typeNameRules new? typeOf entered?
-    name-placed e {o} k {r} p =
-        record {
-          says = p .says f h ∙ sym (number-is read (typeNameRules (view f l)) is ∙ rw (e, k .is) refl);
-          inside = λ lo. p .inside (length f) lo (was-got read is .inside lo);
-          told = go r (p .told);
-        }
-      where
-        go : (r : Named) → toldPlace l n (found o) r → toldName (view f l) r
-        go (named.Got x e′) t =
-            let there = string-there h e in
-            record {
-              low = omega (arith, t .number, there .0);
-              high = omega (arith, t .number, there .1, h .strs-count);
-              fresh = t .fresh ∙ rw (t .number, k .is) refl;
-              typ = t .typ ∙ rw (t .number, k .is, h .names-count) refl;
-              few = t .few;
-              room = λ w. omega (arith, h .names-count, t .room w);
-              first = t .first;
-            }
-        go (named.No x) t = tt
+-- one that was read
+module _ (s : State) {f : List ℕ} {at : ℕ} {a : Number} (read : Read v64 (2 ^ 64) f at a) where
+  pub name-no : {e u : Refusal} → a ≡ No e → u ≡ refusalOf a → NameRead s f at (named.No u)
+  name-no is same = record { says = sym (number-no read (typeNameRules s) is same); inside = its-refusal read is same .inside; told = tt }
+
+  pub name-read : {n : ℕ} {c : Cursor} → a ≡ Got n c → {r : Named} → NameJudged s n at (c .at) r → NameRead s f at r
+  name-read is j =
+      record {
+        says = j .says ∙ sym (number-is read (typeNameRules s) is);
+        inside = λ lo. j .inside (length f) lo (was-got read is .inside lo);
+        told = j .told;
+      }
 
 -- ── a super type that is named ──
 
@@ -190,40 +195,45 @@ only-due q f at = go (q f at)
     go (got a e) = refl
     go (no n p) = refl
 
-module _ {f l : List ℕ} (h : Holds f l) (t : ℕ) {at : ℕ} {a : Number} (read : Read v64 (2 ^ 64) f at a) where
-  abbrev rules : ℕ → List Rule
-  rules = superNameRules (view f l) t
+module _ {f l : List ℕ} (h : Holds f l) (t : ℕ) {n at next : ℕ} where
+  pub super-none : n ≡ 0 → {c : Cursor} → c .at ≡ next → SuperJudged (view f l) t n at next (above.Got (record { number = 0; up = 0 }) c)
+  unfolding superNameRules superNamed if_then_else_
+  super-none e here =
+      let q : hold {A = ℕ} (superNameRules (view f l) t n) at (got n next) ≡ got 0 next = rw (e, le-leb 0 (length (strsOf f l)) (omega arith), chain-none (length (typesOf l)) (typesOf l) t) refl in
+      record { says = rw (q, here) refl; inside = λ m lo hi. rw here hi; told = refl }
 
-  pub super-no : {e u : Refusal} → a ≡ No e → u ≡ refusalOf a → SuperRead (view f l) t f at (above.No u)
+  pub super-far : getD l 0 0 < n → SuperJudged (view f l) t n at next (above.No (record { number = 5; place = at }))
+  unfolding superNameRules
+  super-far lt =
+      let q : hold {A = ℕ} (superNameRules (view f l) t n) at (got n next) ≡ no 5 at = rw (lt-leb n (length (strsOf f l)) (omega (arith, h .strs-count))) refl in
+      record { says = rw q refl; inside = λ m lo hi. lo; told = tt }
+
+  pub super-placed : (n ≡ 0 → ⊥) → n ≤ getD l 0 0 → {o : Found} → Known f l n o → {r : Above} → SuperPlaced (typesOf l) t n (found o) at next r → SuperJudged (view f l) t n at next r
+  unfolding superNameRules superNamed if_then_else_
+  super-placed low high {o} k {r} p =
+      let q : hold {A = ℕ} (superNameRules (view f l) t n) at (got n next) ≡ hold (knownRules (typesOf l) t (found o)) at (got n next) =
+      rw (le-leb n (length (strsOf f l)) (omega (arith, h .strs-count)), ne-eqb n 0 low, k .is) refl in
+      record { says = p .says ∙ sym (ap (turned (due true)) q); inside = p .inside; told = go r (p .told) }
+    where
+      go : (r : Above) → toldUp n (found o) r → toldSuper (view f l) r
+      go (above.Got y c′) w = rw (w .0, ne-eqb n 0 low, k .is) (w .1)
+      go (above.No e) w = tt
+
+-- one that was read
+module _ (s : State) (t : ℕ) {f : List ℕ} {at : ℕ} {a : Number} (read : Read v64 (2 ^ 64) f at a) where
+  abbrev rules : ℕ → List Rule
+  rules = superNameRules s t
+
+  pub super-no : {e u : Refusal} → a ≡ No e → u ≡ refusalOf a → SuperRead s t f at (above.No u)
   super-no is same = record { says = rw (only-due (number rules) f at, number-no read rules is same) refl; inside = its-refusal read is same .inside; told = tt }
 
-  module _ {n : ℕ} {c : Cursor} (is : a ≡ Got n c) where
-    pub super-none : n ≡ 0 → SuperRead (view f l) t f at (above.Got (record { number = 0; up = 0 }) c)
-    unfolding superNameRules superNamed if_then_else_
-    super-none e =
-        let q : number rules f at ≡ got 0 (c .at) = number-is read rules is ∙ rw (e, le-leb 0 (length (strsOf f l)) (omega arith), chain-none (length (typesOf l)) (typesOf l) t) refl in
-        record { says = rw (only-due (number rules) f at, q) refl; inside = was-got read is .inside; told = refl }
-
-    pub super-far : getD l 0 0 < n → SuperRead (view f l) t f at (above.No (record { number = 5; place = at }))
-    unfolding superNameRules
-    super-far lt =
-        let q : number rules f at ≡ no 5 at = number-is read rules is ∙ rw (lt-leb n (length (strsOf f l)) (omega (arith, h .strs-count))) refl in
-        record { says = rw (only-due (number rules) f at, q) refl; inside = λ lo. lo; told = tt }
-
-    pub super-placed : (n ≡ 0 → ⊥) → n ≤ getD l 0 0 → {o : Found} → Known f l n o → {r : Above} → SuperPlaced (typesOf l) t n (found o) at (c .at) r → SuperRead (view f l) t f at r
-    unfolding superNameRules superNamed if_then_else_
-    super-placed low high {o} k {r} p =
-        let q : number rules f at ≡ hold (knownRules (typesOf l) t (found o)) at (got n (c .at)) =
-        number-is read rules is ∙ rw (le-leb n (length (strsOf f l)) (omega (arith, h .strs-count)), ne-eqb n 0 low, k .is) refl in
-        record {
-          says = p .says ∙ sym (only-due (number rules) f at ∙ ap (turned (due true)) q);
-          inside = λ lo. p .inside (length f) lo (was-got read is .inside lo);
-          told = go r (p .told);
-        }
-      where
-        go : (r : Above) → toldUp n (found o) r → toldSuper (view f l) r
-        go (above.Got y c′) w = rw (w .0, ne-eqb n 0 low, k .is) (w .1)
-        go (above.No e) w = tt
+  pub super-read : {n : ℕ} {c : Cursor} → a ≡ Got n c → {r : Above} → SuperJudged s t n at (c .at) r → SuperRead s t f at r
+  super-read is j =
+      record {
+        says = j .says ∙ sym (only-due (number rules) f at ∙ ap (turned (due true)) (number-is read rules is));
+        inside = λ lo. j .inside (length f) lo (was-got read is .inside lo);
+        told = j .told;
+      }
 
 -- of an entry's type
 module _ {s : State} {x : Name} (known : Resolved s x) {f : List ℕ} {at : ℕ} where

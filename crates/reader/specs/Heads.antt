@@ -9,7 +9,7 @@ use Rattle.paper.specs.Reader.{Reader, Out, got, no, only, turned, hold, Rule, 
 use Rattle.paper.specs.Numbers.{number}
 use Rattle.paper.specs.Lists.{given?, or, total, any}
 use Rattle.paper.specs.Ledger.{State, Head, Typ, Range, before?, size, typeNamed, text}
-use Rattle.paper.specs.Rules.{entryOf?, entered?, new?, typeOf, placeRules, typeNameRules, superNamed, chainEnds?, superNameRules, superOf, afterHead}
+use Rattle.paper.specs.Rules.{entryOf?, entered?, new?, typeOf, placeRules, typeNameRules, superNamed, chainEnds?, superNameRules, superOf, countRules, afterHead}
 use Rattle.paper.specs.File.{head}
 use Rattle.numbers.specs.Cursors.{outOf, placeOf, valueOf}
 use Rattle.numbers.specs.declared.Number.{Number}
@@ -19,7 +19,8 @@ use Rattle.table.specs.Adds.{addType}
 use Rattle.table.specs.Asks.{found}
 use Rattle.table.specs.declared.names.Found.{Found}
 use Rattle.table.specs.declared.names.Found.the-variants.{At, Nothing}
-use Rattle.reader.specs.Sound.{Open}
+use Rattle.reader.specs.Sound.{Sound, Open}
+use Rattle.reader.specs.Ruled.{Judged}
 use Rattle.reader.specs.declared.heads.Name.{Name}
 use Rattle.reader.specs.declared.heads.Named.{Named}
 use Rattle.reader.specs.declared.heads.Named.the-variants as named
@@ -71,6 +72,12 @@ noName (named.No e) = e
 abbrev pub toldName : State → Named → Type 0
 toldName s (named.Got x c) = Resolved s x
 toldName s (named.No e) = Unit {0}
+
+-- what the rules make of the number n that began at `at` and has `next` behind it
+pub record NameJudged (s : State) (n at next : ℕ) (r : Named) : Type 0 where
+  pub says : outName r ≡ hold (typeNameRules s n) at (got n next)
+  pub inside : (m : ℕ) → at ≤ m → next ≤ m → namePlace r ≤ m
+  pub told : toldName s r
 
 pub record NameRead (s : State) (f : List ℕ) (at : ℕ) (r : Named) : Type 0 where
   pub says : outName r ≡ number (typeNameRules s) f at
@@ -127,6 +134,11 @@ abbrev pub toldSuper : State → Above → Type 0
 toldSuper s (above.Got y c) = maybe (y .up) ≡ superNamed s (y .number)
 toldSuper s (above.No e) = Unit {0}
 
+pub record SuperJudged (s : State) (t n at next : ℕ) (r : Above) : Type 0 where
+  pub says : outAbove true r ≡ turned (due true) (hold (superNameRules s t n) at (got n next))
+  pub inside : (m : ℕ) → at ≤ m → next ≤ m → abovePlace r ≤ m
+  pub told : toldSuper s r
+
 pub record SuperRead (s : State) (t : ℕ) (f : List ℕ) (at : ℕ) (r : Above) : Type 0 where
   pub says : outAbove true r ≡ only true (number (superNameRules s t)) f at
   pub inside : at ≤ length f → abovePlace r ≤ length f
@@ -149,6 +161,12 @@ pub record DueRead (b : Bool) (q : Reader ℕ) (bound : ℕ) (f : List ℕ) (at 
   pub inside : at ≤ length f → placeOf r ≤ length f
   pub below : valueOf r < bound
   pub none : b ≡ false → valueOf r ≡ 0
+
+-- ── a count of objects ──
+
+pub record CountJudged (l : List ℕ) (up start n at next : ℕ) (r : Number) : Type 0 where
+  pub judged : (f : List ℕ) → Holds f l → Judged (countRules (view f l) (maybe up) start) n at next r
+  pub below : valueOf r < 65536
 
 -- ── a head ──
 
@@ -220,6 +238,13 @@ addNew false g name t = g
 pub record TypeEntered (x : Name) (up base : ℕ) (l l′ : List ℕ) : Type 0 where
   pub ranges : getD l′ 3 0 ≡ getD l 3 0
   pub says : (f : List ℕ) → Holds f l → Now f l′ (addNew (x .fresh) (said f l) (text (view f l) (x .number)) (record { super = maybe up; base = base }))
+
+-- there are bytes with which the table finds room for the head h
+pub record Enterable (l : List ℕ) (h : Top) : Type 0 where
+  pub names : List ℕ
+  pub holds : Holds names l
+  pub sound : Sound (said names l)
+  pub placed : Placed (view names l) h
 
 -- the head h was entered, and the table l became l′: the entry's type is open for its fields
 pub record Entered (f l l′ : List ℕ) (h : Top) : Type 0 where

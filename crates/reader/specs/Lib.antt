@@ -1,6 +1,7 @@
 pub mod Counting
 pub mod Sound
 pub mod Ruled
+pub mod Keeping
 pub mod Going
 pub mod Kinds
 pub mod KindLaws

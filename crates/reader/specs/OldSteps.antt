@@ -35,7 +35,7 @@ pub olds-none : (added : ℕ) (s : State) (t : ℕ) → added ≡ 0 → oldsOf a
 unfolding oldsOf if_then_else_
 olds-none added s t none = rw (eq-eqb added 0 none)
 
-own-step : (t i : ℕ) (fs : List Field) → i < length fs → ownFrom t i fs ≡ (if owns? t (getD fs i noField) then i ∷ ownFrom t (i + 1) fs else ownFrom t (i + 1) fs)
+pub own-step : (t i : ℕ) (fs : List Field) → i < length fs → ownFrom t i fs ≡ (if owns? t (getD fs i noField) then i ∷ ownFrom t (i + 1) fs else ownFrom t (i + 1) fs)
 unfolding ownFrom places
 own-step t i fs lt = rw (add-one i, drop-cons fs i noField lt) refl
 

@@ -1,12 +1,11 @@
 -- What is known of a number that was taken: its rules hold. Assumes nothing.
-use mathlib.Core.Path.{_≡_, refl}
-use mathlib.Core.Bool.{true, false}
-use mathlib.Core.List.{List, [], _∷_}
+use mathlib.Core.Path.{_≡_}
+use mathlib.Core.List.{List}
 use Prim.Native.Nat.{ℕ, _+_, _-_, _≤_}
 use native.Mathlib.Omega.{arith}
 use lib.ListN.{length, getD}
 use borrow.Author.Tests.{leb-true}
-use Rattle.paper.specs.Reader.{Reader, Out, got, no, andThen, hold, must, Rule, _orNo_}
+use Rattle.paper.specs.Reader.{Reader, Out, got, no, andThen, hold, must, Rule}
 use Rattle.paper.specs.Numbers.{v64, number}
 use Rattle.paper.specs.Ledger.{aString?}
 use Rattle.paper.specs.Rules.{fieldCountRules, fieldNameRules, endRules}
@@ -18,14 +17,7 @@ use Rattle.numbers.specs.declared.Cursor.{Cursor}
 use Rattle.table.specs.View.{strsOf, fldsOf, view, Holds}
 use Rattle.laws.specs.Says.{Held}
 use Rattle.laws.specs.Bools.{and-split}
-
-refused-not-got : {A X : Type 0} {n p : ℕ} {v : A} {e : ℕ} → _≡_ {A = Out A} (no n p) (got v e) → X
-refused-not-got q = let z : _≡_ {A = ℕ} 0 1 = cc q in absurd (omega arith)
-
-held : {A : Type 0} (rs : List Rule) (p : ℕ) (a v : A) (m e : ℕ) → hold rs p (got a m) ≡ got v e → (a ≡ v) × Held rs
-held [] p a v m e h = let z : a ≡ v = cc h in (z, tt)
-held ((true orNo n) ∷ rs) p a v m e h = let r = held rs p a v m e h in (r .0, (refl, r .1))
-held ((false orNo n) ∷ rs) p a v m e h = refused-not-got h
+use Rattle.reader.specs.Ruled.{refused-not-got, held}
 
 pub must-held : {A : Type 0} (r : Reader A) (rules : A → List Rule) (f : List ℕ) (at : ℕ) {v : A} {e : ℕ} → must r rules f at ≡ got v e → Held (rules v)
 unfolding must

@@ -10,6 +10,7 @@ ghost use Rattle.paper.specs.File.{endOffset};
 ghost use Rattle.numbers.specs.Cursors.{Read};
 ghost use Rattle.table.specs.View.{view, kindFrom, fldsOf, Ok, Holds, said};
 ghost use Rattle.reader.specs.Sound.{Open};
+ghost use Rattle.reader.specs.Ruled.{Judged};
 ghost use Rattle.reader.specs.Kinds.{named?};
 ghost use Rattle.reader.specs.Fields.{going, oldsOf, oldGo, oldsGo, newGo, newsGo, fieldsGo, FieldAdded, Went};
 use super::kinds::Kind;
@@ -43,17 +44,12 @@ fn end_offset(file: &[u8], c: Cursor, before: u64) -> Number
     Number::Got(e, next)
 }
 
-// The number of an entry's fields: there is room for the new ones, and all that are known are given. What passes the bound is
-// refused for that first.
-fn field_count(file: &[u8], c: Cursor, work: &[u32], known: u32) -> Number
-    requires { ⌜ Holds (now file) (now work) ⌝ }
-    ensures { λ r. ⌜ Read (number (fieldCountRules (view (now (file .entry)) (now (work .entry))) known)) (2 ^ 64) (now (file .entry)) (c .at) r ⌝ }
+// The number n of an entry's fields, held to its rules: there is room for the new ones, and all that are known are given. What
+// passes the bound is refused for that first. The number began at `at`; behind it comes `next`.
+pub fn judged_field_count(work: &[u32], known: u32, n: u64, at: usize, next: Cursor) -> Number
+    requires { ⌜ Ok (now work) ⌝ }
+    ensures { λ r. ⌜ ((f : List ℕ) → Holds f (now (work .entry)) → Judged (fieldCountRules (view f (now (work .entry))) known) n at (next .at) r) ⌝ }
 {
-    let at = c.at;
-    let a = c.v64(file);
-    let Number::Got(n, next) = a else {
-        return a;
-    };
     let room = Ledger::FIELDS - (table::rows::fields(work) as u64);
     let most = (known as u64) + room;
     if most < n {
@@ -71,8 +67,20 @@ fn field_count(file: &[u8], c: Cursor, work: &[u32], known: u32) -> Number
     Number::Got(n, next)
 }
 
+fn field_count(file: &[u8], c: Cursor, work: &[u32], known: u32) -> Number
+    requires { ⌜ Holds (now file) (now work) ⌝ }
+    ensures { λ r. ⌜ Read (number (fieldCountRules (view (now (file .entry)) (now (work .entry))) known)) (2 ^ 64) (now (file .entry)) (c .at) r ⌝ }
+{
+    let at = c.at;
+    let a = c.v64(file);
+    let Number::Got(n, next) = a else {
+        return a;
+    };
+    judged_field_count(work, known, n, at, next)
+}
+
 // How many values the chunk of a field has, by the first number of its kind: 0 to 4 are constants, whose chunks are empty.
-fn values_due(kind: u32, n: u32) -> u32
+pub fn values_due(kind: u32, n: u32) -> u32
     ensures { λ r. ⌜ ((a e : ℕ) → r ≡ valuesDue (kindFrom kind a e) n) ⌝ }
 {
     if kind <= 4 {
@@ -136,16 +144,19 @@ fn old_fields(file: &[u8], c: Cursor, work: &mut [u32], t: u32, added: u32, end:
     Number::Got(last, Cursor { at })
 }
 
-// The name of a new field of type t, by its string's number: no other field of the type has it.
-fn field_name(file: &[u8], c: Cursor, work: &[u32], t: u32) -> Number
-    requires { ⌜ Holds (now file) (now work) ⌝ }
-    ensures { λ r. ⌜ Read (number (fieldNameRules t (view (now (file .entry)) (now (work .entry))))) (2 ^ 64) (now (file .entry)) (c .at) r ⌝ }
+// The name of a new field of type t, by its string's number n, held to its rules: no other field of the type has it. The
+// strings of the table stand in `names`.
+pub fn judged_field_name(
+    names: &[u8],
+    work: &[u32],
+    t: u32,
+    n: u64,
+    at: usize,
+    next: Cursor,
+) -> Number
+    requires { ⌜ Holds (now names) (now work) ⌝ }
+    ensures { λ r. ⌜ Judged (fieldNameRules t (view (now (names .entry)) (now (work .entry)))) n at (next .at) r ⌝ }
 {
-    let at = c.at;
-    let a = c.v64(file);
-    let Number::Got(n, next) = a else {
-        return a;
-    };
     if n == 0 {
         return Number::No(Refusal {
             number: 5,
@@ -159,7 +170,7 @@ fn field_name(file: &[u8], c: Cursor, work: &[u32], t: u32) -> Number
         });
     }
     let name = table::rows::string_at(work, (n - 1) as u32);
-    let other = table::names::find_field(file, work, t, name);
+    let other = table::names::find_field(names, work, t, name);
     match other {
         Found::At(_) => Number::No(Refusal {
             number: 6,
@@ -169,9 +180,21 @@ fn field_name(file: &[u8], c: Cursor, work: &[u32], t: u32) -> Number
     }
 }
 
+fn field_name(file: &[u8], c: Cursor, work: &[u32], t: u32) -> Number
+    requires { ⌜ Holds (now file) (now work) ⌝ }
+    ensures { λ r. ⌜ Read (number (fieldNameRules t (view (now (file .entry)) (now (work .entry))))) (2 ^ 64) (now (file .entry)) (c .at) r ⌝ }
+{
+    let at = c.at;
+    let a = c.v64(file);
+    let Number::Got(n, next) = a else {
+        return a;
+    };
+    judged_field_name(file, work, t, n, at, next)
+}
+
 // A field more of type t, whose name is string number `name`, and its chunk, which is due with a value for each of the
 // type's objects.
-fn add_field(work: &mut [u32], t: u32, kind: Kind, name: u64, objects: u32, size: u64)
+pub fn add_field(work: &mut [u32], t: u32, kind: Kind, name: u64, objects: u32, size: u64)
     requires { ⌜ Ok (now work) ⌝ }
     requires { ⌜ (1 ≤ name) × (name ≤ getD (now work) 0 0) ⌝ }
     requires { ⌜ kind .first ≤ 32 ⌝ }

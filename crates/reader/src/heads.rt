@@ -1,5 +1,7 @@
 // The head of an entry: the name of its type, a new type's super type, the local start below a super type, the count of
-// objects, and a new type's number of restrictions. Each number is held to its rules as soon as it is read.
+// objects, and a new type's number of restrictions. Each number is held to its rules as soon as it is read. What holds it to
+// them (`judged_name` and so on) takes the number by value, for it may as well come from a text; `names` are the bytes in which
+// the strings of the table stand.
 ghost use mathlib.Core.Path.{_≡_};
 ghost use mathlib.Core.List.{List};
 ghost use Prim.Native.Nat.{ℕ, _<_, _≤_};
@@ -14,7 +16,7 @@ ghost use Rattle.table.specs.View.{view, said, maybe, typesOf, Ok, Holds};
 ghost use Rattle.table.specs.Answers.{rangeIn};
 ghost use Rattle.table.specs.Asks.{found};
 ghost use Rattle.reader.specs.Sound.{Sound};
-ghost use Rattle.reader.specs.Heads.{foundBelow, Known, Resolved, NamePlaced, NameRead, noName, SuperPlaced, SuperRead, AboveRead, noAbove, DueRead, TopRead, noTop, rangeFor, Declares, TypeEntered, TopEntered};
+ghost use Rattle.reader.specs.Heads.{foundBelow, Known, Resolved, NamePlaced, NameJudged, NameRead, noName, SuperPlaced, SuperJudged, SuperRead, AboveRead, noAbove, DueRead, CountJudged, TopRead, Placed, noTop, rangeFor, Declares, TypeEntered, Enterable, Entered, TopEntered};
 use super::ruled::no_restrictions;
 use super::ruled::small;
 use numbers::Cursor;
@@ -127,13 +129,13 @@ fn is_string(work: &[u32], n: u64) -> bool
 }
 
 // The type that string n names.
-fn type_named(file: &[u8], work: &[u32], n: u64) -> Found
-    requires { ⌜ Holds (now file) (now work) ⌝ }
+fn type_named(names: &[u8], work: &[u32], n: u64) -> Found
+    requires { ⌜ Holds (now names) (now work) ⌝ }
     requires { ⌜ (0 < n) × (n ≤ getD (now work) 0 0) ⌝ }
-    ensures { λ r. ⌜ Known (now (file .entry)) (now (work .entry)) n r ⌝ }
+    ensures { λ r. ⌜ Known (now (names .entry)) (now (work .entry)) n r ⌝ }
 {
     let name = string_at(work, (n - 1) as u32);
-    find_type(file, work, name)
+    find_type(names, work, name)
 }
 
 // The place of the type that string n names, which was looked up. A new type must find room, and a known one must not
@@ -176,6 +178,21 @@ fn placed_name(work: &[u32], n: u64, known: Found, at: usize, next: Cursor) -> N
     }
 }
 
+// The name of an entry's type, by its string's number n, held to its rules. That number began at `at`; behind it comes `next`.
+pub fn judged_name(names: &[u8], work: &[u32], n: u64, at: usize, next: Cursor) -> Named
+    requires { ⌜ Holds (now names) (now work) ⌝ }
+    ensures { λ r. ⌜ NameJudged (view (now (names .entry)) (now (work .entry))) n at (next .at) r ⌝ }
+{
+    if !is_string(work, n) {
+        return Named::No(Refusal {
+            number: 5,
+            place: at,
+        });
+    }
+    let known = type_named(names, work, n);
+    placed_name(work, n, known, at, next)
+}
+
 fn type_name(file: &[u8], c: Cursor, work: &[u32]) -> Named
     requires { ⌜ Holds (now file) (now work) ⌝ }
     ensures { λ r. ⌜ NameRead (view (now (file .entry)) (now (work .entry))) (now (file .entry)) (c .at) r ⌝ }
@@ -185,14 +202,7 @@ fn type_name(file: &[u8], c: Cursor, work: &[u32]) -> Named
     let Number::Got(n, next) = a else {
         return Named::No(refused(a));
     };
-    if !is_string(work, n) {
-        return Named::No(Refusal {
-            number: 5,
-            place: at,
-        });
-    }
-    let known = type_named(file, work, n);
-    placed_name(work, n, known, at, next)
+    judged_name(file, work, n, at, next)
 }
 
 // The super type that string n names, which was looked up, for the new type t. It must be known, and the chain of super
@@ -218,16 +228,11 @@ fn placed_super(work: &[u32], t: u32, n: u64, known: Found, at: usize, next: Cur
     Above::Got(Super { number: n, up }, next)
 }
 
-// The super type that the new type t names; 0 names none.
-fn named_super(file: &[u8], c: Cursor, work: &[u32], t: u32) -> Above
-    requires { ⌜ Holds (now file) (now work) ⌝ }
-    ensures { λ r. ⌜ SuperRead (view (now (file .entry)) (now (work .entry))) t (now (file .entry)) (c .at) r ⌝ }
+// The super type of the new type t, by the number n of its name's string, held to its rules; 0 names none.
+pub fn judged_super(names: &[u8], work: &[u32], t: u32, n: u64, at: usize, next: Cursor) -> Above
+    requires { ⌜ Holds (now names) (now work) ⌝ }
+    ensures { λ r. ⌜ SuperJudged (view (now (names .entry)) (now (work .entry))) t n at (next .at) r ⌝ }
 {
-    let at = c.at;
-    let a = c.v64(file);
-    let Number::Got(n, next) = a else {
-        return Above::No(refused(a));
-    };
     if n == 0 {
         return Above::Got(Super { number: 0, up: 0 }, next);
     }
@@ -237,8 +242,21 @@ fn named_super(file: &[u8], c: Cursor, work: &[u32], t: u32) -> Above
             place: at,
         });
     }
-    let known = type_named(file, work, n);
+    let known = type_named(names, work, n);
     placed_super(work, t, n, known, at, next)
+}
+
+// The super type that the new type t names.
+fn named_super(file: &[u8], c: Cursor, work: &[u32], t: u32) -> Above
+    requires { ⌜ Holds (now file) (now work) ⌝ }
+    ensures { λ r. ⌜ SuperRead (view (now (file .entry)) (now (work .entry))) t (now (file .entry)) (c .at) r ⌝ }
+{
+    let at = c.at;
+    let a = c.v64(file);
+    let Number::Got(n, next) = a else {
+        return Above::No(refused(a));
+    };
+    judged_super(file, work, t, n, at, next)
 }
 
 // A known type has its super type already.
@@ -297,16 +315,11 @@ fn in_range(work: &[u32], up: u32, start: u32, n: u32) -> bool
     clear_of_siblings(work, b, up, start)
 }
 
-// The count of objects that an entry adds.
-fn object_count(file: &[u8], c: Cursor, work: &[u32], up: u32, start: u32) -> Number
-    requires { ⌜ Holds (now file) (now work) ⌝ }
-    ensures { λ r. ⌜ Read (number (countRules (view (now (file .entry)) (now (work .entry))) (maybe up) start)) 65536 (now (file .entry)) (c .at) r ⌝ }
+// The count n of objects that an entry adds, held to its rules.
+pub fn judged_count(work: &[u32], up: u32, start: u32, n: u64, at: usize, next: Cursor) -> Number
+    requires { ⌜ Ok (now work) ⌝ }
+    ensures { λ r. ⌜ CountJudged (now (work .entry)) up start n at (next .at) r ⌝ }
 {
-    let at = c.at;
-    let a = c.v64(file);
-    let Number::Got(n, next) = a else {
-        return a;
-    };
     if !few_objects(work, up, n) {
         return Number::No(Refusal {
             number: 3,
@@ -320,6 +333,19 @@ fn object_count(file: &[u8], c: Cursor, work: &[u32], up: u32, start: u32) -> Nu
         });
     }
     Number::Got(n, next)
+}
+
+// The count of objects that an entry adds.
+fn object_count(file: &[u8], c: Cursor, work: &[u32], up: u32, start: u32) -> Number
+    requires { ⌜ Holds (now file) (now work) ⌝ }
+    ensures { λ r. ⌜ Read (number (countRules (view (now (file .entry)) (now (work .entry))) (maybe up) start)) 65536 (now (file .entry)) (c .at) r ⌝ }
+{
+    let at = c.at;
+    let a = c.v64(file);
+    let Number::Got(n, next) = a else {
+        return a;
+    };
+    judged_count(work, up, start, n, at, next)
 }
 
 // The number of restrictions, which only a new type has.
@@ -415,7 +441,21 @@ fn enter_type(work: &mut [u32], name: Name, up: u32, base: u32)
     push_type(work, row);
 }
 
-// Reads a head, and enters its type and its range in the table. A head that is refused leaves the table as it was.
+// Enters the type and the range of a head in the table.
+pub fn enter_top(work: &mut [u32], top: Top)
+    requires { ⌜ Enterable (now work) top ⌝ }
+    ensures { λ _. ⌜ ((f : List ℕ) → Holds f (now (work .entry)) → Sound (said f (now (work .entry))) → Placed (view f (now (work .entry))) top → Entered f (now (work .entry)) (now (work .exit)) top) ⌝ }
+{
+    let name = top.name;
+    let above = top.above;
+    let up = above.up;
+    let base = base_for(work, name.typ, up);
+    let range = range_for(work, top, base);
+    enter_type(work, name, up, base);
+    push_range(work, range);
+}
+
+// Reads a head, and enters it. A head that is refused leaves the table as it was.
 pub fn enter_head(file: &[u8], c: Cursor, work: &mut [u32]) -> Topped
     requires { ⌜ Holds (now file) (now work) ⌝ }
     requires { ⌜ Sound (said (now file) (now work)) ⌝ }
@@ -425,12 +465,6 @@ pub fn enter_head(file: &[u8], c: Cursor, work: &mut [u32]) -> Topped
     let Topped::Got(top, next) = a else {
         return a;
     };
-    let name = top.name;
-    let above = top.above;
-    let up = above.up;
-    let base = base_for(work, name.typ, up);
-    let range = range_for(work, top, base);
-    enter_type(work, name, up, base);
-    push_range(work, range);
+    enter_top(work, top);
     Topped::Got(top, next)
 }
