@@ -12,7 +12,7 @@ use crate::reader::Reader;
 use crate::sheet::Sheet;
 
 /// How many listings are damaged in each way.
-pub const EACH: usize = 100;
+pub const EACH: usize = 500;
 
 /// The longest listing to damage. In a longer one a change is likely to hit nothing but a value.
 const LONGEST: usize = 1_500;
@@ -205,6 +205,7 @@ fn same(origin: &str, what: &str, found: &[u8], expected: &[u8]) -> Result<(), M
         return Ok(());
     }
     let (found, expected) = (found.len(), expected.len());
-    let text = format!("{what} has {found} bytes, not the {expected} that it should\ninput   {origin}");
+    let text =
+        format!("{what} has {found} bytes, not the {expected} that it should\ninput   {origin}");
     Err(Mismatch::new("way back", text))
 }

@@ -19,11 +19,12 @@ pub struct Way {
 }
 
 impl Way {
-    /// A listing damaged in this way: one of these, by chance.
+    /// A listing damaged in this way: one of these, by chance. It differs from what it was.
     pub fn text(&self, random: &mut Random, sheets: &[Sheet]) -> Vec<u8> {
         let mut tries = (0..50_000).map(|_| {
             let sheet = &sheets[random.index(sheets.len())];
-            (self.damage)(random, sheet)
+            let text = (self.damage)(random, sheet);
+            text.filter(|text| *text != sheet.text)
         });
         let found = tries.find_map(|text| text);
         found.unwrap_or_else(|| panic!("no listing has anything for: {}", self.name))
@@ -221,10 +222,7 @@ fn other_number(random: &mut Random, sheet: &Sheet, number: Range<usize>) -> Vec
 // Hex digits.
 
 fn is_hex(role: Role) -> bool {
-    matches!(
-        role,
-        Role::Hex | Role::Element(Element::F32 | Element::F64)
-    )
+    matches!(role, Role::Hex | Role::Element(Element::F32 | Element::F64))
 }
 
 fn upper_case(random: &mut Random, sheet: &Sheet) -> Option<Vec<u8>> {
@@ -248,7 +246,13 @@ fn odd_hex(random: &mut Random, sheet: &Sheet) -> Option<Vec<u8>> {
 fn hex_length(random: &mut Random, sheet: &Sheet) -> Option<Vec<u8>> {
     let word = a_word(random, sheet, |role| is_hex(role) && role != Role::Hex)?;
     let length = *random.pick(&[0, 1, 7, 8, 9, 10, 15, 16, 17, 18, 32]);
-    let digits: Vec<u8> = sheet.bytes(&word).iter().cycle().take(length).copied().collect();
+    let digits: Vec<u8> = sheet
+        .bytes(&word)
+        .iter()
+        .cycle()
+        .take(length)
+        .copied()
+        .collect();
     (length != word.len()).then(|| sheet.with(word, &digits))
 }
 
@@ -319,9 +323,24 @@ fn misspelt(random: &mut Random, sheet: &Sheet) -> Option<Vec<u8>> {
         0 => word.to_ascii_uppercase(),
         1 => [&word[..at], &word[at + 1..]].concat(),
         2 => [&word[..at], b"a", &word[at..]].concat(),
-        3 => [&word[..at], &[word[at].to_ascii_uppercase()], &word[at + 1..]].concat(),
+        3 => [
+            &word[..at],
+            &[word[at].to_ascii_uppercase()],
+            &word[at + 1..],
+        ]
+        .concat(),
         4 => Vec::new(),
-        _ => random.pick(&[&b"pair"[..], b"str", b"type", b"old", b"new", b"val", b"refused"]).to_vec(),
+        _ => random
+            .pick(&[
+                &b"pair"[..],
+                b"str",
+                b"type",
+                b"old",
+                b"new",
+                b"val",
+                b"refused",
+            ])
+            .to_vec(),
     };
     Some(sheet.with(line.start..line.start + ends, &new))
 }
@@ -458,7 +477,10 @@ fn reference(random: &mut Random, sheet: &Sheet) -> Option<Vec<u8>> {
 /// An element taken out of an array, or once more in it.
 fn array_length(random: &mut Random, sheet: &Sheet) -> Option<Vec<u8>> {
     let line = one(random, &sheet.arrays)?;
-    let elements = sheet.words.iter().filter(|word| line.contains(&word.at.start));
+    let elements = sheet
+        .words
+        .iter()
+        .filter(|word| line.contains(&word.at.start));
     let elements: Vec<Range<usize>> = elements.map(|word| word.at.clone()).collect();
     let Some(word) = one(random, &elements) else {
         return Some(sheet.with(line.end - 1..line.end - 1, b"\t0"));
@@ -492,8 +514,35 @@ fn old_or_new(random: &mut Random, sheet: &Sheet) -> Option<Vec<u8>> {
 
 /// Kinds that no field has, and kinds that lack a number or have one too many.
 const NO_KINDS: [&str; 30] = [
-    "5", "16", "20", "21", "22", "30", "31", "0", "4", "0,", "4,", "4,1,1", "11,", "11,1", "15", "15,3", "15,3,", "15,3,5",
-    "15,65536,7", "15,3,17,7", "17", "17,", "17,5", "17,17", "18,0", "19,15", "19,31", "17,7,7", "18446744073709551615",
+    "5",
+    "16",
+    "20",
+    "21",
+    "22",
+    "30",
+    "31",
+    "0",
+    "4",
+    "0,",
+    "4,",
+    "4,1,1",
+    "11,",
+    "11,1",
+    "15",
+    "15,3",
+    "15,3,",
+    "15,3,5",
+    "15,65536,7",
+    "15,3,17,7",
+    "17",
+    "17,",
+    "17,5",
+    "17,17",
+    "18,0",
+    "19,15",
+    "19,31",
+    "17,7,7",
+    "18446744073709551615",
     "0,128",
 ];
 
@@ -550,7 +599,9 @@ fn name_out_of_range(random: &mut Random, sheet: &Sheet) -> Option<Vec<u8>> {
 fn dash_or_none(random: &mut Random, sheet: &Sheet) -> Option<Vec<u8>> {
     let word = match random.once_in(4) {
         true => a_number(random, sheet)?,
-        false => a_word(random, sheet, |role| matches!(role, Role::Super | Role::Start))?,
+        false => a_word(random, sheet, |role| {
+            matches!(role, Role::Super | Role::Start)
+        })?,
     };
     let number = random.below(3).to_string();
     Some(match sheet.bytes(&word) {
@@ -585,7 +636,9 @@ fn twice_over(_: &mut Random, sheet: &Sheet) -> Option<Vec<u8>> {
 
 fn non_ascii(random: &mut Random, sheet: &Sheet) -> Option<Vec<u8>> {
     let at = a_gap(random, sheet);
-    let characters = ["\u{e9}", "\u{663}", "\u{ff11}", "\u{a0}", "\u{feff}", "\u{2212}", "\u{85}", "\u{2028}"];
+    let characters = [
+        "\u{e9}", "\u{663}", "\u{ff11}", "\u{a0}", "\u{feff}", "\u{2212}", "\u{85}", "\u{2028}",
+    ];
     Some(match random.below(4) {
         0 => sheet.with(0..0, "\u{feff}".as_bytes()),
         1 => sheet.with(at, random.pick(&characters).as_bytes()),
@@ -623,6 +676,25 @@ mod tests {
     use crate::reader::{Reader, Second};
     use second::bounds::TABLE;
     use second::generate::SEED;
+
+    /// What changes nothing is no damage: another listing is taken then.
+    #[test]
+    fn damage_is_a_change() {
+        let way = Way {
+            name: "zeros for ones",
+            damage: |_, sheet| {
+                let text = String::from_utf8_lossy(&sheet.text).replace('1', "0");
+                Some(text.into_bytes())
+            },
+        };
+        let sheets = builds::sheets(50);
+        let mut random = Random::new(SEED);
+        assert!(sheets.iter().any(|sheet| sheet.text.is_empty()));
+        for _ in 0..1_000 {
+            // The empty listing has no 1, and cannot be changed so.
+            assert!(!way.text(&mut random, &sheets).is_empty());
+        }
+    }
 
     fn answer(text: &[u8]) -> i64 {
         let mut file = vec![0; 2 * text.len() + 64];

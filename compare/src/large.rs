@@ -30,7 +30,7 @@ pub const TEXTS: &[Large] = &[
     Large { group: BEYOND, name: "1048577 bytes, two pairs", make: || padded(&two_pairs(), FILE + 1) },
     Large { group: BEYOND, name: "1048577 bytes, the last two an empty pair", make: || then_empty(FILE - 1) },
     Large { group: BEYOND, name: "1048578 bytes, the last two an empty pair", make: || then_empty(FILE) },
-    Large { group: BEYOND, name: "three megabytes, strings", make: || three_strings() },
+    Large { group: BEYOND, name: "three megabytes, strings", make: three_strings },
     Large { group: BEYOND, name: "three megabytes, values", make: || values(350_000).replace(PAD, "").into_bytes() },
     Large { group: LONG, name: "a million nines", make: || value(&"9".repeat(MILLION)) },
     Large { group: LONG, name: "a million zeros", make: || value(&"0".repeat(MILLION)) },

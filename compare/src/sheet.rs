@@ -125,10 +125,7 @@ impl Sheet {
     }
 
     fn word(&mut self, at: Range<usize>, role: Role) {
-        let hex = matches!(
-            role,
-            Role::Hex | Role::Element(Element::F32 | Element::F64)
-        );
+        let hex = matches!(role, Role::Hex | Role::Element(Element::F32 | Element::F64));
         if !hex {
             let mut start = at.start;
             for part in self.text[at.clone()].split(|&byte| byte == b',') {

@@ -1,7 +1,7 @@
 //! Wrong builders. The comparison has to notice each of them, and by what it does wrong.
 
 use second::bounds::{FILE, TABLE};
-use second::generate::SEED;
+use second::generate::{LISTING_E, SEED};
 
 use crate::builds;
 use crate::comparison::{Comparison, Mismatch};
@@ -121,9 +121,11 @@ fn text_before_the_table() {
 
 #[test]
 fn a_table_one_too_short_taken() {
-    caught_by_files("answer", |text, table, file| match table.len() == TABLE - 1 {
-        true => Second.build(text, &mut vec![0; TABLE], file),
-        false => Second.build(text, table, file),
+    caught_by_files("answer", |text, table, file| {
+        match table.len() == TABLE - 1 {
+            true => Second.build(text, &mut vec![0; TABLE], file),
+            false => Second.build(text, table, file),
+        }
     });
 }
 
@@ -161,7 +163,9 @@ fn writes_before_it_judges() {
         if answer == -20 {
             // The file of all pairs before the wrong one.
             let pairs = text.windows(5).enumerate();
-            let starts = pairs.filter(|(_, word)| word == b"pair\t").map(|(at, _)| at);
+            let starts = pairs
+                .filter(|(_, word)| word == b"pair\t")
+                .map(|(at, _)| at);
             for at in starts.collect::<Vec<_>>().into_iter().rev() {
                 if Second.build(&text[..at], &mut vec![0; TABLE], file) > 0 {
                     break;
@@ -174,7 +178,10 @@ fn writes_before_it_judges() {
 
 #[test]
 fn writes_on_a_refusal() {
-    let faults: [Build; 2] = [|t, w, f| touched_on(-15, t, w, f), |t, w, f| touched_on(-19, t, w, f)];
+    let faults: [Build; 2] = [
+        |t, w, f| touched_on(-15, t, w, f),
+        |t, w, f| touched_on(-19, t, w, f),
+    ];
     for fault in faults {
         caught_by_files("bytes", fault);
     }
@@ -236,20 +243,22 @@ fn last_byte_wrong() {
     });
 }
 
+/// The table's last number is not cleared after an answer, after 19 or after 20.
 #[test]
 fn table_not_cleared() {
-    for refusal in [-20, 0] {
-        let build: Build = match refusal {
-            0 => |t, w, f| marked_after(Second.build(t, w, f), true, w),
-            _ => |t, w, f| marked_after(Second.build(t, w, f), false, w),
-        };
-        caught_by_damage("table", build);
+    let faults: [Build; 3] = [
+        |t, w, f| marked_if(|answer| answer >= 0, t, w, f),
+        |t, w, f| marked_if(|answer| answer == -19, t, w, f),
+        |t, w, f| marked_if(|answer| answer == -20, t, w, f),
+    ];
+    for fault in faults {
+        caught_by_damage("table", fault);
     }
 }
 
-/// The table's last number is not cleared after an answer, or after 20.
-fn marked_after(answer: i64, built: bool, table: &mut [u32]) -> i64 {
-    if (built && answer >= 0) || (!built && answer == -20) {
+fn marked_if(such: fn(i64) -> bool, text: &[u8], table: &mut [u32], file: &mut [u8]) -> i64 {
+    let answer = Second.build(text, table, file);
+    if such(answer) {
         table[TABLE - 1] = 7;
     }
     answer
@@ -277,13 +286,37 @@ fn short_table_touched() {
     });
 }
 
-/// A builder that gives another file with as many bytes.
+/// The length is right, and one byte in the middle is not.
 #[test]
-fn end_offsets_wrong() {
+fn a_byte_wrong_in_the_middle() {
     caught_by_files("bytes", |text, table, file| {
         let answer = Second.build(text, table, file);
         if answer > 20 {
             file[answer as usize / 2] ^= 1;
+        }
+        answer
+    });
+}
+
+#[test]
+fn always_the_same_file() {
+    caught_by_files("answer", |_, table, file| {
+        Second.build(LISTING_E.as_bytes(), table, file)
+    });
+}
+
+/// The first pair is built, and the rest of the length is pretended.
+#[test]
+fn builds_the_first_pair_and_pretends_for_the_rest() {
+    caught_by_files("bytes", |text, table, file| {
+        let lent = file.to_vec();
+        let answer = Second.build(text, table, file);
+        let mut pairs = text.windows(6).skip(1);
+        if let Some(at) = pairs.position(|word| word == b"\npair\t") {
+            if answer > 0 {
+                file.copy_from_slice(&lent);
+                Second.build(&text[..at + 2], table, file);
+            }
         }
         answer
     });
@@ -472,7 +505,11 @@ fn takes_blanks() {
     let faults: [Build; 3] = [
         |t, w, f| lenient(t, w, f, |text| text.replace(' ', "\t")),
         |t, w, f| lenient(t, w, f, |text| text.replace(' ', "")),
-        |t, w, f| lenient(t, w, f, |text| by_lines(text, |line| line.trim_end().to_string())),
+        |t, w, f| {
+            lenient(t, w, f, |text| {
+                by_lines(text, |line| line.trim_end().to_string())
+            })
+        },
     ];
     for fault in faults {
         caught_by_damage("answer", fault);
@@ -505,7 +542,9 @@ fn takes_what_stands_behind() {
         let answer = Second.build(text, table, file);
         let mut front = text;
         while answer == -20 && !front.is_empty() {
-            let end = front[..front.len() - 1].iter().rposition(|&byte| byte == b'\n');
+            let end = front[..front.len() - 1]
+                .iter()
+                .rposition(|&byte| byte == b'\n');
             front = &front[..end.map_or(0, |end| end + 1)];
             let taken = Second.build(front, table, file);
             if taken > 0 {
@@ -566,7 +605,11 @@ fn asks_for_no_old_lines() {
 #[test]
 fn takes_unknown_kinds() {
     let faults: [Build; 2] = [
-        |t, w, f| lenient(t, w, f, |text| v64_for(text, |kind| matches!(kind, 5 | 16 | 20..=31))),
+        |t, w, f| {
+            lenient(t, w, f, |text| {
+                v64_for(text, |kind| matches!(kind, 5 | 16 | 20..=31))
+            })
+        },
         |t, w, f| lenient(t, w, f, |text| v64_for(text, |kind| kind >= 32)),
     ];
     for fault in faults {

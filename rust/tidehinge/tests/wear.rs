@@ -65,7 +65,9 @@ fn built_from_its_listing() {
 /// The wear of the last drive, changed by hand in the listing.
 #[test]
 fn built_with_another_wear() {
-    let last = LISTING.rfind("val\t2\n").expect("the wear of the last drive");
+    let last = LISTING
+        .rfind("val\t2\n")
+        .expect("the wear of the last drive");
     let text = [&LISTING[..last], "val\t3\n", &LISTING[last + 6..]].concat();
     let file = build(&text).unwrap();
     let wear = column(&file, "drive", "wear", 11).unwrap();
