@@ -1,6 +1,7 @@
 -- An answer in one signed number. Assumes nothing.
 use mathlib.Core.Path.{_≡_, refl, sym, ap, _∙_}
 use mathlib.Core.Bool.{Bool, true, false}
+use mathlib.Core.Logic.{_⊎_, inl, inr}
 use mathlib.Core.List.{List}
 use mathlib.Core.Option.{Option, none, some}
 use Prim.Native.Nat.{ℕ, zero, suc, _≤_, _<_}
@@ -10,11 +11,11 @@ use lib.IntN.{ℤ, pos, negsuc, negℤ}
 use lib.ListN.{length}
 use borrow.Author.Tests.{leb-true, le-leb}
 use Rattle.paper.specs.Reader.{if_then_else_, Out, got, no}
-use Rattle.paper.specs.Bounds.{mostBytes}
+use Rattle.paper.specs.Bounds.{mostBytes, tableLength}
 use Rattle.paper.specs.Ledger.{Ledger}
 use Rattle.paper.specs.Encode.{encode}
 use Rattle.paper.specs.Scan.{short, fileOf}
-use Rattle.paper.specs.Calls.{Answer, done, refused, check, objects, column, listing, build, howMany, Left, tells, writes, afterCheck, afterObjects, afterColumn, afterListing, afterBuild}
+use Rattle.paper.specs.Calls.{Answer, done, refused, check, objects, column, listing, build, _>>=_, _>>_, need, found, fitted, howMany, Left, tells, writes, afterCheck, afterObjects, afterColumn, afterListing, afterBuild}
 use Rattle.laws.specs.Says.{Bytes}
 use Rattle.paper.specs.Listing.{print}
 use Rattle.laws.specs.Columns.{bind-done, then-done, found-done}
@@ -113,6 +114,20 @@ build-most room table t f q =
     let (g, x, z) = bind-done _ _ f (then-done _ _ f q) in
     let same : g ≡ f = fitted-inv room g f z .0 in
     omega (arith, short-most _ g (found-done _ 20 g x), ap length same)
+
+-- nothing but 15, 20 and 19
+pub build-refusal : (room table : ℕ) (t : List ℕ) (n : ℕ) → build room table t ≡ refused n → (n ≡ 15) ⊎ ((n ≡ 20) ⊎ (n ≡ 19))
+unfolding build need found fitted _>>=_ _>>_
+build-refusal room table t n q = go (leb tableLength table) (fileOf t) q
+  where
+    room-only : (b : Bool) (f : List ℕ) → (need b 19 >> done f) ≡ refused n → n ≡ 19
+    room-only true f q = let z : _≡_ {A = ℕ} 0 1 = cc q in absurd (omega arith)
+    room-only false f q = cc q
+
+    go : (b : Bool) (o : Option (List ℕ)) → (need b 15 >> (found o 20 >>= fitted room)) ≡ refused n → (n ≡ 15) ⊎ ((n ≡ 20) ⊎ (n ≡ 19))
+    go false o q = inl (cc q)
+    go true none q = inr (inl (cc q))
+    go true (some f) q = inr (inr (room-only (leb (length f) room) f q))
 
 module _ (f w : List ℕ) where
   pub check-plain : Plain (afterCheck f w .answer)
