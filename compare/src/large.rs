@@ -41,23 +41,23 @@ pub const TEXTS: &[Large] = &[
     Large { group: LONG, name: "a million elements", make: || value(&"1\t".repeat(MILLION)) },
     Large { group: LONG, name: "an array of a million elements", make: || array_of(MILLION) },
     Large { group: LONG, name: "an array of 65536 elements", make: || array_of(65_536) },
-    Large { group: LONG, name: "a million digits as a number of strings", make: || format!("pair\t1{}\t0\n", "0".repeat(MILLION)).into() },
+    Large { group: LONG, name: "a million digits as a number of strings", make: || strings(&("1".to_string() + &"0".repeat(MILLION))) },
     Large { group: LONG, name: "a million digits as a kind", make: || kind(&"1".repeat(MILLION)) },
     Large { group: LONG, name: "a kind of a million commas", make: || kind(&"1,".repeat(MILLION)) },
-    Large { group: LONG, name: "a million and one hex digits", make: || format!("pair\t1\t0\nstr\t{}\n", "a".repeat(MILLION + 1)).into() },
-    Large { group: LONG, name: "four million hex digits", make: || format!("pair\t1\t0\nstr\t{}\n", "a".repeat(4 * MILLION)).into() },
+    Large { group: LONG, name: "a million and one hex digits", make: || string(MILLION + 1) },
+    Large { group: LONG, name: "four million hex digits", make: || string(4 * MILLION) },
     Large { group: LONG, name: "a million words", make: || "pair".repeat(MILLION).into() },
     Large { group: LONG, name: "a million blanks", make: || vec![b' '; MILLION] },
     Large { group: LONG, name: "a million bytes FF", make: || vec![0xFF; MILLION] },
     Large { group: LONG, name: "a million bytes 00", make: || vec![0; MILLION] },
-    Large { group: MANY, name: "a million empty lines", make: || vec![b'\n'; MILLION] },
-    Large { group: MANY, name: "a listing and a million empty lines", make: || [&b"pair\t0\t0\n"[..], &vec![b'\n'; MILLION]].concat() },
-    Large { group: MANY, name: "a million pairs", make: || "pair\t0\t0\n".repeat(MILLION).into() },
-    Large { group: MANY, name: "a million strings", make: || ("pair\t1000000\t0\n".to_string() + &"str\t\n".repeat(MILLION)).into() },
-    Large { group: MANY, name: "a million values", make: || ("pair\t1\t1\nstr\t61\ntype\t1\t0\t-\t65535\t1\nnew\t11\t1\n".to_string() + &"val\t1\n".repeat(MILLION)).into() },
-    Large { group: MANY, name: "a million values of a million objects", make: || ("pair\t1\t1\nstr\t61\ntype\t1\t0\t-\t1000000\t1\nnew\t11\t1\n".to_string() + &"val\t1\n".repeat(MILLION)).into() },
-    Large { group: MANY, name: "a million old fields", make: || ("pair\t1\t1\nstr\t61\ntype\t1\t0\t-\t1\t1000000\n".to_string() + &"old\n".repeat(MILLION)).into() },
-    Large { group: MANY, name: "a million entries", make: || ("pair\t1\t65535\nstr\t61\n".to_string() + &"type\t1\t-\t-\t0\t0\n".repeat(MILLION)).into() },
+    Large { group: MANY, name: "a million empty lines", make: || many("", "\n") },
+    Large { group: MANY, name: "a listing and a million empty lines", make: || many("pair\t0\t0\n", "\n") },
+    Large { group: MANY, name: "a million pairs", make: || many("", "pair\t0\t0\n") },
+    Large { group: MANY, name: "a million strings", make: || many("pair\t1000000\t0\n", "str\t\n") },
+    Large { group: MANY, name: "a million values", make: || many(&column(65_535), "val\t1\n") },
+    Large { group: MANY, name: "a million values of a million objects", make: || many(&column(MILLION), "val\t1\n") },
+    Large { group: MANY, name: "a million old fields", make: || many("pair\t1\t1\nstr\t61\ntype\t1\t0\t-\t1\t1000000\n", "old\n") },
+    Large { group: MANY, name: "a million entries", make: || many("pair\t1\t65535\nstr\t61\n", "type\t1\t-\t-\t0\t0\n") },
 ];
 
 const MILLION: usize = 1_000_000;
@@ -106,6 +106,26 @@ fn then_empty(length: usize) -> Vec<u8> {
 fn three_strings() -> Vec<u8> {
     let line = format!("str\t{}\n", "78".repeat(FILE - 64));
     format!("pair\t3\t0\n{}", line.repeat(3)).into()
+}
+
+/// A line, a million times, behind others.
+fn many(head: &str, line: &str) -> Vec<u8> {
+    format!("{head}{}", line.repeat(MILLION)).into()
+}
+
+/// The lines before the values of one v64 field.
+fn column(objects: usize) -> String {
+    format!("pair\t1\t1\nstr\t61\ntype\t1\t0\t-\t{objects}\t1\nnew\t11\t1\n")
+}
+
+/// A pair that announces so many strings and has none.
+fn strings(number: &str) -> Vec<u8> {
+    format!("pair\t{number}\t0\n").into()
+}
+
+/// One string of so many hex digits.
+fn string(digits: usize) -> Vec<u8> {
+    format!("pair\t1\t0\nstr\t{}\n", "a".repeat(digits)).into()
 }
 
 fn kind(kind: &str) -> Vec<u8> {
