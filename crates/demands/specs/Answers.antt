@@ -4,13 +4,18 @@ use mathlib.Core.List.{List, [], _∷_, _++_}
 use Prim.Native.Nat.{ℕ, _≤_, _<_}
 use native.Mathlib.Omega.{arith}
 use lib.IntN.{ℤ}
-use lib.ListN.{length, drop}
+use lib.Dec.{leb}
+use lib.ListN.{length, drop, replicate}
+use borrow.Author.Tests.{le-leb, lt-leb}
+use Rattle.paper.specs.Reader.{if_then_else_}
+use Rattle.paper.specs.Bounds.{tableLength}
 use Rattle.paper.specs.Calls.{Answer, done, refused, Left, cleared, writes, tells, afterCheck, afterObjects, afterColumn, afterListing, afterBuild}
+use Rattle.laws.specs.Answers.{check-refusals, objects-refusals, column-refusals, listing-refusals, build-refusals}
 use Rattle.calls.specs.Told.{answerOf, after}
 use Rattle.calls.specs.Fixed.{one-way}
 use Rattle.calls.specs.declared.replies.Reply.{Reply}
 use Rattle.calls.specs.declared.replies.Reply.the-variants.{Done, Refused}
-use Rattle.demands.specs.Replies.{was-done, was-refused, drop-front}
+use Rattle.demands.specs.Replies.{tells-answer, was-done, was-refused, drop-front}
 
 -- ── a reply, and only one ──
 
@@ -42,9 +47,43 @@ module _ {r q : Reply} {w v : List ℕ} where
   pub one-build : (t work out : List ℕ) {o p : List ℕ} → after r w o ≡ afterBuild t work out → after q v p ≡ afterBuild t work out → (r ≡ q) × (w ≡ v) × (o ≡ p)
   one-build t work out a b = one-way a b
 
+-- ── a refusal is one of the paper's numbers ──
+
+module _ (n : ℕ) {w : List ℕ} where
+  pub check-refusal : (f work : List ℕ) → after (Refused n) w [] ≡ afterCheck f work → (1 ≤ n) × (n ≤ 21)
+  unfolding afterCheck answerOf
+  check-refusal f work c = check-refusals (length work) f n (sym (tells-answer _ work (Refused n) c))
+
+  pub objects-refusal : (f type work : List ℕ) → after (Refused n) w [] ≡ afterObjects f type work → (1 ≤ n) × (n ≤ 21)
+  unfolding afterObjects answerOf
+  objects-refusal f type work c = objects-refusals type (length work) f n (sym (tells-answer _ work (Refused n) c))
+
+  pub column-refusal :
+      (f type field : List ℕ) (k : ℕ) (work : List ℕ) (out : List ℤ) {o : List ℤ} → after (Refused n) w o ≡ afterColumn f type field k work out → (1 ≤ n) × (n ≤ 21)
+  unfolding afterColumn
+  column-refusal f type field k work out c = column-refusals type field k (length out) (length work) f n (was-refused _ work out (Refused n) c n refl .0)
+
+  pub listing-refusal : (f work out : List ℕ) {o : List ℕ} → after (Refused n) w o ≡ afterListing f work out → (1 ≤ n) × (n ≤ 21)
+  unfolding afterListing
+  listing-refusal f work out c = listing-refusals (length out) (length work) f n (was-refused _ work out (Refused n) c n refl .0)
+
+  pub build-refusal : (t work out : List ℕ) {o : List ℕ} → after (Refused n) w o ≡ afterBuild t work out → (1 ≤ n) × (n ≤ 21)
+  unfolding afterBuild
+  build-refusal t work out c = build-refusals (length out) (length work) t n (was-refused _ work out (Refused n) c n refl .0)
+
 -- ── what the lent memory holds afterwards ──
 
--- after any call the work table is cleared
+-- the first 16,384 numbers are 0 and the rest as lent
+pub cleared-long : (work : List ℕ) → tableLength ≤ length work → cleared work ≡ replicate tableLength 0 ++ drop tableLength work
+unfolding cleared if_then_else_
+cleared-long work h = rw (le-leb tableLength (length work) h)
+
+-- a shorter one is untouched
+pub cleared-short : (work : List ℕ) → length work < tableLength → cleared work ≡ work
+unfolding cleared if_then_else_
+cleared-short work h = rw (lt-leb tableLength (length work) h)
+
+-- so the work table is left after any call
 pub work-after :
     (f t type field work out : List ℕ) (k : ℕ) (numbers : List ℤ)
     → (afterCheck f work .table ≡ cleared work) ×

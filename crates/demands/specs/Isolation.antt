@@ -13,7 +13,9 @@ use Rattle.paper.specs.Reader.{if_then_else_}
 use Rattle.paper.specs.Bounds.{tableLength}
 use Rattle.paper.specs.Lists.{same, place, placeNamed}
 use Rattle.paper.specs.Ledger.{Ledger, State, Field, noField, typeNamed, fieldNamed, called?, owns?}
-use Rattle.paper.specs.Places.{spots, inside?}
+use Rattle.paper.specs.Places.{Spot, spotsFrom, pairSpots, spotsOf, spots, inside?}
+use Rattle.paper.specs.Table.{E, E-with}
+use Rattle.paper.specs.Whole.{whole as all-of-it}
 use Rattle.paper.specs.Calls.{Answer, done, read, known, column, writes, afterColumn}
 use Rattle.laws.specs.Bools.{not-so, and-split}
 use Rattle.laws.specs.Damage.{column-alike}
@@ -108,3 +110,9 @@ isolated f g l m type field t i F G typed fielded long off type′ field′ othe
         let y′ : typeNamed (known l) type′ ≡ some t′ = rw u at y in
         let z′ : fieldNamed (known l) t′ field′ ≡ some i = rw u at z in
         other (names-once (known l) type field type′ field′ t t′ i typed fielded y′ z′)
+
+-- ── the places of the chunks, in E: ten bytes of the first pair, two of the second ──
+
+pub E-spots : spots E ≡ record { field = 0; start = 19; end = 29 } ∷ record { field = 0; start = 35; end = 37 } ∷ []
+unfolding all-of-it E E-with spots spotsOf pairSpots spotsFrom
+E-spots = refl

@@ -6,18 +6,20 @@ use mathlib.Core.Option.{Option, none, some}
 use Prim.Native.Nat.{ℕ, zero, suc, _+_, _≤_, _<_}
 use native.Mathlib.Omega.{arith}
 use lib.IntN.{ℤ, pos, negsuc}
-use lib.ListN.{length, drop, replicate}
+use lib.ListN.{length, drop, replicate, length-replicate}
 use Rattle.paper.specs.Ledger.{Kind, plain, Element, whole, New, Head, Entry, Pair, Ledger, typeNamed, fieldNamed, fieldAt, objectsOf}
+use Rattle.paper.specs.Bounds.{tableLength}
 use Rattle.paper.specs.Encode.{encode}
 use Rattle.paper.specs.Keeps.{keeps?}
-use Rattle.paper.specs.Calls.{Answer, done, refused, check, known, columnOf, asked}
+use Rattle.paper.specs.Calls.{Answer, done, refused, Left, check, known, columnOf, asked, afterColumn}
 use Rattle.paper.specs.Table.{D, E, E-with, date}
 use Rattle.paper.specs.Whole.{whole as all-of-it}
 use Rattle.calls.specs.declared.replies.Reply.{Reply}
 use Rattle.calls.specs.declared.replies.Reply.the-variants.{Done, Refused}
 use Rattle.laws.specs.Says.{Bytes}
 use Rattle.laws.specs.Heads.{bytes-back}
-use Rattle.demands.specs.Exact.{Follows, Asks, AcceptsExactly, ColumnExactly, follows-check, follows-bytes}
+use Rattle.demands.specs.Answers.{some-reply}
+use Rattle.demands.specs.Exact.{Follows, Asks, AcceptsExactly, ColumnExactly, column-exactly, follows-check, follows-bytes}
 
 -- ── what D and E say: D the first pair, E the second one behind it ──
 
@@ -116,6 +118,18 @@ two-is-not-three a b = let z : Done 2 ≡ Done 3 = sym a ∙ b in let y : _≡_ 
 -- three numbers to write to
 abbrev noughts : List ℤ
 noughts = pos 0 ∷ pos 0 ∷ pos 0 ∷ []
+
+-- ── a reader that meets the contract breaks nothing ──
+
+-- what the definitions leave, with a work table of noughts
+unfoldable pub right : List ℕ → List ℤ → Left ℤ
+right f out = afterColumn f date date 11 (replicate tableLength 0) out
+
+pub the-right-one : (f : List ℕ) (out : List ℤ) → ColumnExactly f date date 11 out (some-reply (right f out) .0) (right f out .output)
+unfolding right
+the-right-one f out =
+    column-exactly f date date 11 (replicate tableLength 0) out {w = right f out .table} (some-reply (right f out) .1)
+    (rw (length-replicate {A = ℕ} tableLength 0) (omega arith))
 
 -- ── what a reader replies to a check of a file ──
 

@@ -247,7 +247,7 @@ taken type field k room table f c q =
     let q₄ : done (columnOf l t i) ≡ done c = then-done _ _ c (then-done _ _ c q₃) in
     record { ledger = l; end = e; t = t; i = i; read = x′; typed = found-done _ 16 t y; fielded = found-done _ 17 i z; is = cc q₄ }
 
-pub some-same : {a b : ℕ} {o : Option ℕ} → o ≡ some a → o ≡ some b → a ≡ b
+some-same : {a b : ℕ} {o : Option ℕ} → o ≡ some a → o ≡ some b → a ≡ b
 some-same p q = cc
 
 -- the column of a longer accepted file begins with the shorter one's
