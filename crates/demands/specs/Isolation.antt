@@ -7,7 +7,7 @@ use Prim.Native.Nat.{ℕ, zero, suc, _+_, _≤_, _<_}
 use native.Mathlib.Omega.{arith}
 use lib.Dec.{eqb}
 use lib.IntN.{ℤ}
-use lib.ListN.{length, getD}
+use lib.ListN.{length, getD, take, drop}
 use borrow.Author.Tests.{eqb-true}
 use Rattle.paper.specs.Reader.{if_then_else_}
 use Rattle.paper.specs.Bounds.{tableLength}
@@ -16,12 +16,13 @@ use Rattle.paper.specs.Ledger.{Ledger, State, Field, noField, typeNamed, fieldN
 use Rattle.paper.specs.Places.{Spot, spotsFrom, pairSpots, spotsOf, spots, inside?}
 use Rattle.paper.specs.Table.{E, E-with}
 use Rattle.paper.specs.Whole.{whole as all-of-it}
-use Rattle.paper.specs.Calls.{Answer, done, read, known, column, writes, afterColumn}
+use Rattle.paper.specs.Calls.{Answer, done, refused, read, known, column, writes, afterColumn}
 use Rattle.laws.specs.Bools.{not-so, and-split}
 use Rattle.laws.specs.Damage.{column-alike}
 use Rattle.calls.specs.Told.{after}
-use Rattle.calls.specs.Fixed.{one-way}
 use Rattle.calls.specs.declared.replies.Reply.{Reply}
+use Rattle.calls.specs.declared.replies.Reply.the-variants.{Done, Refused}
+use Rattle.demands.specs.Replies.{written, unwritten, take-front}
 use Rattle.demands.specs.Exact.{Follows, follows-read, follows-check}
 
 -- ── a name names one thing ──
@@ -88,20 +89,44 @@ names-once s type field type′ field′ t t′ i a b c d =
 
 -- ── the call ──
 
+-- the length of the work table does not matter, if it is long enough
+column-table :
+    (f : List ℕ) (l : Ledger) (type field : List ℕ) (k room table table′ : ℕ) → Follows f l → tableLength ≤ table → tableLength ≤ table′
+    → column type field k room table f ≡ column type field k room table′ f
+unfolding column
+column-table f l type field k room table table′ F h h′ = rw (follows-read f l F table h, follows-read f l F table′ h′)
+
+-- the same answer, and the same numbers written
+same-written :
+    {A : Type 0} (a : Answer (List A)) (work work′ : List ℕ) (out out′ : List A) (r q : Reply) {w v : List ℕ} {o p : List A} → after r w o ≡ writes a work out
+    → after q v p ≡ writes a work′ out′ → (r ≡ q) × ((n : ℕ) → r ≡ Done n → take n o ≡ take n p)
+same-written {A} (done vs) work work′ out out′ r q {w} {v} {o} {p} c d =
+    let (x, y) = written (done vs) work out r c vs refl in
+    let (x′, y′) = written (done vs) work′ out′ q d vs refl in
+    (x ∙ sym x′, λ n is. let z : Done n ≡ Done (length vs) = sym is ∙ x in let e : n ≡ length vs = cc z in
+        rw e (ap (take (length vs)) y ∙ take-front vs (drop (length vs) out) ∙ sym (take-front vs (drop (length vs) out′)) ∙ ap (take (length vs)) (sym y′)))
+same-written {A} (refused m) work work′ out out′ r q c d =
+    let (x, _) = unwritten (refused m) work out r c m refl in
+    let (x′, _) = unwritten (refused m) work′ out′ q d m refl in
+    (x ∙ sym x′, λ n is. let z : Done n ≡ Refused m = sym is ∙ x in let y : _≡_ {A = ℕ} 0 1 = cc z in absurd (omega arith))
+
 -- f and g differ only in bytes inside the chunks of the field: at every other place they have the same byte
 pub isolated :
     (f g : List ℕ) (l m : Ledger) (type field : List ℕ) (t i : ℕ) → Follows f l → Follows g m → typeNamed (known l) type ≡ some t → fieldNamed (known l) t field ≡ some i
     → length f ≡ length g → ((at : ℕ) → inside? i at (spots f) ≡ false → getD f at 0 ≡ getD g at 0)
     → (type′ field′ : List ℕ) → ((type′ ≡ type) × (field′ ≡ field) → ⊥)
-    → (k : ℕ) (work : List ℕ) (out : List ℤ) {r q : Reply} {w v : List ℕ} {o p : List ℤ} → tableLength ≤ length work
-    → after r w o ≡ afterColumn f type′ field′ k work out → after q v p ≡ afterColumn g type′ field′ k work out → (r ≡ q) × (w ≡ v) × (o ≡ p)
+    → (k : ℕ) (work work′ : List ℕ) (out out′ : List ℤ) {r q : Reply} {w v : List ℕ} {o p : List ℤ} → tableLength ≤ length work → tableLength ≤ length work′
+    → length out ≡ length out′ → after r w o ≡ afterColumn f type′ field′ k work out → after q v p ≡ afterColumn g type′ field′ k work′ out′
+    → (r ≡ q) × ((n : ℕ) → r ≡ Done n → take n o ≡ take n p)
 unfolding afterColumn
-isolated f g l m type field t i F G typed fielded long off type′ field′ other k work out {r} {q} {w} {v} {o} {p} h c d =
+isolated f g l m type field t i F G typed fielded long off type′ field′ other k work work′ out out′ {r} {q} {w} {v} {o} {p} h h′ room c d =
     let C = follows-check f l F (length work) h in
     let D = follows-check g m G (length work) h in
     let A : column type′ field′ k (length out) (length work) f ≡ column type′ field′ k (length out) (length work) g =
-    column-alike i type′ field′ k (length out) (length work) f g long C D (λ at _ x. off at x) not-it in
-    one-way c (d ∙ ap (λ (a : Answer (List ℤ)). writes a work out) (sym A))
+        column-alike i type′ field′ k (length out) (length work) f g long C D (λ at _ x. off at x) not-it in
+    let B : column type′ field′ k (length out) (length work) g ≡ column type′ field′ k (length out′) (length work′) g =
+        column-table g m type′ field′ k (length out) (length work) (length work′) G h h′ ∙ ap (λ (n : ℕ). column type′ field′ k n (length work′) g) room in
+    same-written _ work work′ out out′ r q c (d ∙ ap (λ (a : Answer (List ℤ)). writes a work′ out′) (sym (A ∙ B)))
   where
     not-it : (l′ : Ledger) (t′ : ℕ) → read (length work) f ≡ done l′ → typeNamed (known l′) type′ ≡ some t′ → fieldNamed (known l′) t′ field′ ≡ some i → ⊥
     not-it l′ t′ x y z =
