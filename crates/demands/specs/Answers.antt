@@ -5,7 +5,7 @@ use Prim.Native.Nat.{ℕ, _≤_, _<_}
 use native.Mathlib.Omega.{arith}
 use lib.IntN.{ℤ}
 use lib.Dec.{leb}
-use lib.ListN.{length, drop, replicate}
+use lib.ListN.{length, drop, replicate, length-append, length-replicate}
 use borrow.Author.Tests.{le-leb, lt-leb}
 use Rattle.paper.specs.Reader.{if_then_else_}
 use Rattle.paper.specs.Bounds.{tableLength}
@@ -83,6 +83,10 @@ pub cleared-short : (work : List ℕ) → length work < tableLength → cleared 
 unfolding cleared if_then_else_
 cleared-short work h = rw (lt-leb tableLength (length work) h)
 
+-- a long one stays long
+cleared-length : (work : List ℕ) → tableLength ≤ length work → tableLength ≤ length (cleared work)
+cleared-length work h = rw (cleared-long work h, length-append (replicate {A = ℕ} tableLength 0) (drop tableLength work), length-replicate {A = ℕ} tableLength 0) (omega arith)
+
 -- so the work table is left after any call
 pub work-after :
     (f t type field work out : List ℕ) (k : ℕ) (numbers : List ℤ)
@@ -120,3 +124,10 @@ listing-kept f work out = writes-kept _ work out
 pub build-kept : (t work out : List ℕ) → OutputKept out (afterBuild t work out)
 unfolding afterBuild
 build-kept t work out = writes-kept _ work out
+
+-- after a question for a column a work table that was long enough is so again
+pub column-work :
+    (f type field : List ℕ) (k : ℕ) (work : List ℕ) (out : List ℤ) (r : Reply) (w : List ℕ) (o : List ℤ) → after r w o ≡ afterColumn f type field k work out
+    → tableLength ≤ length work → tableLength ≤ length w
+unfolding afterColumn writes
+column-work f type field k work out r w o c h = let z : w ≡ cleared work = ap (λ (x : Left ℤ). x .table) c in rw z (cleared-length work h)

@@ -36,24 +36,32 @@ asks-longer l m type field k t i B Q =
       given = Q .given;
     }
 
-pub grows :
-    (f g : List ℕ) (l m : Ledger) (type field : List ℕ) (k t i : ℕ) (work work′ : List ℕ) (out out′ : List ℤ) {r q : Reply} {w v : List ℕ} {o p : List ℤ}
-    → Follows f l → Follows (f ++ g) m → Asks l type field k t i → tableLength ≤ length work → tableLength ≤ length work′
-    → objectsOf (known l) t ≤ length out → objectsOf (known m) t ≤ length out′ → after r w o ≡ afterColumn f type field k work out
-    → after q v p ≡ afterColumn (f ++ g) type field k work′ out′
+-- replies to one question for a column, of a file and of a longer one, and their outputs: with room for either, the longer
+-- column begins with the whole of the shorter one
+abbrev pub Grown : List ℕ → List ℕ → List ℕ → List ℕ → ℕ → List ℤ → List ℤ → Reply → Reply → List ℤ → List ℤ → Type 0
+Grown f longer type field k out out′ r q o p =
+    (g : List ℕ) (l m : Ledger) (t i : ℕ) → longer ≡ f ++ g → Follows f l → Follows longer m → Asks l type field k t i → objectsOf (known l) t ≤ length out
+    → objectsOf (known m) t ≤ length out′
     → (r ≡ Done (objectsOf (known l) t)) ×
     (q ≡ Done (objectsOf (known m) t)) ×
     Begins (take (objectsOf (known l) t) o) (take (objectsOf (known m) t) p)
+
+pub grows :
+    (f longer type field : List ℕ) (k : ℕ) (work work′ : List ℕ) (out out′ : List ℤ) {r q : Reply} {w v : List ℕ} {o p : List ℤ} → tableLength ≤ length work
+    → tableLength ≤ length work′ → after r w o ≡ afterColumn f type field k work out → after q v p ≡ afterColumn longer type field k work′ out′
+    → Grown f longer type field k out out′ r q o p
 unfolding afterColumn
-grows f g l m type field k t i work work′ out out′ {r} {q} F G Q h h′ fits fits′ c d =
-    let Q′ = asks-longer l m type field k t i (follows-longer f g l m F G) Q in
+grows f longer type field k work work′ out out′ {r} {q} h h′ c d g l m t i is F G Q fits fits′ =
+    let G′ : Follows (f ++ g) m = rw is at G in
+    let Q′ = asks-longer l m type field k t i (follows-longer f g l m F G′) Q in
     let a = column-done f l F type field k t i Q (length out) (length work) h fits in
-    let b = column-done (f ++ g) m G type field k t i Q′ (length out′) (length work′) h′ fits′ in
+    let b = column-done longer m G type field k t i Q′ (length out′) (length work′) h′ fits′ in
     let many = column-objects f l F type field k t i Q in
-    let many′ = column-objects (f ++ g) m G type field k t i Q′ in
+    let many′ = column-objects longer m G type field k t i Q′ in
     let (x, y) = written _ work out r c (columnOf l t i) a in
     let (x′, y′) = written _ work′ out′ q d (columnOf m t i) b in
-    let B = columns-longer type field k (length out) (length out′) (length work) (length work′) f g (columnOf l t i) (columnOf m t i) a b in (
+    let b′ : column type field k (length out′) (length work′) (f ++ g) ≡ done (columnOf m t i) = rw is at b in
+    let B = columns-longer type field k (length out) (length out′) (length work) (length work′) f g (columnOf l t i) (columnOf m t i) a b′ in (
       x ∙ ap (λ (n : ℕ). Done n) many,
       x′ ∙ ap (λ (n : ℕ). Done n) many′,
       rw (y, y′, sym many, sym many′, take-front (columnOf l t i) (drop (length (columnOf l t i)) out), take-front (columnOf m t i) (drop (length (columnOf m t i)) out′)) B,

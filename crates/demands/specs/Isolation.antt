@@ -110,31 +110,35 @@ same-written {A} (refused m) work work′ out out′ r q c d =
     let (x′, _) = unwritten (refused m) work′ out′ q d m refl in
     (x ∙ sym x′, λ n is. let z : Done n ≡ Refused m = sym is ∙ x in let y : _≡_ {A = ℕ} 0 1 = cc z in absurd (omega arith))
 
--- f and g differ only in bytes inside the chunks of the field: at every other place they have the same byte
+-- replies to one question for a column, of two files that differ only in bytes inside the chunks of a field (at every other
+-- place they have the same byte), and their outputs: of every other field the same answer, and the same numbers
+abbrev pub Isolated : List ℕ → List ℕ → List ℕ → List ℕ → List ℤ → List ℤ → Reply → Reply → List ℤ → List ℤ → Type 0
+Isolated f g type field out out′ r q o p =
+    (l m : Ledger) (type′ field′ : List ℕ) (t i : ℕ) → Follows f l → Follows g m → typeNamed (known l) type′ ≡ some t → fieldNamed (known l) t field′ ≡ some i
+    → length f ≡ length g → ((at : ℕ) → inside? i at (spots f) ≡ false → getD f at 0 ≡ getD g at 0) → ((type ≡ type′) × (field ≡ field′) → ⊥)
+    → length out ≡ length out′ → (r ≡ q) × ((n : ℕ) → r ≡ Done n → take n o ≡ take n p)
+
 pub isolated :
-    (f g : List ℕ) (l m : Ledger) (type field : List ℕ) (t i : ℕ) → Follows f l → Follows g m → typeNamed (known l) type ≡ some t → fieldNamed (known l) t field ≡ some i
-    → length f ≡ length g → ((at : ℕ) → inside? i at (spots f) ≡ false → getD f at 0 ≡ getD g at 0)
-    → (type′ field′ : List ℕ) → ((type′ ≡ type) × (field′ ≡ field) → ⊥)
-    → (k : ℕ) (work work′ : List ℕ) (out out′ : List ℤ) {r q : Reply} {w v : List ℕ} {o p : List ℤ} → tableLength ≤ length work → tableLength ≤ length work′
-    → length out ≡ length out′ → after r w o ≡ afterColumn f type′ field′ k work out → after q v p ≡ afterColumn g type′ field′ k work′ out′
-    → (r ≡ q) × ((n : ℕ) → r ≡ Done n → take n o ≡ take n p)
+    (f g type field : List ℕ) (k : ℕ) (work work′ : List ℕ) (out out′ : List ℤ) {r q : Reply} {w v : List ℕ} {o p : List ℤ} → tableLength ≤ length work
+    → tableLength ≤ length work′ → after r w o ≡ afterColumn f type field k work out → after q v p ≡ afterColumn g type field k work′ out′
+    → Isolated f g type field out out′ r q o p
 unfolding afterColumn
-isolated f g l m type field t i F G typed fielded long off type′ field′ other k work work′ out out′ {r} {q} {w} {v} {o} {p} h h′ room c d =
+isolated f g type field k work work′ out out′ {r} {q} {w} {v} {o} {p} h h′ c d l m type′ field′ t i F G typed fielded long off other room =
     let C = follows-check f l F (length work) h in
     let D = follows-check g m G (length work) h in
-    let A : column type′ field′ k (length out) (length work) f ≡ column type′ field′ k (length out) (length work) g =
-        column-alike i type′ field′ k (length out) (length work) f g long C D (λ at _ x. off at x) not-it in
-    let B : column type′ field′ k (length out) (length work) g ≡ column type′ field′ k (length out′) (length work′) g =
-        column-table g m type′ field′ k (length out) (length work) (length work′) G h h′ ∙ ap (λ (n : ℕ). column type′ field′ k n (length work′) g) room in
+    let A : column type field k (length out) (length work) f ≡ column type field k (length out) (length work) g =
+        column-alike i type field k (length out) (length work) f g long C D (λ at _ x. off at x) not-it in
+    let B : column type field k (length out) (length work) g ≡ column type field k (length out′) (length work′) g =
+        column-table g m type field k (length out) (length work) (length work′) G h h′ ∙ ap (λ (n : ℕ). column type field k n (length work′) g) room in
     same-written _ work work′ out out′ r q c (d ∙ ap (λ (a : Answer (List ℤ)). writes a work′ out′) (sym (A ∙ B)))
   where
-    not-it : (l′ : Ledger) (t′ : ℕ) → read (length work) f ≡ done l′ → typeNamed (known l′) type′ ≡ some t′ → fieldNamed (known l′) t′ field′ ≡ some i → ⊥
+    not-it : (l′ : Ledger) (t′ : ℕ) → read (length work) f ≡ done l′ → typeNamed (known l′) type ≡ some t′ → fieldNamed (known l′) t′ field ≡ some i → ⊥
     not-it l′ t′ x y z =
         let e : done l′ ≡ done l = sym x ∙ follows-read f l F (length work) h in
         let u : l′ ≡ l = cc e in
-        let y′ : typeNamed (known l) type′ ≡ some t′ = rw u at y in
-        let z′ : fieldNamed (known l) t′ field′ ≡ some i = rw u at z in
-        other (names-once (known l) type field type′ field′ t t′ i typed fielded y′ z′)
+        let y′ : typeNamed (known l) type ≡ some t′ = rw u at y in
+        let z′ : fieldNamed (known l) t′ field ≡ some i = rw u at z in
+        other (names-once (known l) type′ field′ type field t t′ i typed fielded y′ z′)
 
 -- ── the places of the chunks, in E: ten bytes of the first pair, two of the second ──
 
