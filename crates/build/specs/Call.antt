@@ -20,7 +20,8 @@ use Rattle.lay.specs.Laid.{most, Laid}
 use Rattle.laws.specs.Says.{Bytes}
 use Rattle.laws.specs.Promises.{Accepted, accepted-exactly, forth, fitted-done}
 use Rattle.laws.specs.Short.{print-short}
-use Rattle.table.specs.Counts.{noughts}
+use Rattle.table.specs.Counts.{noughts, Begun}
+use Rattle.walk.specs.FileLaws.{steady-begun, state-begun}
 use Rattle.values.specs.Filling.{sets-front}
 use Rattle.texts.specs.declared.Taken.{Taken}
 use Rattle.texts.specs.declared.TextRead.{TextRead}
@@ -30,7 +31,7 @@ use Rattle.calls.specs.Table.{untouched, noughts-first}
 use Rattle.calls.specs.Fixed.{one-way}
 use Rattle.calls.specs.declared.replies.Reply.{Reply}
 use Rattle.calls.specs.declared.replies.Reply.the-variants.{Done, Refused}
-use Rattle.build.specs.Pairs.{PairsBuilt, FileBuilt, fileBy, not-short}
+use Rattle.build.specs.Pairs.{TextReady, PairsBuilt, FileBuilt, fileBy, not-short}
 
 -- ── what the definitions answer, with a table that is long enough ──
 
@@ -54,6 +55,9 @@ text-too-long t b h = go (fileOf t) refl
         let s : length (print l) < 4294967296 = print-short l (accepted-exactly f l .0 a .0) in
         let q : length (print l) ≡ length t = ap length p in
         absurd (omega arith)
+
+pub text-ready : {t l : List ℕ} → length t < 4294967296 → Begun l → Bytes t → TextReady t l
+text-ready {t} lt begun bytes = record { steady = steady-begun t lt begun; bytes = bytes; none = state-begun t lt begun }
 
 -- ── a text that was read, by its file's length ──
 

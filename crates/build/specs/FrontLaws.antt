@@ -27,21 +27,21 @@ use Rattle.walk.specs.Listed.{Listed, entries-listed}
 use Rattle.walk.specs.Blocks.{blockOfRange, front-block, front-past}
 use Rattle.walk.specs.Stand.{stands?, AllStand, new-fields-stand}
 use Rattle.walk.specs.PairLaws.{Steady}
+use Rattle.judge.specs.Fields.{unsized}
 use Rattle.puts.specs.Strings.{lines-longer}
 use Rattle.build.specs.Strings.{Strung, StringsTold}
 use Rattle.build.specs.Spelling.{entriesText-hexed}
 use Rattle.build.specs.Fronts.{withValues, pair-no-line, pair-many, pair-no-strings, pair-no-entries, pair-no-kinds, pair-fronted}
 
--- what a pair asks of the text and of the table that the pairs before it left
+-- what a pair asks of the text and of the table that the pairs before it left: there is a state that the table tells in hex
 pub record PairAsks (t l : List ℕ) (at : ℕ) : Type 0 where
+  pub state : State
+  pub spelt : Spelt state
+  pub says : view t l ≡ hexed state
   pub steady : Steady t l
   pub bytes : Bytes t
   pub inside : at ≤ length t
   pub block : getD l 6 0 < 32
-
--- a chunk that is due, and has no size yet
-abbrev pub unsized : Due → Due × ℕ
-unsized d = (d, 0)
 
 -- in state s a front was read, of m entries from `from` up to `to`, and the table l became l′
 pub record Fronted (t l : List ℕ) (s : State) (at m from to : ℕ) (l′ : List ℕ) : Type 0 where
@@ -61,6 +61,7 @@ pub record Fronted (t l : List ℕ) (s : State) (at m from to : ℕ) (l′ : Lis
   pub low : Low 0 (logOf l′)
   pub listed : Listed (fldsOf l′)
   pub past : Keys blockOfRange (getD l′ 6 0 + 1) (logOf l′)
+  pub begins : at ≤ length t
   pub inside : to ≤ length t
 
 -- ── entries say nothing of strings ──
@@ -114,61 +115,62 @@ module _ {t l : List ℕ} {at : ℕ} (A : PairAsks t l at) (s : State) (S : Spel
     module _
         {es : List Entry} {e₃ : ℕ} (h₄ : times m entryText afterEntry (view t l₁) t e₂ ≡ got es e₃) {l₂ : List ℕ} (H : Holds t l₂)
         (says : said t l₂ ≡ record { state = fold afterEntry (view t l₁) es; due = duesOf l₁ ++ map unsized (dues (view t l₁) es); chunks = chunksOf l₁ })
-        where
-      read : times m entryText afterEntry (withStrings s ss) t e₂ ≡ got es e₃
-      read = sym (entries-as e₂) ∙ h₄
+      where
+        read : times m entryText afterEntry (withStrings s ss) t e₂ ≡ got es e₃
+        read = sym (entries-as e₂) ∙ h₄
 
-      unhexed : fold afterEntry (view t l₁) es ≡ hexed (afterFront s ss es)
-      unfolding afterFront
-      unhexed = rw (strung-state, ← withStrings-hexed s ss) (afterFront-hexed s S ss (each-back ss (D .small)) es)
+        unhexed : fold afterEntry (view t l₁) es ≡ hexed (afterFront s ss es)
+        unfolding afterFront
+        unhexed = rw (strung-state, ← withStrings-hexed s ss) (afterFront-hexed s S ss (each-back ss (D .small)) es)
 
-      state-is : view t l₂ ≡ hexed (afterFront s ss es)
-      state-is = ap (λ (g : Said). g .state) says ∙ unhexed
+        state-is : view t l₂ ≡ hexed (afterFront s ss es)
+        state-is = ap (λ (g : Said). g .state) says ∙ unhexed
 
-      stood : {b : Bool} → AllStand l₂ (getD l 2 0) b → b ≡ kindsStand? (afterFront s ss es) es
-      unfolding hexed
-      stood T =
-          let back : afterFront (hexed s) (map hex ss) es ≡ view t l₂ = afterFront-hexed s S ss (each-back ss (D .small)) es ∙ sym state-is in
-          let count : getD l 2 0 ≡ length (hexed s .fields) = sym (A .steady .holds .ok .flds-count) ∙ ap (λ (u : State). length (u .fields)) is in
-          let told : all (stands? (view t l₂)) (drop (getD l 2 0) (fldsOf l₂)) ≡ kindsStand? (view t l₂) es =
-          rw count (subst (λ (u : State). all (stands? u) (drop (length (hexed s .fields)) (u .fields)) ≡ kindsStand? u es) back (new-fields-stand (hexed s) (map hex ss) es)) in
-          T .says t H ∙ told ∙ ap (λ (u : State). kindsStand? u es) state-is ∙ kindsStand-hexed (afterFront s ss es) es
+        stood : {b : Bool} → AllStand l₂ (getD l 2 0) b → b ≡ kindsStand? (afterFront s ss es) es
+        unfolding hexed
+        stood T =
+            let back : afterFront (hexed s) (map hex ss) es ≡ view t l₂ = afterFront-hexed s S ss (each-back ss (D .small)) es ∙ sym state-is in
+            let count : getD l 2 0 ≡ length (hexed s .fields) = sym (A .steady .holds .ok .flds-count) ∙ ap (λ (u : State). length (u .fields)) is in
+            let told : all (stands? (view t l₂)) (drop (getD l 2 0) (fldsOf l₂)) ≡ kindsStand? (view t l₂) es =
+            rw count (subst (λ (u : State). all (stands? u) (drop (length (hexed s .fields)) (u .fields)) ≡ kindsStand? u es) back (new-fields-stand (hexed s) (map hex ss) es)) in
+            T .says t H ∙ told ∙ ap (λ (u : State). kindsStand? u es) state-is ∙ kindsStand-hexed (afterFront s ss es) es
 
-      pub fronted-no-kinds : AllStand l₂ (getD l 2 0) false → pairText s t at ≡ no 20 0
-      fronted-no-kinds T = pair-no-kinds s t at h₁ h₂ (D .reads) read (sym (stood T))
+        pub fronted-no-kinds : AllStand l₂ (getD l 2 0) false → pairText s t at ≡ no 20 0
+        fronted-no-kinds T = pair-no-kinds s t at h₁ h₂ (D .reads) read (sym (stood T))
 
-      pub fronted : AllStand l₂ (getD l 2 0) true → Sound (said t l₂) → Fronted t l s at m e₂ e₃ l₂
-      unfolding hexed afterFront withStrings addStrings
-      fronted T sound =
-          let K = entries-kept m (withStrings s ss) .at t e₂ es e₃ (A .bytes) in₂ read in
-          let kept = K .said .2 in
-          let log : logOf l₂ ≡ afterFront s ss es .log = ap (λ (u : State). u .log) state-is in
-          let flds : fldsOf l₂ ≡ afterFront s ss es .fields = ap (λ (u : State). u .fields) state-is in
-          let block : getD l₂ 6 0 ≡ s .block = ap (λ (u : State). u .block) state-is ∙ front-block s ss es in
-          let low : Low 0 (s .log) = subst (λ (u : State). Low 0 (u .log)) is (A .steady .low) in
-          let listed : Listed (s .fields) = subst (λ (u : State). Listed (u .fields)) is (A .steady .listed) in
-          let past : Keys blockOfRange (s .block) (s .log) = subst (λ (u : State). Keys blockOfRange (u .block) (u .log)) is (A .steady .between .past) in
-          let count : getD l 0 0 ≡ length (map hex (s .strings)) = sym (A .steady .holds .strs-count) ∙ ap (λ (u : State). length (u .strings)) is in
-          let strings : strsOf t l₂ ≡ map hex (s .strings) ++ map hex ss =
-          ap (λ (u : State). u .strings) state-is ∙ ap (map hex) (entries-strings es (withStrings s ss)) ∙ map-append hex (s .strings) ss in
-          record {
-            strings = ss;
-            entries = es;
-            reads = pair-fronted s t at h₁ h₂ (D .reads) read (sym (stood T));
-            lines = read;
-            many = K .said .1;
-            small = D .small;
-            few = strings-few (A .steady .holds);
-            spelt = rw (count, strings) (drop-append-seam (map hex (s .strings)) (map hex ss));
-            state = state-is;
-            due =
-                ap (λ (g : Said). g .due) says
-                ∙ rw (ap (λ (g : Said). g .due) (D .says), A .steady .between .none, strung-state) (ap (map unsized) (dues-hexed (withStrings s ss) spelt₁ es));
-            chunks = ap (λ (g : Said). g .chunks) says ∙ ap (λ (g : Said). g .chunks) (D .says);
-            holds = H;
-            sound = sound;
-            low = rw log (entries-low es (withStrings s ss) kept low);
-            listed = rw flds (entries-listed es (withStrings s ss) kept listed);
-            past = rw (log, block) (front-past s ss es past);
-            inside = K .inside;
-          }
+        pub fronted : AllStand l₂ (getD l 2 0) true → Sound (said t l₂) → Fronted t l s at m e₂ e₃ l₂
+        unfolding hexed afterFront withStrings addStrings
+        fronted T sound =
+            let K = entries-kept m (withStrings s ss) .at t e₂ es e₃ (A .bytes) in₂ read in
+            let kept = K .said .2 in
+            let log : logOf l₂ ≡ afterFront s ss es .log = ap (λ (u : State). u .log) state-is in
+            let flds : fldsOf l₂ ≡ afterFront s ss es .fields = ap (λ (u : State). u .fields) state-is in
+            let block : getD l₂ 6 0 ≡ s .block = ap (λ (u : State). u .block) state-is ∙ front-block s ss es in
+            let low : Low 0 (s .log) = subst (λ (u : State). Low 0 (u .log)) is (A .steady .low) in
+            let listed : Listed (s .fields) = subst (λ (u : State). Listed (u .fields)) is (A .steady .listed) in
+            let past : Keys blockOfRange (s .block) (s .log) = subst (λ (u : State). Keys blockOfRange (u .block) (u .log)) is (A .steady .between .past) in
+            let count : getD l 0 0 ≡ length (map hex (s .strings)) = sym (A .steady .holds .strs-count) ∙ ap (λ (u : State). length (u .strings)) is in
+            let strings : strsOf t l₂ ≡ map hex (s .strings) ++ map hex ss =
+            ap (λ (u : State). u .strings) state-is ∙ ap (map hex) (entries-strings es (withStrings s ss)) ∙ map-append hex (s .strings) ss in
+            record {
+              strings = ss;
+              entries = es;
+              reads = pair-fronted s t at h₁ h₂ (D .reads) read (sym (stood T));
+              lines = read;
+              many = K .said .1;
+              small = D .small;
+              few = strings-few (A .steady .holds);
+              spelt = rw (count, strings) (drop-append-seam (map hex (s .strings)) (map hex ss));
+              state = state-is;
+              due =
+                  ap (λ (g : Said). g .due) says
+                  ∙ rw (ap (λ (g : Said). g .due) (D .says), A .steady .between .none, strung-state) (ap (map unsized) (dues-hexed (withStrings s ss) spelt₁ es));
+              chunks = ap (λ (g : Said). g .chunks) says ∙ ap (λ (g : Said). g .chunks) (D .says);
+              holds = H;
+              sound = sound;
+              low = rw log (entries-low es (withStrings s ss) kept low);
+              listed = rw flds (entries-listed es (withStrings s ss) kept listed);
+              past = rw (log, block) (front-past s ss es past);
+              begins = A .inside;
+              inside = K .inside;
+            }

@@ -18,7 +18,7 @@ unfoldable pub regionText : State → List (List ℕ) → List Entry → Reader 
 regionText s strings entries = each (λ (u : Unit {0}). chunkText (afterFront s strings entries)) (λ u c. u) (dues (withStrings s strings) entries) tt
 
 -- the pair, when its front was read
-pub withValues : State → List (List ℕ) → List Entry → Reader Pair
+unfoldable pub withValues : State → List (List ℕ) → List Entry → Reader Pair
 withValues s strings entries t at = andThen (regionText s strings entries t at) (λ cs q. got (record { strings = strings; entries = entries; chunks = cs }) q)
 
 -- ── a pair, by what each of its readings gives ──

@@ -4,3 +4,6 @@ pub mod Fronts
 pub mod FrontLaws
 pub mod Pairs
 pub mod Call
+pub mod PairLaws
+pub mod FrontTold
+pub mod Puts

@@ -97,6 +97,12 @@ not-short l e h = rw (lt-leb (length (encode l)) mostBytes h)
 
 -- ── the loop ──
 
+-- what the walk over a text asks: bytes, and a table that knows nothing yet
+pub record TextReady (t l : List ℕ) : Type 0 where
+  pub steady : Steady t l
+  pub bytes : Bytes t
+  pub none : view t l ≡ nothing
+
 -- at most `left` pairs are to come from place `from`; those before stand in m
 pub record PairsGoing (t l₀ : List ℕ) (out : List ℕ) (at : ℕ) (l : List ℕ) (left : ℕ) (m : List ℕ) (from behind : ℕ) : Type 0 where
   pub done : Ledger
@@ -128,16 +134,17 @@ alone : {A : Type 0} (o : Out (List A)) → o ≡ andThen o (λ more q. got ([] 
 alone (got a e) = refl
 alone (no n p) = refl
 
-pub pairs-begin : {t l : List ℕ} → Steady t l → view t l ≡ nothing → getD l 6 0 ≡ 0 → (out : List ℕ) (at : ℕ) → length out ≤ most → at ≤ most → PairsGoing t l out at l 32 out 0 at
-unfolding scan putPairs fold
-pairs-begin {t} S is block out at h k =
+pub pairs-begin : {t l : List ℕ} → TextReady t l → (out : List ℕ) (at : ℕ) → length out ≤ most → at ≤ most → PairsGoing t l out at l 32 out 0 at
+unfolding scan putPairs fold nothing
+pairs-begin {t} {l} R out at h k =
+    let block : getD l 6 0 ≡ 0 = ap (λ (u : State). u .block) (R .none) in
     record {
       done = [];
       reads = alone (toEnd 32 bad pairText afterPair nothing t 0);
       laid = laid-none h k;
-      steady = S;
+      steady = R .steady;
       spelt = spelt-nothing;
-      says = is ∙ sym nothing-hexed;
+      says = R .none ∙ sym nothing-hexed;
       inside = omega arith;
       block = omega arith;
       long = refl;
@@ -175,7 +182,7 @@ module _ {t l₀ out : List ℕ} {at : ℕ} {l : List ℕ} {left : ℕ} {m : Lis
           go (suc n) p = omega arith
 
       pub pair-asks : Bytes t → PairAsks t l from
-      pair-asks bytes = record { steady = G .steady; bytes = bytes; inside = G .inside; block = omega (arith, G .block, some-left) }
+      pair-asks bytes = record { state = s; spelt = G .spelt; says = G .says; steady = G .steady; bytes = bytes; inside = G .inside; block = omega (arith, G .block, some-left) }
 
       turn :
           scan t

@@ -21,18 +21,18 @@ module _
     (same : (s : State) → Spelt s → (at : ℕ) → read (hexed s) t at ≡ read s t at)
     (goes : (s : State) → Spelt s → (a : A) → after (hexed s) a ≡ hexed (after s a))
     (spelt : (s : State) → Spelt s → (a : A) → Spelt (after s a))
-    where
-  times-hexed : (n : ℕ) (s : State) → Spelt s → (at : ℕ) → times n read after (hexed s) t at ≡ times n read after s t at
-  unfolding times each give _>>=_
-  times-hexed zero s S at = refl
-  times-hexed (suc n) s S at = rw (same s S at) (go (times-hexed n) (read s t at))
-    where
-      go :
-          ((u : State) → Spelt u → (e : ℕ) → times n read after (hexed u) t e ≡ times n read after u t e) → (o : Out A)
-          → andThen o (λ a e. andThen (times n read after (after (hexed s) a) t e) (λ more q. got (a ∷ more) q))
-          ≡ andThen o (λ a e. andThen (times n read after (after s a) t e) (λ more q. got (a ∷ more) q))
-      go again (got a e) = rw (goes s S a, again (after s a) (spelt s S a) e) refl
-      go again (no k p) = refl
+  where
+    times-hexed : (n : ℕ) (s : State) → Spelt s → (at : ℕ) → times n read after (hexed s) t at ≡ times n read after s t at
+    unfolding times each give _>>=_
+    times-hexed zero s S at = refl
+    times-hexed (suc n) s S at = rw (same s S at) (go (times-hexed n) (read s t at))
+      where
+        go :
+            ((u : State) → Spelt u → (e : ℕ) → times n read after (hexed u) t e ≡ times n read after u t e) → (o : Out A)
+            → andThen o (λ a e. andThen (times n read after (after (hexed s) a) t e) (λ more q. got (a ∷ more) q))
+            ≡ andThen o (λ a e. andThen (times n read after (after s a) t e) (λ more q. got (a ∷ more) q))
+        go again (got a e) = rw (goes s S a, again (after s a) (spelt s S a) e) refl
+        go again (no k p) = refl
 
 -- ── entries ──
 

@@ -61,6 +61,11 @@ module _ {A : Type 0} {a : Answer (List A)} {out : List A} where
   unfolding answerOf howMany leftIn
   wrote-all is count stands = record { says = rw (is, count); left = rw is stands }
 
+-- no room, lent and given back
+pub nothing-lent : {A : Type 0} (m out : List A) → length m ≡ 0 → m ++ drop 0 out ≡ out
+nothing-lent [] out h = refl
+nothing-lent (x ∷ m) out h = absurd (omega arith)
+
 -- ── a file that was read, with a table that is long enough ──
 
 -- the objects of the type with this name

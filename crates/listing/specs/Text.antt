@@ -76,11 +76,6 @@ module _ (f : List ℕ) {l : List ℕ} (B : Begun l) where
 
 -- ── counted, and then written ──
 
--- no room, lent and given back
-pub nothing-lent : (m out : List ℕ) → length m ≡ 0 → m ++ drop 0 out ≡ out
-nothing-lent [] out h = refl
-nothing-lent (x ∷ m) out h = absurd (omega arith)
-
 module _ {f out out₁ : List ℕ} (same : out₁ ≡ out) {m₀ : List ℕ} {n : ℕ} (C : FilePrinted f [] m₀ n) (small : length out < 2 ^ 63) where
   pub text-no-room : length out₁ < n → TextWritten f out (Refused 19) out₁
   unfolding fitted need _>>_ _>>=_ most

@@ -102,7 +102,7 @@ module _ {f l₀ l : List ℕ} {named : ℕ → Bool} {at₀ all rest last at : 
 -- ── the front ──
 
 -- strings are no matter of types, fields or chunks
-strings-sound : {s : Said} (strings : List (List ℕ)) → Sound s → Sound (addStrings s strings)
+pub strings-sound : {s : Said} (strings : List (List ℕ)) → Sound s → Sound (addStrings s strings)
 unfolding addStrings withStrings Rattle.paper.specs.Rules.entered? Rattle.paper.specs.Ledger.fieldAt
 strings-sound {s} strings k =
     record {

@@ -1,5 +1,6 @@
 use native.Mathlib.Omega.{arith}
-use Rattle.listing.specs.Text.{nothing-lent, text-no-room, text-written}
+use Rattle.calls.specs.Told.{nothing-lent}
+use Rattle.listing.specs.Text.{text-no-room, text-written}
 use borrow.Author.Needs.{needs}
 use Rattle.listing.proofs.write_text.Statement.{statement}
 use Rattle.listing.proofs.write_text.Tie as tie

@@ -1,0 +1,221 @@
+-- The ways out of building a pair, on plain values: its front was read, and its values are sized, and laid. Assumes nothing.
+use mathlib.Core.Path.{_≡_, refl, sym, ap, _∙_, subst}
+use mathlib.Core.Bool.{Bool, true, false}
+use mathlib.Core.List.{List, [], _∷_, _++_, map, append-assoc, append-nil}
+use Prim.Native.Nat.{ℕ, zero, suc, _+_, _-_, _^_, _≤_, _<_, min}
+use native.Mathlib.Omega.{arith}
+use lib.ListN.{length, getD, drop, length-append, length-map}
+use Rattle.paper.specs.Reader.{Reader, Out, got, no, andThen, each, times}
+use Rattle.paper.specs.Bounds.{mostBytes}
+use Rattle.paper.specs.Numbers.{put}
+use Rattle.paper.specs.Lists.{flat, all}
+use Rattle.paper.specs.Ledger.{Entry, Chunk, Pair, Due, State}
+use Rattle.paper.specs.Rules.{withStrings, afterEntry, dues, closed, afterFront, afterPair}
+use Rattle.paper.specs.Listing.{hex}
+use Rattle.paper.specs.Encode.{endsFrom, putStrings, putEntries, putChunks, putFront, putPair, zip}
+use Rattle.paper.specs.Keeps.{bytes?}
+use Rattle.paper.specs.Scan.{entryText, chunkText, pairText}
+use Rattle.lay.specs.Laid.{most, Laid, laid-then, laid-as}
+use Rattle.laws.specs.Says.{Bytes}
+use Rattle.laws.specs.Built.{pair-kept}
+use Rattle.laws.specs.Hexed.{hexed, Spelt, each-back, closed-hexed, spelt-front, spelt-closed}
+use Rattle.table.specs.View.{view, said, Said, strsOf, fldsOf, logOf, duesOf, chunksOf, Holds, Now}
+use Rattle.table.specs.Counts.{nextBlock, Next}
+use Rattle.reader.specs.Sound.{Sound}
+use Rattle.walk.specs.Region.{sizes}
+use Rattle.walk.specs.Blocks.{Between, closes, front-block}
+use Rattle.walk.specs.PairLaws.{Steady}
+use Rattle.judge.specs.Fields.{unsized}
+use Rattle.texts.specs.Told.{Told, takes, refuses, Lays, was-got, was-bad}
+use Rattle.texts.specs.declared.Taken.{Taken}
+use Rattle.texts.specs.declared.TextRead.{TextRead}
+use Rattle.texts.specs.declared.TextRead.the-variants.{Got, Bad}
+use Rattle.fronts.specs.Ends.{sum, endsOf, ends-of}
+use Rattle.regions.specs.Sizes.{counted}
+use Rattle.regions.specs.Chunks.{chunksText}
+use Rattle.regions.specs.Turns.{whatDue, RegionReady, RegionSized, Sized, regionBytes, RegionTold}
+use Rattle.regions.specs.After.{same-view, same-dues, still-ready, sized-length, told-before}
+use Rattle.words.specs.declared.read.Place.{Place}
+use Rattle.words.specs.declared.read.Step.{Step}
+use Rattle.words.specs.declared.read.Step.the-variants as step
+use Rattle.build.specs.Spelling.{chunkText-hexed, putChunks-hexed}
+use Rattle.build.specs.Fronts.{regionText, withValues}
+use Rattle.build.specs.FrontLaws.{PairAsks, Fronted}
+use Rattle.build.specs.Pairs.{Refused, wrong, tooLong, Built}
+
+what-unsized : (ds : List Due) → map (λ (d : Due × ℕ). d .0) (map unsized ds) ≡ ds
+unfolding unsized
+what-unsized [] = refl
+what-unsized (d ∷ ds) = ap (λ (r : List Due). d ∷ r) (what-unsized ds)
+
+-- pieces that are counted to less than the most are counted whole
+counted-whole : (ds : List Due) (bs : List (List ℕ)) → length bs ≡ length ds → sizes (zip ds (map counted bs)) < most → map (λ (d : Due × ℕ). d .1) (zip ds (map counted bs)) ≡ map length bs
+unfolding sizes zip
+counted-whole [] [] h lt = refl
+counted-whole [] (b ∷ bs) h lt = absurd (omega arith)
+counted-whole (d ∷ ds) [] h lt = absurd (omega arith)
+counted-whole (d ∷ ds) (b ∷ bs) h lt =
+    let one : min (length b) most ≡ length b = omega arith in
+    rw one (ap (λ (r : List ℕ). length b ∷ r) (counted-whole ds bs (omega arith) (omega arith)))
+
+sums : (ds : List (Due × ℕ)) → sum (map (λ (d : Due × ℕ). d .1) ds) ≡ sizes ds
+unfolding sum sizes
+sums [] = refl
+sums (d ∷ ds) = ap (λ (n : ℕ). d .1 + n) (sums ds)
+
+put-count : (s : State) (ds : List Due) (cs : List Chunk) → length cs ≡ length ds → length (putChunks s ds cs) ≡ length ds
+unfolding putChunks
+put-count s [] cs h = refl
+put-count s (d ∷ ds) [] h = absurd (omega arith)
+put-count s (d ∷ ds) (c ∷ cs) h = omega (arith, put-count s ds cs (omega arith))
+
+module _ {t l : List ℕ} {at : ℕ} {s : State} (S : Spelt s) {m from to : ℕ} {l₁ : List ℕ} (F : Fronted t l s at m from to l₁) where
+  abbrev ss : List (List ℕ)
+  ss = F .strings
+
+  abbrev es : List Entry
+  es = F .entries
+
+  abbrev s₂ : State
+  s₂ = afterFront s ss es
+
+  abbrev ds : List Due
+  ds = dues (withStrings s ss) es
+
+  pub region-ready : RegionReady t l₁
+  region-ready = record { holds = F .holds; sound = F .sound; low = F .low; listed = F .listed }
+
+  dues-what : whatDue l₁ ≡ ds
+  dues-what = ap (map (λ (d : Due × ℕ). d .0)) (F .due) ∙ what-unsized ds
+
+  region-as : (e : ℕ) → chunksText (view t l₁) (whatDue l₁) t e ≡ regionText s ss es t e
+  unfolding chunksText regionText
+  region-as e = rw (dues-what, F .state, chunkText-hexed s₂) refl
+
+  bytes-as : (cs : List Chunk) → putChunks (view t l₁) (whatDue l₁) cs ≡ putChunks s₂ ds cs
+  bytes-as cs = rw (dues-what, F .state) (putChunks-hexed s₂ ds cs)
+
+  pub built-bad : {r : Step} {l₂ : List ℕ} → RegionSized t l₁ to r l₂ → r ≡ step.Bad → Refused s t at
+  unfolding withValues
+  built-bad R is = wrong (F .reads ∙ rw (sym (region-as to) ∙ R .refused is))
+
+  module _ {r : Step} {l₂ : List ℕ} (R : RegionSized t l₁ to r l₂) {next : Place} (is : r ≡ step.To next) where
+    pub sized : Sized t l₁ to (next .at) l₂
+    sized = R .sized next is
+
+    abbrev cs : List Chunk
+    cs = sized .chunks
+
+    pub pair : Pair
+    pair = record { strings = ss; entries = es; chunks = cs }
+
+    pub reads : pairText s t at ≡ got pair (next .at)
+    unfolding withValues pair
+    reads = F .reads ∙ rw (sym (region-as to) ∙ sized .reads)
+
+    pub pair-inside : Bytes t → next .at ≤ length t
+    pair-inside b = pair-kept s .at t at pair (next .at) b (F .begins) reads .inside
+
+    abbrev bs : List (List ℕ)
+    bs = putChunks s₂ ds cs
+
+    pair-is : putPair s pair ≡ putFront s ss es (endsFrom 0 bs) ++ flat (λ b. b) bs
+    unfolding putPair pair
+    pair-is = refl
+
+    region-length : min (sizes (duesOf l₂)) most ≡ min (length (flat (λ b. b) bs)) most
+    region-length = sized-length sized ∙ ap (λ (x : List (List ℕ)). min (length (flat (λ b. b) x)) most) (bytes-as cs)
+
+    pub built-long : {n : ℕ} → n ≡ min (sizes (duesOf l₂)) most → 1048576 < n → Refused s t at
+    unfolding most
+    built-long {n} size h =
+        tooLong pair (next .at) reads
+        (rw (pair-is, length-append (putFront s ss es (endsFrom 0 bs)) (flat (λ b. b) bs)) (omega (arith, region-length)))
+
+    module _ {n : ℕ} (size : n ≡ min (sizes (duesOf l₂)) most) (le : n ≤ 1048576) where
+      small : sizes (duesOf l₂) ≤ 1048576
+      unfolding most
+      small = omega arith
+
+      many : length cs ≡ length ds
+      many = sized .count ∙ ap length dues-what
+
+      dues-are : duesOf l₂ ≡ zip ds (map counted bs)
+      dues-are = ap (λ (g : Said). g .due) (sized .now .says) ∙ rw (bytes-as cs, dues-what) refl
+
+      sizes-are : map (λ (d : Due × ℕ). d .1) (duesOf l₂) ≡ map length bs
+      unfolding most
+      sizes-are = rw dues-are (counted-whole ds bs (put-count s₂ ds cs many) (omega (arith, small, ap sizes dues-are)))
+
+      pub sum-small : sum (map (λ (d : Due × ℕ). d .1) (duesOf l₂)) < 2 ^ 64
+      sum-small = rw (sums (duesOf l₂)) (omega (arith, small))
+
+      pub as-many : length (duesOf l₂) ≡ length ds
+      as-many = sym (length-map (duesOf l₂) (λ (d : Due × ℕ). d .0)) ∙ ap length (same-dues sized ∙ dues-what)
+
+      -- strings, the number of entries, and the entries
+      pub front-laid :
+          {out o : List ℕ} {p r : ℕ} → Laid out p (putStrings ss ++ put m ++ putEntries (withStrings s ss) es (endsOf 0 (map (λ (d : Due × ℕ). d .1) (duesOf l₂)))) o r
+          → Laid out p (putFront s ss es (endsFrom 0 bs)) o r
+      unfolding putFront
+      front-laid a = laid-as a (rw (F .many, sizes-are, ends-of 0 bs) refl)
+
+      -- the values, laid behind them
+      pub pair-laid :
+          {out o₁ o₂ : List ℕ} {p p₁ p₂ : ℕ} → Laid out p (putFront s ss es (endsFrom 0 bs)) o₁ p₁ → Laid o₁ p₁ (flat (λ b. b) bs) o₂ p₂ → Laid out p (putPair s pair) o₂ p₂
+      pair-laid a b = laid-as (laid-then a b) (sym pair-is)
+
+      -- by the code that lays them
+      pub region-laid : {o₁ o₂ : List ℕ} {p₁ : ℕ} {a : TextRead} {k : Taken} → RegionTold t l₂ to o₁ p₁ o₂ a → a ≡ Got k → Laid o₁ p₁ (flat (λ b. b) bs) o₂ (k .at)
+      region-laid T q =
+          let L = was-got (told-before sized T) q in
+          let same : L .value ≡ cs = cc (sym (L .reads) ∙ sized .reads) in
+          laid-as (L .laid) (ap (λ (x : List Chunk). regionBytes (view t l₁) (whatDue l₁) x) same ∙ ap (flat (λ b. b)) (bytes-as cs))
+
+      pub region-laid-not : {o₁ o₂ : List ℕ} {p₁ : ℕ} {a : TextRead} → RegionTold t l₂ to o₁ p₁ o₂ a → a ≡ Bad → ⊥
+      region-laid-not T q = let z : no 20 0 ≡ got cs (next .at) = sym (was-bad (told-before sized T) q) ∙ sized .reads in let y : _≡_ {A = ℕ} 0 1 = cc z in absurd (omega arith)
+
+      -- lent no room, they are counted by their sizes
+      pub region-counted : (o₁ : List ℕ) → length o₁ ≡ 0 → {p₁ r : ℕ} → r ≡ min (p₁ + n) most → Laid o₁ p₁ (flat (λ b. b) bs) o₁ r
+      unfolding most
+      region-counted [] none {p₁} {r} is =
+          record { bytes = sym (Rattle.lay.specs.Laid.sets-out (flat (λ b. b) bs) [] p₁ (omega arith)); next = is ∙ omega (arith, region-length); room = omega arith }
+      region-counted (x ∷ o₁) none is = absurd (omega arith)
+
+      -- ── the block ends ──
+
+      module _ {l₃ : List ℕ} (N : Next l₂ l₃) where
+        closing : said t l₃ ≡ nextBlock (record { state = view t l₁; due = duesOf l₁; chunks = chunksOf l₁ ++ [] })
+        unfolding nextBlock
+        closing =
+            N .says t (sized .now .holds) .says
+            ∙ ap (λ (g : Said). nextBlock g) (sized .now .says)
+            ∙ rw (append-nil (chunksOf l₁)) refl
+
+        pub pair-steady : Steady t l₃
+        unfolding nextBlock closed
+        pair-steady =
+            record {
+              holds = N .says t (sized .now .holds) .holds;
+              between = rw closing (closes (F .sound) (F .past) [] (omega arith));
+              low = subst (λ (g : Said). Rattle.walk.specs.Low.Low 0 (g .state .log)) (sym closing) (F .low);
+              listed = subst (λ (g : Said). Rattle.walk.specs.Listed.Listed (g .state .fields)) (sym closing) (F .listed);
+            }
+
+        pub pair-built :
+            {out o : List ℕ} {p : ℕ} {k : Taken} → k .next ≡ next → next .at ≤ length t → view t l ≡ hexed s → Laid out p (putPair s pair) o (k .at)
+            → Built s t l at out p o k l₃
+        unfolding nextBlock afterPair pair hexed closed
+        pair-built {k = k} same inside before L =
+            let state : view t l₃ ≡ hexed (closed s₂) = ap (λ (g : Said). g .state) closing ∙ ap closed (F .state) ∙ closed-hexed s₂ in
+            record {
+              pair = pair;
+              reads = rw same reads;
+              laid = L;
+              inside = rw same inside;
+              steady = pair-steady;
+              spelt = spelt-closed s₂ (spelt-front s S ss (each-back ss (F .small)) es);
+              says = state;
+              block =
+                  ap (λ (u : State). u .block) state ∙ ap (λ (x : ℕ). x + 1) (front-block s ss es ∙ sym (ap (λ (u : State). u .block) before));
+            }
