@@ -84,7 +84,7 @@ unfolding cleared if_then_else_
 cleared-short work h = rw (lt-leb tableLength (length work) h)
 
 -- a long one stays long
-cleared-length : (work : List ℕ) → tableLength ≤ length work → tableLength ≤ length (cleared work)
+pub cleared-length : (work : List ℕ) → tableLength ≤ length work → tableLength ≤ length (cleared work)
 cleared-length work h = rw (cleared-long work h, length-append (replicate {A = ℕ} tableLength 0) (drop tableLength work), length-replicate {A = ℕ} tableLength 0) (omega arith)
 
 -- so the work table is left after any call

@@ -102,9 +102,11 @@ same-written :
     → after q v p ≡ writes a work′ out′ → (r ≡ q) × ((n : ℕ) → r ≡ Done n → take n o ≡ take n p)
 same-written {A} (done vs) work work′ out out′ r q {w} {v} {o} {p} c d =
     let (x, y) = written (done vs) work out r c vs refl in
-    let (x′, y′) = written (done vs) work′ out′ q d vs refl in
-    (x ∙ sym x′, λ n is. let z : Done n ≡ Done (length vs) = sym is ∙ x in let e : n ≡ length vs = cc z in
-        rw e (ap (take (length vs)) y ∙ take-front vs (drop (length vs) out) ∙ sym (take-front vs (drop (length vs) out′)) ∙ ap (take (length vs)) (sym y′)))
+    let (x′, y′) = written (done vs) work′ out′ q d vs refl in (
+      x ∙ sym x′,
+      λ n is. let z : Done n ≡ Done (length vs) = sym is ∙ x in let e : n ≡ length vs = cc z in
+          rw e (ap (take (length vs)) y ∙ take-front vs (drop (length vs) out) ∙ sym (take-front vs (drop (length vs) out′)) ∙ ap (take (length vs)) (sym y′)),
+    )
 same-written {A} (refused m) work work′ out out′ r q c d =
     let (x, _) = unwritten (refused m) work out r c m refl in
     let (x′, _) = unwritten (refused m) work′ out′ q d m refl in
@@ -127,9 +129,9 @@ isolated f g type field k work work′ out out′ {r} {q} {w} {v} {o} {p} h h′
     let C = follows-check f l F (length work) h in
     let D = follows-check g m G (length work) h in
     let A : column type field k (length out) (length work) f ≡ column type field k (length out) (length work) g =
-        column-alike i type field k (length out) (length work) f g long C D (λ at _ x. off at x) not-it in
+    column-alike i type field k (length out) (length work) f g long C D (λ at _ x. off at x) not-it in
     let B : column type field k (length out) (length work) g ≡ column type field k (length out′) (length work′) g =
-        column-table g m type field k (length out) (length work) (length work′) G h h′ ∙ ap (λ (n : ℕ). column type field k n (length work′) g) room in
+    column-table g m type field k (length out) (length work) (length work′) G h h′ ∙ ap (λ (n : ℕ). column type field k n (length work′) g) room in
     same-written _ work work′ out out′ r q c (d ∙ ap (λ (a : Answer (List ℤ)). writes a work′ out′) (sym (A ∙ B)))
   where
     not-it : (l′ : Ledger) (t′ : ℕ) → read (length work) f ≡ done l′ → typeNamed (known l′) type ≡ some t′ → fieldNamed (known l′) t′ field ≡ some i → ⊥

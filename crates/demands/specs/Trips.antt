@@ -5,22 +5,26 @@ use mathlib.Core.Logic.{_↔_}
 use mathlib.Core.List.{List, [], _∷_, _++_}
 use Prim.Native.Nat.{ℕ, _≤_, _<_}
 use native.Mathlib.Omega.{arith}
-use lib.ListN.{length, take, drop}
+use lib.ListN.{length, take, drop, length-append}
 use Rattle.paper.specs.Bounds.{tableLength}
 use Rattle.paper.specs.Ledger.{Ledger}
 use Rattle.paper.specs.Listing.{print}
-use Rattle.paper.specs.Calls.{Answer, done, refused, listing, build, afterListing, afterBuild}
+use Rattle.paper.specs.Calls.{Answer, done, refused, listing, build, Left, cleared, writes, afterListing, afterBuild}
 use Rattle.laws.specs.Says.{Bytes}
 use Rattle.laws.specs.Promises.{accepted-exactly, listing-inv, listing-done, build-listing, listing-build, build-refuses}
 use Rattle.calls.specs.Told.{answerOf, after}
 use Rattle.calls.specs.declared.replies.Reply.{Reply}
 use Rattle.calls.specs.declared.replies.Reply.the-variants.{Done, Refused}
 use Rattle.demands.specs.Replies.{written, unwritten, was-done, was-refused, take-front}
+use Rattle.demands.specs.Answers.{cleared-length}
 use Rattle.demands.specs.Exact.{Follows}
 
 -- the first n numbers of what was written are what was answered
 front-is : {A : Type 0} (n : ℕ) (vs o out : List A) → n ≡ length vs → o ≡ vs ++ drop n out → take n o ≡ vs
 front-is n vs o out count is = rw is (rw (sym count) at (take-front vs (drop n out)))
+
+front-fits : {A : Type 0} (n : ℕ) (vs o out : List A) → n ≡ length vs → o ≡ vs ++ drop n out → n ≤ length o
+front-fits n vs o out count is = rw (is, length-append vs (drop n out)) (omega arith)
 
 -- the listing of an accepted file
 pub listing-exactly :
@@ -29,6 +33,16 @@ pub listing-exactly :
 unfolding afterListing
 listing-exactly f l work out {r} h fits c F =
     written _ work out r c (print l) (listing-done (length out) (length work) f l h fits (accepted-exactly f l .1 (F .keeps, F .encoded)))
+
+-- the file with a given listing
+pub build-exactly :
+    (f : List ℕ) (l : Ledger) (work out : List ℕ) {r : Reply} {w o : List ℕ} → tableLength ≤ length work → length f ≤ length out
+    → after r w o ≡ afterBuild (print l) work out → Follows f l → (r ≡ Done (length f)) × (o ≡ f ++ drop (length f) out)
+unfolding afterBuild
+build-exactly f l work out {r} h fits c F =
+    let A = accepted-exactly f l .1 (F .keeps, F .encoded) in
+    let L = listing-done (length (print l)) (length work) f l h (omega arith) A in
+    written _ work out r c f (build-listing (length (print l)) (length work) (length out) (length work) f (print l) (A .bytes) L h fits)
 
 -- given room, building from an accepted file's listing gives that file again
 pub built-again :
@@ -75,3 +89,43 @@ refused-exactly t work out {r} b h c = (there, here)
     here n =
         unwritten _ work out r c 20
         (R .1 (λ f room x q. let (l, A, e) = listing-inv room (length work) f t x q in let K = accepted-exactly f l .0 A in n f l (record { keeps = K .0; encoded = K .1 }) e)) .0
+
+-- ── one call behind the other, with one work table ──
+
+-- a reply to a build from the listing of f that `text` has room for: f again
+abbrev pub BuiltAgain : List ℕ → List ℕ → List ℕ → Reply → List ℕ → Type 0
+BuiltAgain f text out r o = (l : Ledger) → Follows f l → length (print l) ≤ length text → length f ≤ length out → (r ≡ Done (length f)) × (o ≡ f ++ drop (length f) out)
+
+-- a reply to a listing of the file that t was built to, where `file` has room for it: t again
+abbrev pub ListedAgain : List ℕ → List ℕ → List ℕ → Reply → List ℕ → Type 0
+ListedAgain t file out r o =
+    (f : List ℕ) (l : Ledger) → Follows f l → print l ≡ t → length f ≤ length file → length t ≤ length out → (r ≡ Done (length t)) × (o ≡ t ++ drop (length t) out)
+
+not-refused : {B : Type 0} (n m : ℕ) → Refused n ≡ Done m → B
+not-refused n m q = let z : _≡_ {A = ℕ} 0 1 = cc q in absurd (omega arith)
+
+module _ (f work text : List ℕ) {w o : List ℕ} where
+  pub listing-work : (r : Reply) → after r w o ≡ afterListing f work text → tableLength ≤ length work → tableLength ≤ length w
+  unfolding afterListing writes
+  listing-work r c h = let z : w ≡ cleared work = ap (λ (x : Left ℕ). x .table) c in rw z (cleared-length work h)
+
+  pub listing-room : (n : ℕ) → after (Done n) w o ≡ afterListing f work text → n ≤ length o
+  unfolding afterListing
+  listing-room n c = let (t, _, count, is) = was-done _ work text (Done n) c n refl in front-fits n t o text count is
+
+  pub listed-none : (n : ℕ) (out : List ℕ) → after (Refused n) w o ≡ afterListing f work text → tableLength ≤ length work → BuiltAgain f text out (Refused n) out
+  listed-none n out c h l F fits _ = not-refused n _ (listing-exactly f l work text h fits c F .0)
+
+module _ (t work file : List ℕ) {w o : List ℕ} where
+  pub build-work : (r : Reply) → after r w o ≡ afterBuild t work file → tableLength ≤ length work → tableLength ≤ length w
+  unfolding afterBuild writes
+  build-work r c h = let z : w ≡ cleared work = ap (λ (x : Left ℕ). x .table) c in rw z (cleared-length work h)
+
+  pub build-room : (n : ℕ) → after (Done n) w o ≡ afterBuild t work file → n ≤ length o
+  unfolding afterBuild
+  build-room n c = let (f, _, count, is) = was-done _ work file (Done n) c n refl in front-fits n f o file count is
+
+  pub built-none : (n : ℕ) (out : List ℕ) → after (Refused n) w o ≡ afterBuild t work file → tableLength ≤ length work → ListedAgain t file out (Refused n) out
+  built-none n out c h f l F is fits _ =
+      let c′ : after (Refused n) w o ≡ afterBuild (print l) work file = rw is c in
+      not-refused n _ (build-exactly f l work file h fits c′ F .0)
