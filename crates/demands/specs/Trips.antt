@@ -1,5 +1,5 @@
 -- Demand 2, the round trips: from a file to its listing and back, and from a listing to its file and back. Assumes nothing.
-use mathlib.Core.Path.{_≡_, refl, sym, ap, _∙_}
+use mathlib.Core.Path.{_≡_, refl, sym, ap, _∙_, subst}
 use mathlib.Core.Bool.{Bool, true, false}
 use mathlib.Core.Logic.{_↔_}
 use mathlib.Core.List.{List, [], _∷_, _++_}
@@ -104,28 +104,34 @@ ListedAgain t file out r o =
 not-refused : {B : Type 0} (n m : ℕ) → Refused n ≡ Done m → B
 not-refused n m q = let z : _≡_ {A = ℕ} 0 1 = cc q in absurd (omega arith)
 
-module _ (f work text : List ℕ) {w o : List ℕ} where
-  pub listing-work : (r : Reply) → after r w o ≡ afterListing f work text → tableLength ≤ length work → tableLength ≤ length w
-  unfolding afterListing writes
-  listing-work r c h = let z : w ≡ cleared work = ap (λ (x : Left ℕ). x .table) c in rw z (cleared-length work h)
-
-  pub listing-room : (n : ℕ) → after (Done n) w o ≡ afterListing f work text → n ≤ length o
+-- the listing was written, or not
+module _ (f work text : List ℕ) {a : Reply} {w o : List ℕ} (c : after a w o ≡ afterListing f work text) where
+  pub listing-room : {n : ℕ} → a ≡ Done n → n ≤ length o
   unfolding afterListing
-  listing-room n c = let (t, _, count, is) = was-done _ work text (Done n) c n refl in front-fits n t o text count is
+  listing-room {n} is = let (t, _, count, left) = was-done _ work text a c n is in front-fits n t o text count left
 
-  pub listed-none : (n : ℕ) (out : List ℕ) → after (Refused n) w o ≡ afterListing f work text → tableLength ≤ length work → BuiltAgain f text out (Refused n) out
-  listed-none n out c h l F fits _ = not-refused n _ (listing-exactly f l work text h fits c F .0)
+  pub listed-built : {n : ℕ} → a ≡ Done n → (out : List ℕ) {q : Reply} {v p : List ℕ} → after q v p ≡ afterBuild (take n o) w out → tableLength ≤ length work → BuiltAgain f text out q p
+  unfolding afterListing writes
+  listed-built {n} is out d h l F _ fits =
+      let z : w ≡ cleared work = ap (λ (x : Left ℕ). x .table) c in
+      built-again f work text w out n (accepted-exactly f l .1 (F .keeps, F .encoded) .bytes) (subst (λ (x : Reply). after x w o ≡ afterListing f work text) is c) d (rw z (cleared-length work h)) fits
 
-module _ (t work file : List ℕ) {w o : List ℕ} where
-  pub build-work : (r : Reply) → after r w o ≡ afterBuild t work file → tableLength ≤ length work → tableLength ≤ length w
-  unfolding afterBuild writes
-  build-work r c h = let z : w ≡ cleared work = ap (λ (x : Left ℕ). x .table) c in rw z (cleared-length work h)
+  pub listed-none : {n : ℕ} → a ≡ Refused n → (r : Reply) (out out′ : List ℕ) → tableLength ≤ length work → BuiltAgain f text out r out′
+  listed-none {n} is r out out′ h l F fits _ = not-refused n _ (sym is ∙ listing-exactly f l work text h fits c F .0)
 
-  pub build-room : (n : ℕ) → after (Done n) w o ≡ afterBuild t work file → n ≤ length o
+-- the file was written, or not
+module _ (t work file : List ℕ) {a : Reply} {w o : List ℕ} (c : after a w o ≡ afterBuild t work file) where
+  pub build-room : {n : ℕ} → a ≡ Done n → n ≤ length o
   unfolding afterBuild
-  build-room n c = let (f, _, count, is) = was-done _ work file (Done n) c n refl in front-fits n f o file count is
+  build-room {n} is = let (f, _, count, left) = was-done _ work file a c n is in front-fits n f o file count left
 
-  pub built-none : (n : ℕ) (out : List ℕ) → after (Refused n) w o ≡ afterBuild t work file → tableLength ≤ length work → ListedAgain t file out (Refused n) out
-  built-none n out c h f l F is fits _ =
-      let c′ : after (Refused n) w o ≡ afterBuild (print l) work file = rw is c in
-      not-refused n _ (build-exactly f l work file h fits c′ F .0)
+  pub built-listed : {n : ℕ} → a ≡ Done n → Bytes t → (out : List ℕ) {q : Reply} {v p : List ℕ} → after q v p ≡ afterListing (take n o) w out → tableLength ≤ length work → ListedAgain t file out q p
+  unfolding afterBuild writes
+  built-listed {n} is b out d h f l F _ _ fits =
+      let z : w ≡ cleared work = ap (λ (x : Left ℕ). x .table) c in
+      listed-again t work file w out n b (subst (λ (x : Reply). after x w o ≡ afterBuild t work file) is c) d (rw z (cleared-length work h)) fits
+
+  pub built-none : {n : ℕ} → a ≡ Refused n → (r : Reply) (out out′ : List ℕ) → tableLength ≤ length work → ListedAgain t file out r out′
+  built-none {n} is r out out′ h f l F same fits _ =
+      let c′ : after a w o ≡ afterBuild (print l) work file = rw same c in
+      not-refused n _ (sym is ∙ build-exactly f l work file h fits c′ F .0)

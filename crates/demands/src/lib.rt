@@ -2,11 +2,14 @@
 ghost use Prim.Native.Nat.{_≤_};
 ghost use lib.ListN.{length};
 ghost use Rattle.demands.specs.Exact.{AcceptsExactly, ColumnExactly};
+ghost use Rattle.demands.specs.Trips.{BuiltAgain, ListedAgain};
 ghost use Rattle.demands.specs.Growth.{Grown};
 ghost use Rattle.demands.specs.Isolation.{Isolated};
+use build::build;
 use calls::check;
 use calls::column;
 use calls::replies::Reply;
+use listing::listing;
 
 // Demand 2: a file is accepted exactly when it follows the rules.
 pub fn accepted(file: &[u8], work: &mut [u32]) -> Reply
@@ -27,6 +30,28 @@ pub fn column_of(
     ensures { λ r. ⌜ (16384 ≤ length (now (work .entry)) → ColumnExactly (now (file .entry)) (now (owner .entry)) (now (name .entry)) k (now (out .entry)) r (now (out .exit))) ⌝ }
 {
     column(file, owner, name, k, work, out)
+}
+
+// Demand 2: building from an accepted file's listing gives that file again.
+pub fn built_again(file: &[u8], work: &mut [u32], text: &mut [u8], out: &mut [u8]) -> Reply
+    ensures { λ r. ⌜ (16384 ≤ length (now (work .entry)) → BuiltAgain (now (file .entry)) (now (text .entry)) (now (out .entry)) r (now (out .exit))) ⌝ }
+{
+    let a = listing(file, work, text);
+    match a {
+        Reply::Done(n) => build(&text[..n as usize], work, out),
+        Reply::Refused(n) => Reply::Refused(n),
+    }
+}
+
+// Demand 2: the listing of a built file is the listing it was built from.
+pub fn listed_again(text: &[u8], work: &mut [u32], file: &mut [u8], out: &mut [u8]) -> Reply
+    ensures { λ r. ⌜ (16384 ≤ length (now (work .entry)) → ListedAgain (now (text .entry)) (now (file .entry)) (now (out .entry)) r (now (out .exit))) ⌝ }
+{
+    let a = build(text, work, file);
+    match a {
+        Reply::Done(n) => listing(&file[..n as usize], work, out),
+        Reply::Refused(n) => Reply::Refused(n),
+    }
 }
 
 // The replies to one question of two files.
