@@ -1,8 +1,9 @@
-/* Tidehinge: a proved reader of SKilL ledgers, for C and C++ on x86-64.
+/* Tidehinge: a proved reader and writer of SKilL ledgers, for C and C++ on x86-64.
  *
- * Every call gets the bytes of a whole file and a work table, and uses no other memory but its
- * stack: no heap, no globals. So calls share nothing, and threads may call at the same time, each
- * with a table and an output of its own. The file is only read: threads may share it.
+ * Every call gets the bytes of a whole file, or of a whole listing, and a work table, and uses no
+ * other memory but its stack: no heap, no globals. So calls share nothing, and threads may call at
+ * the same time, each with a table and an output of its own. The file or listing is only read:
+ * threads may share it.
  *
  * An answer of 0 or more is the call's result. Below 0 it is minus the number of a refusal.
  *
@@ -87,6 +88,21 @@ int64_t th_column(const uint8_t *file, size_t file_length, const uint8_t *type, 
  * and after TH_ROOM 33,553,920 bytes more. */
 int64_t th_listing(const uint8_t *file, size_t file_length, uint32_t *work, size_t work_length,
                    uint8_t *out, size_t out_length);
+
+/* Builds a file from its listing: writes the one file that has this listing to the front of `out`,
+ * and gives its length in bytes. The rest of `out` is untouched, and a refusal leaves all of it as
+ * it was. What is built is accepted by the other calls, and th_listing gives the same text for it.
+ *
+ * The text has to be what th_listing would write, byte for byte; a zero byte at its end is not
+ * counted in `text_length`. Whatever else it is gives TH_LISTING: a blank too many, a number with a
+ * leading zero, no newline at the end, or lines that follow each other in no file. So does a
+ * listing whose file would break a rule or pass a bound. The text itself may have any length, and
+ * none at all: that is the listing of the empty file.
+ *
+ * The refusals are TH_TABLE, TH_LISTING and TH_ROOM, looked for in this order. TH_FILE bytes of
+ * `out` are always enough: no file is longer. */
+int64_t th_build(const uint8_t *text, size_t text_length, uint32_t *work, size_t work_length,
+                 uint8_t *out, size_t out_length);
 
 #ifdef __cplusplus
 }

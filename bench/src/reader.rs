@@ -6,10 +6,11 @@
 //! keeps it in the lent table, and has no heap. Neither is spared its own way, since a caller pays for it at every call. A
 //! file has few such lists, so nearly all of the time is the values', and the smaller sizes show what is left. A listing
 //! the second program makes on the heap and copies; the proved one counts its bytes first and then writes each where it
-//! belongs.
+//! belongs. To build a file, the second program makes it on the heap, reads it, prints it and compares that with the text;
+//! the proved one reads the text twice, once to judge it and to count, once to write.
 //!
 //! The last column is a floor: a loop that reads one v64 after another and asks nothing of them. It has no number where a
-//! file holds more than v64 numbers.
+//! file holds more than v64 numbers, nor for a text.
 
 #[path = "../../compare/src/proved.rs"]
 mod proved;
@@ -26,14 +27,16 @@ use proved::Proved;
 
 const REPETITIONS: usize = 40;
 
-/// What is timed: a call, on a file at a part of its full size.
+/// What is timed: a call, on a file at a part of its full size, or on its listing.
 struct Row {
     name: &'static str,
     part: u64,
-    file: Vec<u8>,
+    input: Vec<u8>,
     call: fn(&dyn Reader, &[u8], &mut Memory) -> i64,
     /// How many bytes or values the time is divided by.
     units: usize,
+    /// Whether the input is a file, which may hold nothing but v64 numbers.
+    is_file: bool,
 }
 
 /// Makes a file at a part of its full size.
@@ -43,7 +46,7 @@ type Maker = fn(u64) -> Vec<u8>;
 struct Memory {
     table: Vec<u32>,
     out: Vec<i64>,
-    text: Vec<u8>,
+    bytes: Vec<u8>,
 }
 
 impl Memory {
@@ -51,7 +54,7 @@ impl Memory {
         Memory {
             table: vec![1; TABLE],
             out: vec![0; OBJECTS as usize],
-            text: vec![0; 9 * FILE],
+            bytes: vec![0; 9 * FILE],
         }
     }
 }
@@ -71,8 +74,13 @@ fn column(reader: &dyn Reader, file: &[u8], memory: &mut Memory) -> i64 {
 }
 
 fn listing(reader: &dyn Reader, file: &[u8], memory: &mut Memory) -> i64 {
-    let Memory { table, text, .. } = memory;
-    reader.listing(file, table, text)
+    let Memory { table, bytes, .. } = memory;
+    reader.listing(file, table, bytes)
+}
+
+fn build(reader: &dyn Reader, text: &[u8], memory: &mut Memory) -> i64 {
+    let Memory { table, bytes, .. } = memory;
+    reader.build(text, table, &mut bytes[..FILE])
 }
 
 /// A check of a file, by its bytes.
@@ -82,8 +90,9 @@ fn row_of_check(name: &'static str, make: Maker, part: u64) -> Row {
         name,
         part,
         units: file.len(),
-        file,
+        input: file,
         call: check,
+        is_file: true,
     }
 }
 
@@ -94,8 +103,24 @@ fn row_of_listing(name: &'static str, make: Maker, part: u64) -> Row {
         name,
         part,
         units: listing(&Second, &file, &mut Memory::new()) as usize,
-        file,
+        input: file,
         call: listing,
+        is_file: true,
+    }
+}
+
+/// A file from its listing, by the bytes of the listing, so that both ways can be held against each other.
+fn row_of_build(name: &'static str, make: Maker, part: u64) -> Row {
+    let mut memory = Memory::new();
+    let length = listing(&Second, &make(part), &mut memory) as usize;
+    memory.bytes.truncate(length);
+    Row {
+        name,
+        part,
+        units: length,
+        input: memory.bytes,
+        call: build,
+        is_file: false,
     }
 }
 
@@ -110,6 +135,11 @@ fn rows() -> Vec<Row> {
         ("list mixed kinds, a byte", big::mixed_kinds),
         ("list references, a byte", big::references),
     ];
+    let builds: [(&str, Maker); 3] = [
+        ("build v64 values, a byte", big::v64_values),
+        ("build mixed kinds, a byte", big::mixed_kinds),
+        ("build references, a byte", big::references),
+    ];
     let mut rows = Vec::new();
     for (name, make) in checks {
         rows.extend(big::PARTS.map(|part| row_of_check(name, make, part)));
@@ -117,12 +147,16 @@ fn rows() -> Vec<Row> {
     for (name, make) in listings {
         rows.extend(big::PARTS.map(|part| row_of_listing(name, make, part)));
     }
+    for (name, make) in builds {
+        rows.extend(big::PARTS.map(|part| row_of_build(name, make, part)));
+    }
     rows.extend(big::PARTS.map(|part| Row {
         name: "column of v64, a value",
         part,
-        file: big::column(part),
+        input: big::column(part),
         call: column,
         units: (OBJECTS / part) as usize,
+        is_file: true,
     }));
     rows
 }
@@ -131,11 +165,11 @@ fn rows() -> Vec<Row> {
 fn agree(row: &Row) {
     let mut memories = [Memory::new(), Memory::new()];
     let [first, second] = &mut memories;
-    let answer = (row.call)(&Proved, &row.file, first);
-    assert_eq!(answer, (row.call)(&Second, &row.file, second));
+    let answer = (row.call)(&Proved, &row.input, first);
+    assert_eq!(answer, (row.call)(&Second, &row.input, second));
     assert!(answer >= 0, "{} is refused", row.name);
     assert_eq!(first.out, second.out);
-    assert!(first.text == second.text);
+    assert!(first.bytes == second.bytes);
 }
 
 /// Reads one v64 after another; whether that was the whole file.
@@ -161,11 +195,11 @@ fn best(row: &Row) -> [f64; 3] {
     let mut memory = Memory::new();
     let mut least = [f64::INFINITY; 3];
     for _ in 0..REPETITIONS {
-        let file = black_box(&row.file[..]);
+        let input = black_box(&row.input[..]);
         let times = [
-            time(|| (row.call)(&Proved, file, &mut memory)),
-            time(|| (row.call)(&Second, file, &mut memory)),
-            time(|| loop_over(file)),
+            time(|| (row.call)(&Proved, input, &mut memory)),
+            time(|| (row.call)(&Second, input, &mut memory)),
+            time(|| loop_over(input)),
         ];
         for (least, time) in least.iter_mut().zip(times) {
             *least = least.min(time);
@@ -180,7 +214,7 @@ fn print(row: &Row) {
         1 => "whole".to_string(),
         part => format!("1/{part}"),
     };
-    let floor = match loop_over(&row.file) {
+    let floor = match row.is_file && loop_over(&row.input) {
         true => format!("{floor:.2}"),
         false => "-".to_string(),
     };

@@ -24,9 +24,15 @@ pub struct Comparison<'r, R> {
 /// Two answers, or two memories afterwards, that should be equal and are not.
 #[derive(Debug)]
 pub struct Mismatch {
-    /// What differs: the answer, or a part of the memory.
+    /// What differs: the answer, a part of the memory, or what one call makes of another one's output.
     pub part: &'static str,
     text: String,
+}
+
+impl Mismatch {
+    pub fn new(part: &'static str, text: String) -> Self {
+        Mismatch { part, text }
+    }
 }
 
 impl Display for Mismatch {
@@ -67,30 +73,36 @@ impl<'r, R: Reader> Comparison<'r, R> {
         };
         let said = format!("answers {answer}, second {expected}\nmemory  {where_first}");
         let text = format!("{said}\n{question}");
-        Err(Mismatch { part, text })
+        Err(Mismatch::new(part, text))
+    }
+
+    /// The first bytes that the last call of a listing or of a build has left, as many as it answered.
+    pub fn written(&self, answer: i64) -> &[u8] {
+        let length = usize::try_from(answer).unwrap_or(0);
+        &self.memories[0].bytes.numbers()[..length]
     }
 
     /// Asks with a table that is long enough, and now and then also with one that is not.
-    pub fn ask_call(&mut self, origin: &str, file: &[u8], call: &Call) -> Result<(), Mismatch> {
+    pub fn ask_call(&mut self, origin: &str, input: &[u8], call: &Call) -> Result<(), Mismatch> {
         let mut tables = vec![self.long_table()];
         if self.random.once_in(4) {
             tables.push(self.short_table());
         }
-        self.ask_tables(origin, file, call, &tables)
+        self.ask_tables(origin, input, call, &tables)
     }
 
     /// Asks once for each of these lengths of the table.
     pub fn ask_tables(
         &mut self,
         origin: &str,
-        file: &[u8],
+        input: &[u8],
         call: &Call,
         tables: &[usize],
     ) -> Result<(), Mismatch> {
         for &table in tables {
             self.ask(&Question {
                 origin,
-                file,
+                input,
                 call,
                 table,
             })?;

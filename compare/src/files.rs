@@ -1,4 +1,4 @@
-//! The run over all generated files: good, damaged, extreme and large.
+//! The run over all generated files: good, damaged, extreme and large. Every accepted one is built again from its listing.
 
 use second::big;
 use second::bounds::TABLE;
@@ -6,6 +6,7 @@ use second::generate::random::Random;
 use second::generate::{self, Case, SEED};
 use second::reader;
 
+use crate::builds;
 use crate::comparison::{Comparison, Mismatch};
 use crate::plan::{self, Calls};
 use crate::question::Call;
@@ -44,7 +45,10 @@ fn of_file<R: Reader>(
     for call in listings[1..].iter().chain(affordable) {
         comparison.ask_call(origin, file, call)?;
     }
-    Ok(())
+    match reader::read(file) {
+        Ok(_) => builds::of_file(comparison, origin, file),
+        Err(_) => Ok(()),
+    }
 }
 
 /// What to ask beyond a check: listings, and names and kinds, the more telling ones first. A refused file gets few of

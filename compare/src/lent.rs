@@ -71,23 +71,26 @@ impl<T: Copy + PartialEq + Display> Lent<T> {
 
 /// All memory of one call.
 pub struct Memory {
-    pub file: Lent<u8>,
+    /// The file, or the text to build one from.
+    pub input: Lent<u8>,
     pub type_name: Lent<u8>,
     pub field_name: Lent<u8>,
     pub table: Lent<u32>,
+    /// The output of a column.
     pub out: Lent<i64>,
-    pub text: Lent<u8>,
+    /// The output of a listing or of a build.
+    pub bytes: Lent<u8>,
 }
 
 impl Memory {
     pub fn empty() -> Self {
         Memory {
-            file: Lent::empty(),
+            input: Lent::empty(),
             type_name: Lent::empty(),
             field_name: Lent::empty(),
             table: Lent::empty(),
             out: Lent::empty(),
-            text: Lent::empty(),
+            bytes: Lent::empty(),
         }
     }
 
@@ -96,26 +99,26 @@ impl Memory {
         let (type_name, field_name) = question.call.names();
         let bytes = &contents.bytes[start..start + Contents::MORE];
         let guard = &bytes[..GUARD];
-        self.file.lend(question.file, guard);
+        self.input.lend(question.input, guard);
         self.type_name.lend(type_name, guard);
         self.field_name.lend(field_name, guard);
         let table = &contents.table[start..];
         self.table.lend(&table[..question.table], &table[..GUARD]);
-        let (numbers, text) = question.call.rooms();
+        let (numbers, room) = question.call.rooms();
         let out = &contents.out[start..];
         self.out.lend(&out[..numbers], &out[..GUARD]);
-        self.text.lend_again(bytes, text, guard);
+        self.bytes.lend_again(bytes, room, guard);
     }
 
     /// What differs, and where first.
     pub fn difference(&self, second: &Memory) -> Option<(&'static str, String)> {
         let parts = [
-            ("file", self.file.difference(&second.file)),
+            ("input", self.input.difference(&second.input)),
             ("type name", self.type_name.difference(&second.type_name)),
             ("field name", self.field_name.difference(&second.field_name)),
             ("table", self.table.difference(&second.table)),
             ("output", self.out.difference(&second.out)),
-            ("text", self.text.difference(&second.text)),
+            ("bytes", self.bytes.difference(&second.bytes)),
         ];
         let mut found = parts.into_iter();
         found.find_map(|(part, where_first)| where_first.map(|text| (part, text)))
@@ -186,7 +189,7 @@ mod tests {
         let contents = Contents::new(&mut Random::new(1));
         let question = Question {
             origin: "a test",
-            file: &[0, 0],
+            input: &[0, 0],
             call,
             table: 3,
         };
@@ -210,7 +213,7 @@ mod tests {
         };
         let seen = |change| seen(&call, change);
         assert_eq!(seen(|_| ()), None);
-        assert_eq!(seen(|m| m.file.numbers_mut()[0] ^= 1), Some("file"));
+        assert_eq!(seen(|m| m.input.numbers_mut()[0] ^= 1), Some("input"));
         assert_eq!(seen(|m| m.type_name.cells[0] ^= 1), Some("type name"));
         assert_eq!(seen(|m| m.field_name.cells[61] ^= 1), Some("field name"));
         assert_eq!(seen(|m| m.table.numbers_mut()[2] ^= 1), Some("table"));
@@ -218,12 +221,14 @@ mod tests {
     }
 
     #[test]
-    fn a_changed_text_is_seen() {
+    fn a_changed_byte_is_seen() {
         let room = 3 * Contents::MORE + 1;
-        let seen = |change| seen(&Call::Listing { room }, change);
-        assert_eq!(seen(|_| ()), None);
-        assert_eq!(seen(|m| m.text.numbers_mut()[12_288] ^= 1), Some("text"));
-        assert_eq!(seen(|m| m.text.cells[60] ^= 1), Some("text"));
-        assert_eq!(seen(|m| m.text.cells[12_350] ^= 1), Some("text"));
+        for call in [Call::Listing { room }, Call::Build { room }] {
+            let seen = |change| seen(&call, change);
+            assert_eq!(seen(|_| ()), None);
+            assert_eq!(seen(|m| m.bytes.numbers_mut()[12_288] ^= 1), Some("bytes"));
+            assert_eq!(seen(|m| m.bytes.cells[60] ^= 1), Some("bytes"));
+            assert_eq!(seen(|m| m.bytes.cells[12_350] ^= 1), Some("bytes"));
+        }
     }
 }

@@ -5,13 +5,14 @@ mod proved;
 use std::process::ExitCode;
 
 use compare::comparison::{Comparison, Mismatch};
-use compare::{files, mutants};
+use compare::{builds, files, mutants};
 use proved::Proved;
-use second::generate::SEED;
+use second::generate::{FILES, SEED};
 
 const USAGE: &str = "\
-usage: compare            every generated file
+usage: compare            every generated file and text
        compare mutants N  N small files, changed at random
+       compare damage N   N listings damaged in each way
 ";
 
 fn main() -> ExitCode {
@@ -20,11 +21,14 @@ fn main() -> ExitCode {
     let outcome = match words[..] {
         [] => Some(every_file()),
         ["mutants", count] => count.parse().ok().map(some_mutants),
+        ["damage", count] => count.parse().ok().map(some_damage),
         _ => None,
     };
     match outcome {
-        Some(Ok(line)) => {
-            println!("compare: {line}");
+        Some(Ok(lines)) => {
+            for line in lines.lines() {
+                println!("compare: {line}");
+            }
             ExitCode::SUCCESS
         }
         Some(Err(text)) => {
@@ -38,11 +42,12 @@ fn main() -> ExitCode {
     }
 }
 
-/// All generated files; it fails as well where a refusal was never met.
+/// All generated files and texts; it fails as well where a refusal was never met.
 fn every_file() -> Result<String, String> {
     let mut comparison = Comparison::new(&Proved, SEED);
     files::compare_all(&mut comparison).map_err(text)?;
-    let line = comparison.met.line();
+    builds::compare_all(&mut comparison).map_err(text)?;
+    let line = comparison.met.lines();
     match comparison.met.missing() {
         missing if missing.is_empty() => Ok(line),
         missing => Err(format!("{line}\nnever met: {}", missing.join(", "))),
@@ -53,6 +58,13 @@ fn some_mutants(count: u64) -> Result<String, String> {
     let mut comparison = Comparison::new(&Proved, SEED);
     mutants::compare(&mut comparison, count).map_err(text)?;
     Ok(comparison.met.line())
+}
+
+fn some_damage(each: usize) -> Result<String, String> {
+    let mut comparison = Comparison::new(&Proved, SEED);
+    let sheets = builds::sheets(FILES);
+    builds::damaged(&mut comparison, &sheets, each).map_err(text)?;
+    Ok(comparison.met.lines())
 }
 
 fn text(mismatch: Mismatch) -> String {

@@ -1,5 +1,7 @@
 //! What the calls were answered, to see that none of it is idle.
 
+use std::collections::BTreeMap;
+
 use crate::question::{Call, NAMES};
 
 /// The highest refusal number.
@@ -10,12 +12,21 @@ const LAST: usize = 21;
 pub struct Met {
     /// By call: done, then each refusal by its number.
     answers: [[u64; LAST + 1]; NAMES.len()],
+    /// By group: how many texts there were, and how many of them are the listing of a file.
+    texts: BTreeMap<&'static str, [u64; 2]>,
 }
 
 impl Met {
     pub fn count(&mut self, call: &Call, answer: i64) {
         let refusal = (-answer).max(0) as usize;
         self.answers[call.index()][refusal] += 1;
+    }
+
+    /// A text of some group, by what its first call was answered.
+    pub fn count_text(&mut self, group: &'static str, answer: i64) {
+        let [all, built] = self.texts.entry(group).or_default();
+        *all += 1;
+        *built += u64::from(answer >= 0);
     }
 
     pub fn calls(&self) -> u64 {
@@ -28,6 +39,7 @@ impl Met {
         for (name, answers) in NAMES.iter().zip(&self.answers) {
             let counts = answers.iter().enumerate();
             let words: Vec<String> = counts
+                .filter(|&(number, &count)| count > 0 || possible(name, number))
                 .map(|(number, count)| format!("{} {count}", named(number)))
                 .collect();
             line += &format!("; {name}: {}", words.join(", "));
@@ -35,13 +47,28 @@ impl Met {
         line
     }
 
+    /// Both lines: the calls, and the texts.
+    pub fn lines(&self) -> String {
+        format!("{}\n{}", self.line(), self.texts_line())
+    }
+
+    /// One line: how many texts of each group were built from, and how many of those are the listing of a file.
+    pub fn texts_line(&self) -> String {
+        let all: u64 = self.texts.values().map(|[all, _]| all).sum();
+        let groups = self.texts.iter();
+        let words: Vec<String> = groups
+            .map(|(group, [all, built])| format!("{group} {all} ({built} built)"))
+            .collect();
+        format!("{all} texts: {}", words.join(", "))
+    }
+
     /// The answers that a call can give and never gave.
     pub fn missing(&self) -> Vec<String> {
         let mut missing = Vec::new();
-        for (call, answers) in self.answers.iter().enumerate() {
+        for (name, answers) in NAMES.iter().zip(&self.answers) {
             for (number, &count) in answers.iter().enumerate() {
-                if count == 0 && possible(call, number) {
-                    missing.push(format!("{} {}", NAMES[call], named(number)));
+                if count == 0 && possible(name, number) {
+                    missing.push(format!("{name} {}", named(number)));
                 }
             }
         }
@@ -57,13 +84,15 @@ fn named(number: usize) -> String {
     }
 }
 
-/// Whether a call can give this answer. No file gets 8, and 20 is for what is built from a listing.
-fn possible(call: usize, number: usize) -> bool {
+/// Whether a call can give this answer. No file gets 8. Whatever is wrong with a text, or with the file it would be, is 20.
+fn possible(name: &str, number: usize) -> bool {
     match number {
-        8 | 20 => false,
-        16 => matches!(NAMES[call], "objects" | "column"),
-        17 | 18 => NAMES[call] == "column",
-        19 => matches!(NAMES[call], "column" | "listing"),
-        _ => true,
+        0 | 15 => true,
+        8 => false,
+        16 => matches!(name, "objects" | "column"),
+        17 | 18 => name == "column",
+        19 => matches!(name, "column" | "listing" | "build"),
+        20 => name == "build",
+        _ => name != "build",
     }
 }

@@ -39,7 +39,7 @@ fn of_mutant<R: Reader>(
 ) -> Result<(), Mismatch> {
     let answer = comparison.ask(&Question {
         origin,
-        file,
+        input: file,
         call: &Call::Check,
         table: TABLE,
     })?;
@@ -95,7 +95,7 @@ fn mutant(random: &mut Random, base: &Base, bases: &[Base]) -> Vec<u8> {
 }
 
 /// Flips, replaces, puts in or takes out a byte, or doubles a few.
-fn change(random: &mut Random, file: &mut Vec<u8>) {
+pub fn change(random: &mut Random, file: &mut Vec<u8>) {
     if file.is_empty() {
         file.push(random.byte());
     }

@@ -41,12 +41,19 @@ pub fn listings(file: &[u8], random: &mut Random) -> Vec<Call> {
     rooms.map(|room| Call::Listing { room }).collect()
 }
 
+/// Rooms for a file with so many bytes, apart from the exact one.
+pub fn build_rooms(length: usize, random: &mut Random) -> Vec<usize> {
+    let mut rooms = rooms(length, random);
+    rooms.retain(|&room| room != length);
+    rooms
+}
+
 /// How many bytes of a listing stand for one of the file at most, as `c/tidehinge.h` says: an i8 may be `val`, a tab,
 /// `-128` and a newline.
 const LONGEST: usize = 9;
 
 /// The length of an accepted file's listing.
-fn listing_length(file: &[u8]) -> usize {
+pub fn listing_length(file: &[u8]) -> usize {
     // Values of fixed arrays of length 0 have no byte in the file.
     let empty = b"val\n".len() * FIELDS * OBJECTS as usize;
     let lengths = [0, empty].into_iter().map(|more| {

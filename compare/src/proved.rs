@@ -37,6 +37,15 @@ extern "C" {
         out: *mut u8,
         out_length: usize,
     ) -> i64;
+
+    fn th_build(
+        text: *const u8,
+        text_length: usize,
+        work: *mut u32,
+        work_length: usize,
+        out: *mut u8,
+        out_length: usize,
+    ) -> i64;
 }
 
 /// The proved library as a reader.
@@ -93,6 +102,20 @@ impl Reader for Proved {
                 table.len(),
                 text.as_mut_ptr(),
                 text.len(),
+            )
+        }
+    }
+
+    fn build(&self, text: &[u8], table: &mut [u32], file: &mut [u8]) -> i64 {
+        // SAFETY: as for `column`; the text is only read.
+        unsafe {
+            th_build(
+                text.as_ptr(),
+                text.len(),
+                table.as_mut_ptr(),
+                table.len(),
+                file.as_mut_ptr(),
+                file.len(),
             )
         }
     }

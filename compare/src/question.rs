@@ -5,7 +5,7 @@ use std::fmt::{self, Display, Formatter};
 use crate::lent::Memory;
 use crate::reader::{Asked, Reader};
 
-/// A call and its arguments, the file and the memory aside.
+/// A call and its arguments, the file or the text and the memory aside.
 #[derive(Clone, Debug, PartialEq, Eq)]
 pub enum Call {
     Check,
@@ -23,10 +23,14 @@ pub enum Call {
         /// How many bytes of output are lent.
         room: usize,
     },
+    Build {
+        /// How many bytes of output are lent.
+        room: usize,
+    },
 }
 
 /// The names of the calls, in the order of [`Call::index`].
-pub const NAMES: [&str; 4] = ["check", "objects", "column", "listing"];
+pub const NAMES: [&str; 5] = ["check", "objects", "column", "listing", "build"];
 
 impl Call {
     pub fn index(&self) -> usize {
@@ -35,13 +39,14 @@ impl Call {
             Call::Objects { .. } => 1,
             Call::Column { .. } => 2,
             Call::Listing { .. } => 3,
+            Call::Build { .. } => 4,
         }
     }
 
     /// The names of type and field, empty where the call has none.
     pub fn names(&self) -> (&[u8], &[u8]) {
         match self {
-            Call::Check | Call::Listing { .. } => (&[], &[]),
+            Call::Check | Call::Listing { .. } | Call::Build { .. } => (&[], &[]),
             Call::Objects { type_name } => (type_name, &[]),
             Call::Column {
                 type_name,
@@ -56,16 +61,17 @@ impl Call {
         match *self {
             Call::Check | Call::Objects { .. } => (0, 0),
             Call::Column { room, .. } => (room, 0),
-            Call::Listing { room } => (0, room),
+            Call::Listing { room } | Call::Build { room } => (0, room),
         }
     }
 }
 
-/// A call on a file, with a work table of some length.
+/// A call on a file or a text, with a work table of some length.
 pub struct Question<'a> {
-    /// Where the file comes from, so that it can be had again.
+    /// Where the input comes from, so that it can be had again.
     pub origin: &'a str,
-    pub file: &'a [u8],
+    /// The file, or the text to build one from.
+    pub input: &'a [u8],
     pub call: &'a Call,
     pub table: usize,
 }
@@ -74,32 +80,33 @@ impl Question<'_> {
     /// Asks a reader, who works in this memory.
     pub fn ask(&self, reader: &impl Reader, memory: &mut Memory) -> i64 {
         let Memory {
-            file,
+            input,
             type_name,
             field_name,
             table,
             out,
-            text,
+            bytes,
         } = memory;
-        let (file, table) = (file.numbers(), table.numbers_mut());
+        let (input, table) = (input.numbers(), table.numbers_mut());
         let (type_name, field_name) = (type_name.numbers(), field_name.numbers());
         match *self.call {
-            Call::Check => reader.check(file, table),
-            Call::Objects { .. } => reader.objects(file, type_name, table),
+            Call::Check => reader.check(input, table),
+            Call::Objects { .. } => reader.objects(input, type_name, table),
             Call::Column { kind, .. } => {
                 let asked = Asked {
                     type_name,
                     field_name,
                     kind,
                 };
-                reader.column(file, asked, table, out.numbers_mut())
+                reader.column(input, asked, table, out.numbers_mut())
             }
-            Call::Listing { .. } => reader.listing(file, table, text.numbers_mut()),
+            Call::Listing { .. } => reader.listing(input, table, bytes.numbers_mut()),
+            Call::Build { .. } => reader.build(input, table, bytes.numbers_mut()),
         }
     }
 }
 
-/// Longer files are not printed; their origin has to do.
+/// Longer inputs are not printed; their origin has to do.
 const PRINTED: usize = 4_096;
 
 impl Display for Question<'_> {
@@ -112,13 +119,13 @@ impl Display for Question<'_> {
         if let Call::Column { kind, room, .. } = self.call {
             write!(to, ", field {}, kind {kind}, room {room}", hex(field_name))?;
         }
-        if let Call::Listing { room } = self.call {
+        if let Call::Listing { room } | Call::Build { room } = self.call {
             write!(to, ", room {room}")?;
         }
         writeln!(to, ", table {}", self.table)?;
-        write!(to, "file    {}, {} bytes", self.origin, self.file.len())?;
-        if self.file.len() <= PRINTED {
-            write!(to, "\nbytes   {}", hex(self.file))?;
+        write!(to, "input   {}, {} bytes", self.origin, self.input.len())?;
+        if self.input.len() <= PRINTED {
+            write!(to, "\nbytes   {}", hex(self.input))?;
         }
         Ok(())
     }

@@ -2,7 +2,7 @@
 
 use second::Refusal;
 
-/// The four calls as the C functions have them: an answer of 0 or more is done, one below 0 is minus the refusal number.
+/// The five calls as the C functions have them: an answer of 0 or more is done, one below 0 is minus the refusal number.
 pub trait Reader {
     fn check(&self, file: &[u8], table: &mut [u32]) -> i64;
 
@@ -11,6 +11,8 @@ pub trait Reader {
     fn column(&self, file: &[u8], asked: Asked<'_>, table: &mut [u32], out: &mut [i64]) -> i64;
 
     fn listing(&self, file: &[u8], table: &mut [u32], text: &mut [u8]) -> i64;
+
+    fn build(&self, text: &[u8], table: &mut [u32], file: &mut [u8]) -> i64;
 }
 
 /// Which column is asked for.
@@ -45,6 +47,10 @@ impl Reader for Second {
 
     fn listing(&self, file: &[u8], table: &mut [u32], text: &mut [u8]) -> i64 {
         number(second::listing(file, table, text))
+    }
+
+    fn build(&self, text: &[u8], table: &mut [u32], file: &mut [u8]) -> i64 {
+        number(second::build(text, table, file))
     }
 }
 

@@ -3,6 +3,7 @@
 use second::bounds::TABLE;
 use second::generate::{self, Case, SEED};
 
+use crate::builds;
 use crate::comparison::Comparison;
 use crate::files;
 use crate::mutants;
@@ -77,10 +78,15 @@ impl Reader for Spoiled {
             ..Left::of(file, answer, table)
         })
     }
+
+    /// Wrong builders have a page of their own.
+    fn build(&self, text: &[u8], table: &mut [u32], file: &mut [u8]) -> i64 {
+        Second.build(text, table, file)
+    }
 }
 
 /// Generated files that are quick to ask about.
-fn quick() -> Vec<Case> {
+pub fn quick() -> Vec<Case> {
     let mut cases = generate::files(SEED, 200);
     cases.retain(|case| case.bytes.len() <= 600);
     cases
@@ -103,6 +109,7 @@ fn caught(part: &str, fault: fn(Left<'_>) -> i64) {
 fn the_second_program_agrees_with_itself_and_meets_everything() {
     let mut comparison = Comparison::new(&Second, SEED);
     assert!(files::compare(&mut comparison, "a test", &quick()).is_ok());
+    assert!(builds::damaged(&mut comparison, &builds::sheets(200), 5).is_ok());
     assert_eq!(comparison.met.missing(), Vec::<String>::new());
     assert!(comparison.met.calls() > 10_000);
     assert!(mutants::compare(&mut comparison, 2_000).is_ok());
@@ -115,12 +122,14 @@ fn an_idle_comparison_is_noticed() {
     assert!(files::compare(&mut comparison, "a test", &accepted).is_ok());
     let missing = comparison.met.missing();
     let never = ["check #1", "objects #21", "column done", "column #19"];
-    for answer in never.into_iter().chain(["listing #14", "listing #19"]) {
+    let never = never.into_iter().chain(["listing #14", "listing #19"]);
+    for answer in never.chain(["build #19", "build #20"]) {
         assert!(missing.iter().any(|said| said == answer), "{answer}");
     }
     let met = ["check done", "column #16", "listing done", "listing #15"];
+    let met = met.into_iter().chain(["build done", "build #15"]);
     let impossible = ["check #8", "check #16", "listing #16", "listing #20"];
-    for answer in met.into_iter().chain(impossible) {
+    for answer in met.chain(impossible).chain(["build #1", "build #16"]) {
         assert!(missing.iter().all(|said| said != answer), "{answer}");
     }
 }
@@ -281,7 +290,7 @@ fn swapped(left: Left<'_>, from: i64, to: i64) -> i64 {
 
 #[test]
 fn prints_nothing() {
-    caught("text", |left| {
+    caught("bytes", |left| {
         left.text.copy_from_slice(&left.lent_text);
         left.answer
     });
@@ -289,7 +298,7 @@ fn prints_nothing() {
 
 #[test]
 fn prints_one_byte_too_many() {
-    caught("text", |left| {
+    caught("bytes", |left| {
         let behind = usize::try_from(left.answer).ok();
         if let Some(byte) = behind.and_then(|at| left.text.get_mut(at)) {
             *byte = byte.wrapping_add(1);
@@ -307,7 +316,7 @@ fn prints_on_a_refusal() {
         |left| printed_on(-19, left),
     ];
     for fault in faults {
-        caught("text", fault);
+        caught("bytes", fault);
     }
 }
 
@@ -356,7 +365,7 @@ fn unsigned(line: &str) -> String {
 
 #[test]
 fn prints_a_value_unsigned() {
-    caught("text", |left| relined(left, unsigned));
+    caught("bytes", |left| relined(left, unsigned));
 }
 
 #[test]
@@ -374,7 +383,7 @@ fn prints_other_words() {
         |left| relined(left, |line| line.replace('f', "F")),
     ];
     for fault in faults {
-        caught("text", fault);
+        caught("bytes", fault);
     }
 }
 
@@ -396,5 +405,5 @@ fn prints_the_first_pair_and_pretends_for_the_rest() {
         }
         left.answer
     };
-    assert_eq!(noticed(&generate::small(), fault), Some("text"));
+    assert_eq!(noticed(&generate::small(), fault), Some("bytes"));
 }

@@ -2,9 +2,10 @@
 ghost use mathlib.Core.Path.{_≡_};
 ghost use mathlib.Core.List.{[]};
 ghost use lib.IntN.{pos};
-ghost use Rattle.paper.specs.Calls.{afterCheck, afterObjects, afterColumn, afterListing};
+ghost use Rattle.paper.specs.Calls.{afterCheck, afterObjects, afterColumn, afterListing, afterBuild};
 ghost use Rattle.calls.specs.Told.{answerOf};
 ghost use Rattle.capi.specs.Coded.{upToTop, codedUpTo, Coded};
+use build::build;
 use calls::check;
 use calls::column;
 use calls::objects;
@@ -67,4 +68,12 @@ pub extern "C" fn th_listing(file: &[u8], work: &mut [u32], out: &mut [u8]) -> i
     ensures { λ z. ⌜ Coded z (now (work .exit)) (now (out .exit)) (afterListing (now (file .entry)) (now (work .entry)) (now (out .entry))) ⌝ }
 {
     one_number(listing(file, work, out))
+}
+
+// The file with this listing: its bytes are the first of `out`.
+#[no_mangle]
+pub extern "C" fn th_build(text: &[u8], work: &mut [u32], out: &mut [u8]) -> i64
+    ensures { λ z. ⌜ Coded z (now (work .exit)) (now (out .exit)) (afterBuild (now (text .entry)) (now (work .entry)) (now (out .entry))) ⌝ }
+{
+    one_number(build(text, work, out))
 }

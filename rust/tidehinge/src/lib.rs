@@ -1,9 +1,9 @@
-//! Safe calls to Tidehinge, the proved reader of SKilL ledgers.
+//! Safe calls to Tidehinge, the proved reader and writer of SKilL ledgers.
 //!
-//! Every call gets the bytes of a whole file and a work table of at least
-//! [`WORK`] numbers, and uses no other memory. The table may hold anything.
-//! After a call its first [`WORK`] numbers are 0 and the rest is as lent. A
-//! shorter table gives [`Refusal::Table`] and is untouched.
+//! Every call gets the bytes of a whole file, or of a whole listing, and a work
+//! table of at least [`WORK`] numbers, and uses no other memory. The table may
+//! hold anything. After a call its first [`WORK`] numbers are 0 and the rest is
+//! as lent. A shorter table gives [`Refusal::Table`] and is untouched.
 //!
 //! A file is accepted or refused as a whole: a fault in its last pair is told
 //! by every call, whatever is asked for.
@@ -98,4 +98,35 @@ pub fn column(
 /// ```
 pub fn listing(file: &[u8], work: &mut [u32], out: &mut [u8]) -> Result<usize, Refusal> {
     refusal::of_answer(library::listing(file, work, out))
+}
+
+/// Builds a file from its listing: writes the one file that has the listing
+/// `text` to the front of `out`; gives its length.
+///
+/// The rest of `out` is untouched, and a refusal leaves all of it as it was.
+/// What is built is accepted by the other calls, and [`listing`] gives `text`
+/// for it again.
+///
+/// `text` has to be what [`listing`] would write, byte for byte. Whatever else
+/// it is gives [`Refusal::Listing`]: a blank too many, a number with a leading
+/// zero, no newline at the end, or lines that follow each other in no file. So
+/// does a listing whose file would break a rule or pass a bound. The text may
+/// have any length, and none at all: that is the listing of the empty file.
+///
+/// The refusals are [`Refusal::Table`], [`Refusal::Listing`] and
+/// [`Refusal::Room`], looked for in this order. [`FILE`] bytes of `out` are
+/// always enough: no file is longer.
+///
+/// ```
+/// let mut work = vec![0; tidehinge::WORK];
+/// let mut out = vec![0; tidehinge::FILE];
+/// let length = tidehinge::build(b"pair\t0\t0\n", &mut work, &mut out)?;
+/// assert_eq!(out[..length], [0, 0]);
+///
+/// let refusal = tidehinge::build(b"pair\t00\t0\n", &mut work, &mut out);
+/// assert_eq!(refusal, Err(tidehinge::Refusal::Listing));
+/// # Ok::<(), tidehinge::Refusal>(())
+/// ```
+pub fn build(text: &[u8], work: &mut [u32], out: &mut [u8]) -> Result<usize, Refusal> {
+    refusal::of_answer(library::build(text, work, out))
 }

@@ -4,7 +4,7 @@
 //! slice, so what a Rust slice promises is all that it asks for: the pointer
 //! is not null and aligned, that many elements are there, and what is lent
 //! mutably overlaps nothing else. It keeps no pointer after it returns, it
-//! reads `file` and the names only, and it does not unwind.
+//! reads `file`, `text` and the names only, and it does not unwind.
 #![allow(unsafe_code)]
 
 mod foreign {
@@ -42,6 +42,15 @@ mod foreign {
         pub fn th_listing(
             file: *const u8,
             file_length: usize,
+            work: *mut u32,
+            work_length: usize,
+            out: *mut u8,
+            out_length: usize,
+        ) -> i64;
+
+        pub fn th_build(
+            text: *const u8,
+            text_length: usize,
             work: *mut u32,
             work_length: usize,
             out: *mut u8,
@@ -103,6 +112,20 @@ pub fn listing(file: &[u8], work: &mut [u32], out: &mut [u8]) -> i64 {
         foreign::th_listing(
             file.as_ptr(),
             file.len(),
+            work.as_mut_ptr(),
+            work.len(),
+            out.as_mut_ptr(),
+            out.len(),
+        )
+    }
+}
+
+pub fn build(text: &[u8], work: &mut [u32], out: &mut [u8]) -> i64 {
+    // SAFETY: as for `column`.
+    unsafe {
+        foreign::th_build(
+            text.as_ptr(),
+            text.len(),
             work.as_mut_ptr(),
             work.len(),
             out.as_mut_ptr(),

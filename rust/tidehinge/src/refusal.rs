@@ -48,7 +48,7 @@ pub enum Refusal {
     OtherKind = 18,
     /// The lent output is too short.
     Room = 19,
-    /// No file has this listing. The calls here take none.
+    /// No file has this listing.
     Listing = 20,
     /// A subtype's range is wrong.
     Range = 21,

@@ -26,5 +26,9 @@ int main(void) {
     static uint8_t text[9 * sizeof pair];
     int64_t length = th_listing(pair, sizeof pair, work, TH_WORK, text, sizeof text);
     printf("%.*s", (int)length, (const char *)text);
+    static uint8_t built[TH_FILE];
+    int64_t again = th_build(text, (size_t)length, work, TH_WORK, built, sizeof built);
+    printf("%d %d %d\n", (int)again, built[0], built[1]);
+    printf("%s\n", th_words(th_build(text, 1, work, TH_WORK, built, sizeof built)));
     return 0;
 }

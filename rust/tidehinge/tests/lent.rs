@@ -39,6 +39,10 @@ fn listing_of(file: &[u8], work: &mut [u32]) -> Result<usize, Refusal> {
     tidehinge::listing(file, work, &mut [0; 400])
 }
 
+fn build_of(text: &str, work: &mut [u32], room: usize) -> Result<usize, Refusal> {
+    tidehinge::build(text.as_bytes(), work, &mut vec![0; room])
+}
+
 #[test]
 fn tables_after_an_answer() {
     let file = e();
@@ -46,6 +50,7 @@ fn tables_after_an_answer() {
     assert_tables(&|work| tidehinge::objects(&file, b"date", work), Ok(3));
     assert_tables(&|work| column_of(&file, 11, work, &mut [0; 9]), Ok(3));
     assert_tables(&|work| listing_of(&file, work), Ok(LISTING.len()));
+    assert_tables(&|work| build_of(LISTING, work, 400), Ok(file.len()));
 }
 
 #[test]
@@ -79,6 +84,17 @@ fn tables_after_a_question_without_an_answer() {
     assert_tables(&|work| column_of(&file, 11, work, &mut [0; 2]), room);
     let listing = |work: &mut [u32]| tidehinge::listing(&file, work, &mut [0; 94]);
     assert_tables(&listing, room);
+    assert_tables(&|work| build_of(LISTING, work, 36), room);
+}
+
+/// Also where there is no room at all: the text is judged first.
+#[test]
+fn tables_after_a_text_that_is_no_listing() {
+    let refused = Err(Refusal::Listing);
+    for text in ["\n", &LISTING[1..], &LISTING.replace("256", "0256")] {
+        assert_tables(&|work| build_of(text, work, 400), refused);
+        assert_tables(&|work| build_of(text, work, 0), refused);
+    }
 }
 
 #[test]
@@ -182,6 +198,56 @@ fn a_refusal_leaves_the_listing() {
     }
 }
 
+#[test]
+fn rooms_of_a_built_file() {
+    let file = e();
+    assert_eq!(file.len(), 37);
+    for length in 0..37 {
+        let mut out = vec![5; length];
+        let answer = tidehinge::build(LISTING.as_bytes(), &mut table(), &mut out);
+        assert_eq!(answer, Err(Refusal::Room), "{length}");
+        assert_eq!(out, vec![5; length]);
+    }
+    for length in [37, 38, 900] {
+        let mut out = vec![5; length];
+        let answer = tidehinge::build(LISTING.as_bytes(), &mut table(), &mut out);
+        assert_eq!(answer, Ok(37), "{length}");
+        assert_eq!(out[..37], file);
+        assert!(out[37..].iter().all(|&byte| byte == 5));
+    }
+}
+
+/// The empty text is the listing of the empty file.
+#[test]
+fn no_room_is_enough_for_no_bytes() {
+    assert_eq!(tidehinge::build(&[], &mut table(), &mut []), Ok(0));
+    let mut out = [5; 3];
+    assert_eq!(tidehinge::build(&[], &mut table(), &mut out), Ok(0));
+    assert_eq!(out, [5; 3]);
+}
+
+fn assert_file_left(text: &str, work: &mut [u32], room: usize, refusal: Refusal) {
+    let mut out = vec![5; room];
+    let answer = tidehinge::build(text.as_bytes(), work, &mut out);
+    assert_eq!(answer, Err(refusal), "room {room}");
+    assert_eq!(out, vec![5; room]);
+}
+
+/// The table comes first, then the text, then the room; nothing is written,
+/// also where the fault stands behind good lines.
+#[test]
+fn a_refusal_leaves_the_file() {
+    let cut = &LISTING[..LISTING.len() - 1];
+    let wrong = LISTING.replace("old", "new");
+    for room in [0, 36, 37, 900] {
+        assert_file_left(cut, &mut table(), room, Refusal::Listing);
+        assert_file_left(&wrong, &mut table(), room, Refusal::Listing);
+        for text in [LISTING, cut] {
+            assert_file_left(text, &mut [1; WORK - 1], room, Refusal::Table);
+        }
+    }
+}
+
 /// One table serves call after call, and calls at the same time do not meet.
 #[test]
 fn threads_with_tables_of_their_own() {
@@ -195,6 +261,7 @@ fn threads_with_tables_of_their_own() {
                     assert_eq!(column_of(&file, 11, &mut work, &mut out), Ok(3));
                     assert_eq!(out, [1, -1, 256]);
                     assert_eq!(listing_of(&file, &mut work), Ok(95));
+                    assert_eq!(build_of(LISTING, &mut work, 37), Ok(37));
                     assert_eq!(
                         tidehinge::check(&file[..30], &mut work),
                         Err(Refusal::Short)

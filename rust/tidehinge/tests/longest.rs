@@ -1,8 +1,9 @@
-//! The longest listings, for each byte of the file and of all files.
+//! The longest listings, for each byte of the file and of all files, and the
+//! files from them.
 
 mod common;
 
-use common::{listing, table};
+use common::{build, listing, table};
 use tidehinge::{Refusal, OBJECTS};
 
 /// How many fields a file has at most.
@@ -45,6 +46,7 @@ fn nine_bytes_for_one() {
     let lines = 10 * OBJECTS;
     assert!(text.ends_with(&"val\t-128\n".repeat(lines)));
     assert!(text.len() > 9 * lines && text.len() <= 9 * file.len());
+    assert_eq!(build(&text), Ok(file));
 }
 
 /// As many arrays of fixed length 0 as there may be: each is a line, and none
@@ -63,4 +65,6 @@ fn four_bytes_for_nothing() {
     assert!(head.starts_with(b"pair\t128\t1\nstr\t01\n"));
     assert!(head.ends_with(b"new\t15,0,6\t128\n"));
     assert!(values.chunks(4).all(|line| line == b"val\n"));
+    let text = std::str::from_utf8(text).expect("a listing is text");
+    assert_eq!(build(text), Ok(file));
 }

@@ -2,7 +2,7 @@
 
 mod common;
 
-use common::{check, column, e, e_with, listing, objects};
+use common::{build, check, column, e, e_with, listing, objects};
 use common::{COUNT, D, END, FIELDS, LISTING, SEVERAL};
 use tidehinge::Refusal;
 
@@ -23,6 +23,13 @@ fn the_two_listings() {
     assert_eq!(listing(&D).as_deref(), Ok(&LISTING[..last_pair]));
 }
 
+#[test]
+fn the_two_files_from_their_listings() {
+    assert_eq!(build(LISTING), Ok(e()));
+    let last_pair = LISTING.find("pair\t0").unwrap();
+    assert_eq!(build(&LISTING[..last_pair]), Ok(D.to_vec()));
+}
+
 /// The files of the folder `examples` are the same two.
 #[test]
 fn the_two_files_as_examples() {
@@ -36,6 +43,7 @@ fn the_empty_file() {
     assert_eq!(objects(&[], ""), Err(Refusal::NoType));
     assert_eq!(column(&[], "", "", 11), Err(Refusal::NoType));
     assert_eq!(listing(&[]).as_deref(), Ok(""));
+    assert_eq!(build(""), Ok(Vec::new()));
 }
 
 /// Every call tells the fault, whatever it was asked for.
@@ -128,7 +136,57 @@ fn listing_of_several_kinds() {
         "val\t3",
     ];
     let expected = lines.map(|line| format!("{line}\n")).concat();
+    assert_eq!(build(&expected).as_deref(), Ok(&SEVERAL[..]));
     assert_eq!(listing(&SEVERAL), Ok(expected));
+}
+
+/// A listing with one thing changed is refused, unless it is then the listing
+/// of another file.
+#[test]
+fn changed_listings() {
+    let wrong = [
+        ("val\t256", "val\t0256"),
+        ("val\t256", "val\t+256"),
+        ("val\t256", "val\t-0"),
+        ("val\t256", "val\t18446744073709551872"),
+        ("val\t256", "val 256"),
+        ("val\t256", "val\t256\t"),
+        ("val\t256\n", "val\t256"),
+        ("val\t256\n", "val\t256\r\n"),
+        ("val\t256\n", "val\t256\n\n"),
+        ("val\t256\n", "val\t256\n\0"),
+        ("val\t256\n", ""),
+        ("old\n", ""),
+        ("old\n", "new\t11\t1\n"),
+        ("str\t64617465", "str\t6461746F"),
+        ("str\t64617465", "str\t6461746"),
+        ("pair\t1\t1", "pair\t2\t1"),
+        ("pair\t1\t1", "pair\t01\t1"),
+        ("type\t1\t0\t-\t2\t1", "type\t2\t0\t-\t2\t1"),
+        ("type\t1\t0\t-\t2\t1", "type\t1\t0\t-\t3\t1"),
+        ("new\t11\t1", "new\t5\t1"),
+        ("new\t11\t1", "new\t32\t1"),
+    ];
+    for (from, to) in wrong {
+        let answer = build(&LISTING.replace(from, to));
+        assert_eq!(answer, Err(Refusal::Listing), "{to:?} for {from:?}");
+    }
+    let other = build(&LISTING.replace("256", "257")).unwrap();
+    assert_eq!(column(&other, "date", "date", 11), Ok(vec![1, -1, 257]));
+}
+
+/// The file's own bounds hold for what is built, not for the text.
+#[test]
+fn built_up_to_the_bounds() {
+    let pairs = |count| build(&"pair\t0\t0\n".repeat(count));
+    assert_eq!(pairs(32), Ok(vec![0; 64]));
+    assert_eq!(pairs(33), Err(Refusal::Listing));
+    // The file has six bytes beside the string.
+    let string = |length| build(&format!("pair\t1\t0\nstr\t{}\n", "78".repeat(length)));
+    let longest = string(tidehinge::FILE - 6).unwrap();
+    assert_eq!(longest.len(), tidehinge::FILE);
+    assert_eq!(check(&longest), Ok(()));
+    assert_eq!(string(tidehinge::FILE - 5), Err(Refusal::Listing));
 }
 
 #[test]

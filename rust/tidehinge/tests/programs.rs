@@ -175,7 +175,7 @@ fn assert_header(language: &Language, name: &str) {
         expected += &format!("{} {refusal}\n", refusal.number());
     }
     expected += "done\ndone\nno refusal of this format\nno refusal of this format\n";
-    expected += "the file ends too early\npair\t0\t0\n";
+    expected += "the file ends too early\npair\t0\t0\n2 0 0\nno file has this listing\n";
     let printed = ran(&mut Command::new(language.compile(&source, name)));
     assert_eq!(printed, (expected, String::new(), Some(0)));
 }

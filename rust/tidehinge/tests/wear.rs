@@ -2,7 +2,7 @@
 
 mod common;
 
-use common::{check, column, listing, objects, table};
+use common::{build, check, column, listing, objects, table};
 use tidehinge::Refusal;
 
 const WEAR: &[u8] = include_bytes!("../../../examples/wear.skill");
@@ -55,6 +55,24 @@ fn room_for_forty() {
 #[test]
 fn listing_of_all_weeks() {
     assert_eq!(listing(WEAR).as_deref(), Ok(LISTING));
+}
+
+#[test]
+fn built_from_its_listing() {
+    assert_eq!(build(LISTING).as_deref(), Ok(WEAR));
+}
+
+/// The wear of the last drive, changed by hand in the listing.
+#[test]
+fn built_with_another_wear() {
+    let last = LISTING
+        .rfind("val\t2\n")
+        .expect("the wear of the last drive");
+    let text = [&LISTING[..last], "val\t3\n", &LISTING[last + 6..]].concat();
+    let file = build(&text).unwrap();
+    let wear = column(&file, "drive", "wear", 11).unwrap();
+    assert_eq!(wear[..39], VALUES[..39]);
+    assert_eq!(wear[39], 3);
 }
 
 /// The hours come in week 9, for the drives before it too.

@@ -1,7 +1,7 @@
 use mathlib.Core.Path.{sym}
 use lib.Seq.{length-take-le}
-use Rattle.print.specs.Printed.{front-within}
-use Rattle.print.specs.Streams.{came-fits}
+use Rattle.streams.specs.Answers.{front-within}
+use Rattle.streams.specs.Reads.{came-fits}
 use borrow.Author.Needs.{needs}
 use Rattle.print.proofs.main.Statement.{statement}
 use Rattle.print.proofs.main.Tie as tie
@@ -15,15 +15,10 @@ main-spec =
     (λ c. search needs)
     (λ c. search needs)
     (λ c. search needs)
-    (λ c κs. search needs)
-    (λ c. search needs)
-    (λ c. came-fits _ (c .before .a .given .1) (c .before .before .before .before .read-all .ensures))
-    (λ c. sym (length-take-le _ _ (came-fits _ (c .before .before .a .given .1) (c .before .before .before .before .before .read-all .ensures))))
+    (λ c. came-fits _ (c .before .a .given .1) (c .before .before .before .before .read-input .ensures))
+    (λ c. sym (length-take-le _ _ (came-fits _ (c .before .before .a .given .1) (c .before .before .before .before .before .read-input .ensures))))
     (λ c κs. search needs)
     (λ c. front-within (c .answer .ensures))
     (λ c. sym (length-take-le _ _ (front-within (c .before .answer .ensures))))
     (λ c κs. search needs)
-    (λ c. search needs)
-    (λ c κs. search needs)
-    (λ c. search needs)
     (λ c. search needs))

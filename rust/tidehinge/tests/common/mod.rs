@@ -97,3 +97,15 @@ pub fn listing(file: &[u8]) -> Result<String, Refusal> {
     out.truncate(length);
     Ok(String::from_utf8(out).expect("a listing is text"))
 }
+
+/// A file from its listing, with room for any.
+pub fn build(text: &str) -> Result<Vec<u8>, Refusal> {
+    let mut out = vec![7; tidehinge::FILE];
+    let length = tidehinge::build(text.as_bytes(), &mut table(), &mut out)?;
+    assert!(
+        out[length..].iter().all(|&byte| byte == 7),
+        "the rest of the output is touched"
+    );
+    out.truncate(length);
+    Ok(out)
+}

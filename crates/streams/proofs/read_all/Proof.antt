@@ -1,11 +1,11 @@
 use native.Mathlib.Omega.{arith}
-use Rattle.print.specs.Streams.{came-on}
+use Rattle.streams.specs.Reads.{came-on}
 use mathlib.Core.Path.{_≡_}
 use Prim.Native.Nat.{_≤_, _-_}
 use lib.ListN.{length}
 use borrow.Author.Needs.{needs}
-use Rattle.print.proofs.read_all.Statement.{statement}
-use Rattle.print.proofs.read_all.Tie as tie
+use Rattle.streams.proofs.read_all.Statement.{statement}
+use Rattle.streams.proofs.read_all.Tie as tie
 
 abbrev Inv-loop : tie.InvT-loop
 Inv-loop buf₀ done₀ buf done = (done ≤ length buf) × (length buf ≡ length buf₀)

@@ -4,8 +4,8 @@ use mathlib.Core.List.{List}
 use Prim.Native.Nat.{ℕ, _+_, _-_, _≤_, _<_}
 use native.Mathlib.Omega.{arith}
 use lib.ListN.{length, take, drop, length-take, length-drop}
-use Rattle.print.specs.declared.Came.{Came}
-use Rattle.print.specs.declared.Came.the-variants.{Bytes, Failed}
+use Rattle.streams.specs.declared.Came.{Came}
+use Rattle.streams.specs.declared.Came.the-variants.{Bytes, Failed}
 
 -- what came has room in the bytes that were lent for it
 abbrev pub Within : Came → List ℕ → Type 0

@@ -1,29 +1,12 @@
-//! The files that go through both programs.
+//! Files for the print program.
 
-use second::bounds::{FILE, PROGRAM_INPUT, PROGRAM_OUTPUT, TABLE};
-use second::generate::{self, Case};
+use second::bounds::{FILE, PROGRAM_INPUT, PROGRAM_OUTPUT};
+use second::generate::Case;
 
-/// From this length on a file is near a bound of the programs, or beyond it.
-pub const LARGE: usize = PROGRAM_INPUT - 16;
+use super::{built, filled};
 
-/// How many files are made by chance.
-const BY_CHANCE: usize = 400;
-
-/// Every third of the generated files is taken: they are there for the calls, and a process takes longer than a call.
-const STEP: usize = 3;
-
-/// The bounds of the programs first, then generated files of the size range.
-pub fn print() -> Vec<Case> {
-    let mut cases = bounds();
-    let generated = generate::files(generate::SEED, BY_CHANCE);
-    let short = generated
-        .into_iter()
-        .filter(|case| case.bytes.len() <= PROGRAM_INPUT);
-    cases.extend(short.step_by(STEP));
-    cases
-}
-
-fn bounds() -> Vec<Case> {
+/// The bounds of the programs, met by files.
+pub fn bounds() -> Vec<Case> {
     let mut cases = vec![Case::chance("no input".into(), Vec::new())];
     for length in PROGRAM_INPUT - 1..=PROGRAM_INPUT + 1 {
         cases.push(Case::chance(
@@ -46,24 +29,14 @@ fn bounds() -> Vec<Case> {
 
 /// An accepted file of this length with a short listing: some numbers of eight bytes, and a name that fills it up.
 fn numbers(length: usize) -> Vec<u8> {
-    let text = |name: usize| {
-        let objects = length / 8 - 4;
+    let objects = length / 8 - 4;
+    let text = filled(length, |name| {
         format!(
-            "pair\t1\t1\nstr\t{}\ntype\t1\t0\t-\t{objects}\t1\nnew\t10\t1\n{}",
-            "61".repeat(name),
+            "pair\t1\t1\nstr\t{name}\ntype\t1\t0\t-\t{objects}\t1\nnew\t10\t1\n{}",
             "val\t-7\n".repeat(objects),
         )
-    };
-    let name = 1 + length - built(&text(1)).len();
-    built(&text(name))
-}
-
-fn built(text: &str) -> Vec<u8> {
-    let mut out = vec![0; FILE];
-    let length = second::build(text.as_bytes(), &mut vec![0; TABLE], &mut out)
-        .unwrap_or_else(|refusal| panic!("a listing refused with {}", refusal.number));
-    out.truncate(length);
-    out
+    });
+    built(&text)
 }
 
 /// A file of one string whose listing has this length, an even one: two digits for each byte, and 14 bytes beside them.

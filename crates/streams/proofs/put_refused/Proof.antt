@@ -1,9 +1,9 @@
 use mathlib.Core.Path.{refl}
 use Rattle.paper.specs.Listing.{ascii}
-use Rattle.print.specs.Printed.{refusal-laid}
+use Rattle.streams.specs.Answers.{refusal-laid}
 use borrow.Author.Needs.{needs}
-use Rattle.print.proofs.put_refused.Statement.{statement}
-use Rattle.print.proofs.put_refused.Tie as tie
+use Rattle.streams.proofs.put_refused.Statement.{statement}
+use Rattle.streams.proofs.put_refused.Tie as tie
 
 returns : tie.Need-returns
 unfolding ascii
