@@ -161,17 +161,17 @@ unfolding afterPair afterFront
 pair-grows s p =
     grows-trans (strings-grow s (p .strings)) (grows-trans (fold-grows _ entry-grows (p .entries) _) (closed-grows _))
 
-known-grows : (l m : Ledger) → Grows (known l) (known (l ++ m))
+pub known-grows : (l m : Ledger) → Grows (known l) (known (l ++ m))
 unfolding known
 known-grows l m = rw (fold-append afterPair nothing l m) (fold-grows _ pair-grows m _)
 
 -- ── what is found stays ──
 
-type-stays : (s u : State) (name : List ℕ) (t : ℕ) → Grows s u → typeNamed s name ≡ some t → typeNamed u name ≡ some t
+pub type-stays : (s u : State) (name : List ℕ) (t : ℕ) → Grows s u → typeNamed s name ≡ some t → typeNamed u name ≡ some t
 unfolding typeNamed
 type-stays s u name t g h = rw (g .typeNames .is) (place-append _ 0 t (s .typeNames) (g .typeNames .rest) h)
 
-field-stays : (s u : State) (t : ℕ) (name : List ℕ) (i : ℕ) → Grows s u → fieldNamed s t name ≡ some i → (fieldNamed u t name ≡ some i) × (fieldAt u i ≡ fieldAt s i)
+pub field-stays : (s u : State) (t : ℕ) (name : List ℕ) (i : ℕ) → Grows s u → fieldNamed s t name ≡ some i → (fieldNamed u t name ≡ some i) × (fieldAt u i ≡ fieldAt s i)
 unfolding fieldNamed fieldAt
 field-stays s u t name i g h =
     let (k, q, lt, _) = named-found (called? t name) noField 0 i (s .fields) (s .fieldNames) h in (

@@ -89,7 +89,7 @@ none-exactly t b = (there, λ h. here h (fileOf t) refl)
 
 -- ── the calls ──
 
-need-inv : (c : Bool) (n : ℕ) (A : Type 0) (k : Answer A) (a : A) → (need c n >> k) ≡ done a → (c ≡ true) × (k ≡ done a)
+pub need-inv : (c : Bool) (n : ℕ) (A : Type 0) (k : Answer A) (a : A) → (need c n >> k) ≡ done a → (c ≡ true) × (k ≡ done a)
 unfolding need _>>_ _>>=_
 need-inv true n A k a q = (refl, q)
 need-inv false n A k a q = not-done q
