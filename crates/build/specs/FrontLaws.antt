@@ -4,7 +4,7 @@ use mathlib.Core.Bool.{Bool, true, false, _&&_}
 use mathlib.Core.List.{List, [], _∷_, _++_, map, map-append, append-nil}
 use Prim.Native.Nat.{ℕ, zero, suc, _+_, _-_, _≤_, _<_}
 use native.Mathlib.Omega.{arith}
-use lib.ListN.{length, getD, drop, length-take, length-drop}
+use lib.ListN.{length, drop, length-take, length-drop}
 use lib.Seq.{drop-append-seam}
 use Rattle.paper.specs.Reader.{Out, got, no, times, repeat}
 use Rattle.paper.specs.Lists.{flat, fold, all}
@@ -18,7 +18,7 @@ use Rattle.laws.specs.Lines.{pair-says, string-kept}
 use Rattle.laws.specs.Values.{repeat-kept}
 use Rattle.laws.specs.Built.{entries-kept}
 use Rattle.laws.specs.Hexed.{hexed, Spelt, each-back, stringsRules-hexed, withStrings-hexed, kindsStand-hexed, dues-hexed, afterFront-hexed, spelt-strings}
-use Rattle.table.specs.View.{view, said, Said, strsOf, fldsOf, logOf, duesOf, chunksOf, Holds}
+use Rattle.table.specs.View.{view, said, Said, strsOf, fldsOf, logOf, duesOf, chunksOf, Holds, stringsIn, fieldsIn, blockIn}
 use Rattle.reader.specs.Counting.{Keys}
 use Rattle.reader.specs.Sound.{Sound}
 use Rattle.reader.specs.Strings.{addStrings}
@@ -41,7 +41,7 @@ pub record PairAsks (t l : List ℕ) (at : ℕ) : Type 0 where
   pub steady : Steady t l
   pub bytes : Bytes t
   pub inside : at ≤ length t
-  pub block : getD l 6 0 < 32
+  pub block : blockIn l < 32
 
 -- in state s a front was read, of m entries from `from` up to `to`, and the table l became l′
 pub record Fronted (t l : List ℕ) (s : State) (at m from to : ℕ) (l′ : List ℕ) : Type 0 where
@@ -52,7 +52,7 @@ pub record Fronted (t l : List ℕ) (s : State) (at m from to : ℕ) (l′ : Lis
   pub many : length entries ≡ m
   pub small : all bytes? strings ≡ true
   pub few : length (flat (λ x. x) strings) < 4294967296
-  pub spelt : drop (getD l 0 0) (strsOf t l′) ≡ map hex strings
+  pub spelt : drop (stringsIn l) (strsOf t l′) ≡ map hex strings
   pub state : view t l′ ≡ hexed (afterFront s strings entries)
   pub due : duesOf l′ ≡ map unsized (dues (withStrings s strings) entries)
   pub chunks : chunksOf l′ ≡ chunksOf l
@@ -60,7 +60,7 @@ pub record Fronted (t l : List ℕ) (s : State) (at m from to : ℕ) (l′ : Lis
   pub sound : Sound (said t l′)
   pub low : Low 0 (logOf l′)
   pub listed : Listed (fldsOf l′)
-  pub past : Keys blockOfRange (getD l′ 6 0 + 1) (logOf l′)
+  pub past : Keys blockOfRange (blockIn l′ + 1) (logOf l′)
   pub begins : at ≤ length t
   pub inside : to ≤ length t
 
@@ -126,30 +126,30 @@ module _ {t l : List ℕ} {at : ℕ} (A : PairAsks t l at) (s : State) (S : Spel
         state-is : view t l₂ ≡ hexed (afterFront s ss es)
         state-is = ap (λ (g : Said). g .state) says ∙ unhexed
 
-        stood : {b : Bool} → AllStand l₂ (getD l 2 0) b → b ≡ kindsStand? (afterFront s ss es) es
+        stood : {b : Bool} → AllStand l₂ (fieldsIn l) b → b ≡ kindsStand? (afterFront s ss es) es
         unfolding hexed
         stood T =
             let back : afterFront (hexed s) (map hex ss) es ≡ view t l₂ = afterFront-hexed s S ss (each-back ss (D .small)) es ∙ sym state-is in
-            let count : getD l 2 0 ≡ length (hexed s .fields) = sym (A .steady .holds .ok .flds-count) ∙ ap (λ (u : State). length (u .fields)) is in
-            let told : all (stands? (view t l₂)) (drop (getD l 2 0) (fldsOf l₂)) ≡ kindsStand? (view t l₂) es =
+            let count : fieldsIn l ≡ length (hexed s .fields) = sym (A .steady .holds .ok .flds-count) ∙ ap (λ (u : State). length (u .fields)) is in
+            let told : all (stands? (view t l₂)) (drop (fieldsIn l) (fldsOf l₂)) ≡ kindsStand? (view t l₂) es =
             rw count (subst (λ (u : State). all (stands? u) (drop (length (hexed s .fields)) (u .fields)) ≡ kindsStand? u es) back (new-fields-stand (hexed s) (map hex ss) es)) in
             T .says t H ∙ told ∙ ap (λ (u : State). kindsStand? u es) state-is ∙ kindsStand-hexed (afterFront s ss es) es
 
-        pub fronted-no-kinds : AllStand l₂ (getD l 2 0) false → pairText s t at ≡ no 20 0
+        pub fronted-no-kinds : AllStand l₂ (fieldsIn l) false → pairText s t at ≡ no 20 0
         fronted-no-kinds T = pair-no-kinds s t at h₁ h₂ (D .reads) read (sym (stood T))
 
-        pub fronted : AllStand l₂ (getD l 2 0) true → Sound (said t l₂) → Fronted t l s at m e₂ e₃ l₂
+        pub fronted : AllStand l₂ (fieldsIn l) true → Sound (said t l₂) → Fronted t l s at m e₂ e₃ l₂
         unfolding hexed afterFront withStrings addStrings
         fronted T sound =
             let K = entries-kept m (withStrings s ss) .at t e₂ es e₃ (A .bytes) in₂ read in
             let kept = K .said .2 in
             let log : logOf l₂ ≡ afterFront s ss es .log = ap (λ (u : State). u .log) state-is in
             let flds : fldsOf l₂ ≡ afterFront s ss es .fields = ap (λ (u : State). u .fields) state-is in
-            let block : getD l₂ 6 0 ≡ s .block = ap (λ (u : State). u .block) state-is ∙ front-block s ss es in
+            let block : blockIn l₂ ≡ s .block = ap (λ (u : State). u .block) state-is ∙ front-block s ss es in
             let low : Low 0 (s .log) = subst (λ (u : State). Low 0 (u .log)) is (A .steady .low) in
             let listed : Listed (s .fields) = subst (λ (u : State). Listed (u .fields)) is (A .steady .listed) in
             let past : Keys blockOfRange (s .block) (s .log) = subst (λ (u : State). Keys blockOfRange (u .block) (u .log)) is (A .steady .between .past) in
-            let count : getD l 0 0 ≡ length (map hex (s .strings)) = sym (A .steady .holds .strs-count) ∙ ap (λ (u : State). length (u .strings)) is in
+            let count : stringsIn l ≡ length (map hex (s .strings)) = sym (A .steady .holds .strs-count) ∙ ap (λ (u : State). length (u .strings)) is in
             let strings : strsOf t l₂ ≡ map hex (s .strings) ++ map hex ss =
             ap (λ (u : State). u .strings) state-is ∙ ap (map hex) (entries-strings es (withStrings s ss)) ∙ map-append hex (s .strings) ss in
             record {

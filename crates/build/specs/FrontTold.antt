@@ -7,7 +7,7 @@ use native.Mathlib.Omega.{arith}
 use native.Mathlib.Decide.{decLe}
 use native.Mathlib.Nat.{lt-of-not-le}
 use lib.Dec.{leb, ltb}
-use lib.ListN.{length, getD}
+use lib.ListN.{length}
 use borrow.Author.Tests.{leb-true, le-leb, lt-leb, lt-ltb}
 use Rattle.paper.specs.Reader.{Out, got, no as bad, times, repeat}
 use Rattle.paper.specs.Bounds.{mostStrings, mostObjects}
@@ -17,7 +17,7 @@ use Rattle.paper.specs.Keeps.{hold?, number?}
 use Rattle.paper.specs.Scan.{readPair, readString, entryText, pairText}
 use Rattle.laws.specs.Bools.{number-split, and-split}
 use Rattle.laws.specs.Hexed.{hexed, Spelt}
-use Rattle.table.specs.View.{view, said, Said, Holds}
+use Rattle.table.specs.View.{view, said, Said, Holds, stringsIn, fieldsIn}
 use Rattle.reader.specs.Sound.{Sound}
 use Rattle.reader.specs.EntryLaws.{strings-sound}
 use Rattle.walk.specs.Blocks.{begins}
@@ -54,9 +54,9 @@ number-small m h = rw (lt-ltb m (256 ^ 8) (omega arith)) (go (leb m mostObjects)
     go true = refl
     go false = refl
 
-few-is : {f l : List ℕ} → Holds f l → (n m : ℕ) → n < 2 ^ 64 → m < 2 ^ 64 → {k : ℕ} → k ≡ getD l 0 0 → (leb n (1024 - k) && leb m 65535) ≡ (number? (stringsRules (view f l)) n && number? smallRules m)
+few-is : {f l : List ℕ} → Holds f l → (n m : ℕ) → n < 2 ^ 64 → m < 2 ^ 64 → {k : ℕ} → k ≡ stringsIn l → (leb n (1024 - k) && leb m 65535) ≡ (number? (stringsRules (view f l)) n && number? smallRules m)
 unfolding number? stringsRules hold?
-few-is {f} {l} h n m a b {k} is = rw (← number-small m b, lt-ltb n (256 ^ 8) (omega arith), h .strs-count, is) (ap (λ (x : Bool). x && leb m 65535) (same (getD l 0 0) (h .ok .strs-fit)))
+few-is {f} {l} h n m a b {k} is = rw (← number-small m b, lt-ltb n (256 ^ 8) (omega arith), h .strs-count, is) (ap (λ (x : Bool). x && leb m 65535) (same (stringsIn l) (h .ok .strs-fit)))
   where
     same : (c : ℕ) → c ≤ 1024 → leb n (1024 - c) ≡ (leb (c + n) mostStrings && true)
     same c fit = elim (decLe n (1024 - c)) [
@@ -64,14 +64,14 @@ few-is {f} {l} h n m a b {k} is = rw (← number-small m b, lt-ltb n (256 ^ 8) (
       | no d ↦ (let gt = lt-of-not-le d in rw (lt-leb n (1024 - c) gt, lt-leb (c + n) 1024 (omega arith)))
     ]
 
-module _ {f l : List ℕ} (h : Holds f l) (n m : ℕ) (a : n < 2 ^ 64) (b : m < 2 ^ 64) {k : ℕ} (is : k ≡ getD l 0 0) where
+module _ {f l : List ℕ} (h : Holds f l) (n m : ℕ) (a : n < 2 ^ 64) (b : m < 2 ^ 64) {k : ℕ} (is : k ≡ stringsIn l) where
   pub few-yes : n ≤ 1024 - k → leb m 65535 ≡ (number? (stringsRules (view f l)) n && number? smallRules m)
   few-yes le = sym (rw (le-leb n (1024 - k) le)) ∙ few-is h n m a b is
 
   pub few-no : 1024 - k < n → leb n (1024 - k) ≡ (number? (stringsRules (view f l)) n && number? smallRules m)
   few-no lt = rw (lt-leb n (1024 - k) lt) (sym (rw (lt-leb n (1024 - k) lt)) ∙ few-is h n m a b is)
 
-pub strings-room : {f l : List ℕ} → Holds f l → (n m : ℕ) → (number? (stringsRules (view f l)) n && number? smallRules m) ≡ true → getD l 0 0 + n ≤ 1024
+pub strings-room : {f l : List ℕ} → Holds f l → (n m : ℕ) → (number? (stringsRules (view f l)) n && number? smallRules m) ≡ true → stringsIn l + n ≤ 1024
 unfolding stringsRules
 strings-room {f} {l} h n m q =
     let N = number-split (stringsRules (view f l)) n (and-split (number? (stringsRules (view f l)) n) (number? smallRules m) q .0) .1 in
@@ -100,7 +100,7 @@ module _ {t l : List ℕ} {at : ℕ} (A : PairAsks t l at) {a : PairLine} (read 
       front-many no? = record { told = λ s S q. pair-many s t at h₁ (sym (few-hexed A s S q n m (judged t (A .steady .holds))) ∙ was-false b no?) }
 
       module _ (yes? : not b ≡ false) where
-        pub front-room : getD l 0 0 + n ≤ 1024
+        pub front-room : stringsIn l + n ≤ 1024
         front-room = strings-room (A .steady .holds) n m (sym (judged t (A .steady .holds)) ∙ was-true b yes?)
 
         h₂ : (s : State) → Spelt s → view t l ≡ hexed s → (number? (stringsRules s) n && number? smallRules m) ≡ true
@@ -129,7 +129,7 @@ module _ {t l : List ℕ} {at : ℕ} (A : PairAsks t l at) {a : PairLine} (read 
                 listed : EntriesRead t l₁ m (from .at) l₂ (values .at)
                 listed = (rw to₂ at E) .says
 
-                module _ {known : ℕ} (was : known ≡ getD l 2 0) {c : Bool} (T : AllStand l₂ known c) where
+                module _ {known : ℕ} (was : known ≡ fieldsIn l) {c : Bool} (T : AllStand l₂ known c) where
                   pub front-no-kinds : not c ≡ true → FrontTold t l at Bad l₂
                   front-no-kinds no? =
                       let none = rw (was, was-false c no?) at T in

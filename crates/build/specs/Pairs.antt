@@ -6,7 +6,7 @@ use mathlib.Core.Option.{Option, none, some}
 use Prim.Native.Nat.{ℕ, zero, suc, _+_, _-_, _≤_, _<_}
 use native.Mathlib.Omega.{arith}
 use lib.Dec.{leb}
-use lib.ListN.{length, getD, length-append}
+use lib.ListN.{length, length-append}
 use borrow.Author.Tests.{le-leb, lt-leb}
 use Rattle.paper.specs.Reader.{if_then_else_, Reader, Out, got, no, andThen, _>>=_, give, unlessEnd, toEnd}
 use Rattle.paper.specs.Bounds.{mostBytes, mostPairs}
@@ -18,7 +18,7 @@ use Rattle.paper.specs.Scan.{bad, pairText, scan, short, fileOf}
 use Rattle.lay.specs.Laid.{most, Laid, laid-none, laid-then, laid-as}
 use Rattle.laws.specs.Says.{Bytes}
 use Rattle.laws.specs.Hexed.{hexed, Spelt, spelt-nothing, nothing-hexed}
-use Rattle.table.specs.View.{view, Holds}
+use Rattle.table.specs.View.{view, Holds, blockIn}
 use Rattle.walk.specs.PairLaws.{Steady}
 use Rattle.texts.specs.declared.Taken.{Taken}
 use Rattle.texts.specs.declared.TextRead.{TextRead}
@@ -41,7 +41,7 @@ pub record Built (s : State) (t l : List ℕ) (from : ℕ) (out : List ℕ) (at 
   pub steady : Steady t l′
   pub spelt : Spelt (afterPair s pair)
   pub says : view t l′ ≡ hexed (afterPair s pair)
-  pub block : getD l′ 6 0 ≡ getD l 6 0 + 1
+  pub block : blockIn l′ ≡ blockIn l + 1
 
 abbrev pub builtBy : State → List ℕ → List ℕ → ℕ → List ℕ → ℕ → List ℕ → TextRead → List ℕ → Type 0
 builtBy s t l from out at m (Got k) l′ = Built s t l from out at m k l′
@@ -112,7 +112,7 @@ pub record PairsGoing (t l₀ : List ℕ) (out : List ℕ) (at : ℕ) (l : List 
   pub spelt : Spelt (fold afterPair nothing done)
   pub says : view t l ≡ hexed (fold afterPair nothing done)
   pub inside : from ≤ length t
-  pub block : getD l 6 0 + left ≡ 32
+  pub block : blockIn l + left ≡ 32
   pub long : length l ≡ length l₀
   pub room : length m ≡ length out
 
@@ -137,7 +137,7 @@ alone (no n p) = refl
 pub pairs-begin : {t l : List ℕ} → TextReady t l → (out : List ℕ) (at : ℕ) → length out ≤ most → at ≤ most → PairsGoing t l out at l 32 out 0 at
 unfolding scan putPairs fold nothing
 pairs-begin {t} {l} R out at h k =
-    let block : getD l 6 0 ≡ 0 = ap (λ (u : State). u .block) (R .none) in
+    let block : blockIn l ≡ 0 = ap (λ (u : State). u .block) (R .none) in
     record {
       done = [];
       reads = alone (toEnd 32 bad pairText afterPair nothing t 0);

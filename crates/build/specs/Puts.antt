@@ -4,7 +4,7 @@ use mathlib.Core.Bool.{true}
 use mathlib.Core.List.{List, [], _∷_, _++_, map}
 use Prim.Native.Nat.{ℕ, zero, suc, _+_, _-_, _^_, _≤_, _<_, min}
 use native.Mathlib.Omega.{arith}
-use lib.ListN.{length, getD, drop}
+use lib.ListN.{length, drop}
 use Rattle.paper.specs.Reader.{got, no, times}
 use Rattle.paper.specs.Numbers.{put}
 use Rattle.paper.specs.Lists.{flat, all}
@@ -16,7 +16,7 @@ use Rattle.paper.specs.Keeps.{bytes?}
 use Rattle.paper.specs.Scan.{entryText}
 use Rattle.lay.specs.Laid.{most, Laid, laid-then}
 use Rattle.laws.specs.Hexed.{hexed, Spelt}
-use Rattle.table.specs.View.{view, strsOf, duesOf, Holds}
+use Rattle.table.specs.View.{view, strsOf, duesOf, Holds, stringsIn}
 use Rattle.table.specs.Counts.{Next}
 use Rattle.walk.specs.Region.{sizes}
 use Rattle.texts.specs.declared.Taken.{Taken}
@@ -85,7 +85,7 @@ module _ {t l : List ℕ} {at : ℕ} (A : PairAsks t l at) {a : FrontRead} {l₁
           pair-long h = record { told = λ s S q. built-long S (fronted s S q) R to size h }
 
           pub pair-done :
-              n ≤ 1048576 → {from : ℕ} → from ≡ getD l 0 0 → {out m₁ m : List ℕ} {p p₁ r : ℕ} → FrontLays t x l₂ from out p m₁ p₁ → RegionLays t (x .values .at) l₂ n m₁ p₁ m r
+              n ≤ 1048576 → {from : ℕ} → from ≡ stringsIn l → {out m₁ m : List ℕ} {p p₁ r : ℕ} → FrontLays t x l₂ from out p m₁ p₁ → RegionLays t (x .values .at) l₂ n m₁ p₁ m r
               → {l₃ : List ℕ} → Next l₂ l₃ → PairBuilt t l at out p m (read.Got (record { next = next; at = r })) l₃
           pair-done le {from} first {out} {m₁} {m} {p} {p₁} {r} L R₂ {l₃} N = record { told = λ s S q. built s S q }
             where
@@ -96,7 +96,7 @@ module _ {t l : List ℕ} {at : ℕ} (A : PairAsks t l at) {a : FrontRead} {l₁
                   pair-built S F R to size le N refl (pair-inside S F R to (A .bytes)) q (pair-laid S F R to size le front (values F R₂))
                 where
                   spelt-same : (F : Fronted t l s at (x .entries) (x .from .at) (x .values .at) l₁) → drop from (strsOf t l₂) ≡ map hex (F .strings)
-                  spelt-same F = rw first (ap (λ (u : State). drop (getD l 0 0) (u .strings)) (Rattle.regions.specs.After.same-view (R .sized next to)) ∙ F .spelt)
+                  spelt-same F = rw first (ap (λ (u : State). drop (stringsIn l) (u .strings)) (Rattle.regions.specs.After.same-view (R .sized next to)) ∙ F .spelt)
 
                   values : (F : Fronted t l s at (x .entries) (x .from .at) (x .values .at) l₁) → RegionLays t (x .values .at) l₂ n m₁ p₁ m r → Laid m₁ p₁ (flat (λ b. b) (putChunks (afterFront s (F .strings) (F .entries)) (dues (withStrings s (F .strings)) (F .entries)) (sized S F R to .chunks))) m r
                   values F (counted none same is) = rw same (region-counted S F R to size le m₁ none is)

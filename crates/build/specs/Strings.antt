@@ -4,7 +4,7 @@ use mathlib.Core.Bool.{Bool, true, false, _&&_}
 use mathlib.Core.List.{List, [], _∷_, _++_, map, map-append, append-assoc, append-nil}
 use Prim.Native.Nat.{ℕ, zero, suc, _+_, _-_, _≤_, _<_}
 use native.Mathlib.Omega.{arith}
-use lib.ListN.{length, getD}
+use lib.ListN.{length}
 use lib.Seq.{slice}
 use Rattle.paper.specs.Reader.{Reader, Out, got, no, andThen, repeat}
 use Rattle.paper.specs.Lists.{all}
@@ -13,7 +13,7 @@ use Rattle.paper.specs.Keeps.{bytes?}
 use Rattle.paper.specs.Rules.{withStrings}
 use Rattle.paper.specs.Scan.{readString}
 use Rattle.laws.specs.Bools.{and-split, and-join}
-use Rattle.table.specs.View.{view, said, Said, Holds, Now}
+use Rattle.table.specs.View.{view, said, Said, Holds, Now, stringsIn}
 use Rattle.table.specs.Adds.{addString}
 use Rattle.table.specs.Pushes.{Pushed}
 use Rattle.table.specs.ViewLaws.{pushed-string}
@@ -46,7 +46,7 @@ pub record StringsTold (t l : List ℕ) (n at : ℕ) (r : Step) (l′ : List ℕ
 pub record Stringing (t l₀ : List ℕ) (n at₀ : ℕ) (l : List ℕ) (rest at : ℕ) : Type 0 where
   pub holds : Holds t l
   pub long : length l ≡ length l₀
-  pub room : getD l 0 0 + rest ≤ 1024
+  pub room : stringsIn l + rest ≤ 1024
   pub done : List (List ℕ)
   pub reads : repeat n readString t at₀ ≡ andThen (repeat rest readString t at) (λ more q. got (done ++ more) q)
   pub small : all bytes? done ≡ true
@@ -69,7 +69,7 @@ unfolding all
 all-snoc [] x h k = rw k
 all-snoc (y ∷ done) x h k = let (a, b) = and-split (bytes? y) (all bytes? done) h in and-join a (all-snoc done x b k)
 
-pub stringing-start : {t l : List ℕ} → Holds t l → {n : ℕ} → getD l 0 0 + n ≤ 1024 → (at : ℕ) → Stringing t l n at l n at
+pub stringing-start : {t l : List ℕ} → Holds t l → {n : ℕ} → stringsIn l + n ≤ 1024 → (at : ℕ) → Stringing t l n at l n at
 unfolding all
 stringing-start {t} {l} h {n} room at =
     record { holds = h; long = refl; room = room; done = []; reads = alone (repeat n readString t at); small = refl; says = none-added (said t l) }

@@ -1,7 +1,6 @@
 // The strings of a listed pair. Their hex digits stay in the text, and the table keeps where they stand.
 ghost use Prim.Native.Nat.{_+_, _≤_};
-ghost use lib.ListN.{getD};
-ghost use Rattle.table.specs.View.{Holds};
+ghost use Rattle.table.specs.View.{Holds, stringsIn};
 ghost use Rattle.build.specs.Strings.{StringsTold};
 use parse::StringLine;
 use parse::string_line;
@@ -12,7 +11,7 @@ use words::read::Step;
 // The lines of n strings.
 pub fn strings_text(text: &[u8], p: Place, n: u64, work: &mut [u32]) -> Step
     requires { ⌜ Holds (now text) (now work) ⌝ }
-    requires { ⌜ getD (now work) 0 0 + n ≤ 1024 ⌝ }
+    requires { ⌜ stringsIn (now work) + n ≤ 1024 ⌝ }
     ensures { λ r. ⌜ StringsTold (now (text .entry)) (now (work .entry)) n (p .at) r (now (work .exit)) ⌝ }
 {
     let mut at = p.at;

@@ -9,7 +9,7 @@ use lib.ListN.{length, getD, drop, drop-of-length-le}
 use lib.Seq.{drop-cons}
 use Rattle.paper.specs.Ledger.{Due}
 use Rattle.paper.specs.Encode.{endsFrom}
-use Rattle.table.specs.View.{duesOf, Ok}
+use Rattle.table.specs.View.{duesOf, Ok, duesIn}
 use Rattle.table.specs.Answers.{dueIn, noDue}
 use Rattle.table.specs.declared.rows.DueRow.{DueRow}
 use Rattle.fronts.specs.declared.Ends.{Ends}
@@ -59,7 +59,7 @@ pub record NextEnd (l : List ℕ) (e r : Ends) : Type 0 where
 -- ── the ways out of `next_end` ──
 
 module _ (l : List ℕ) (e : Ends) (ok : Ok l) where
-  pub none-left : getD l 4 0 ≤ e .row → NextEnd l e e
+  pub none-left : duesIn l ≤ e .row → NextEnd l e e
   unfolding left endsBehind
   none-left h =
       record {
@@ -71,7 +71,7 @@ module _ (l : List ℕ) (e : Ends) (ok : Ok l) where
             absurd (omega arith);
       }
 
-  module _ (lt : e .row < getD l 4 0) {d : DueRow} (row : dueIn d ≡ getD (duesOf l) (e .row) noDue) where
+  module _ (lt : e .row < duesIn l) {d : DueRow} (row : dueIn d ≡ getD (duesOf l) (e .row) noDue) where
     first-left : drop (e .row) (duesOf l) ≡ dueIn d ∷ drop (e .row + 1) (duesOf l)
     first-left = drop-cons (duesOf l) (e .row) noDue (omega (arith, ok .dues-count)) ∙ rw (add-one, row) refl
 

@@ -4,7 +4,7 @@ use mathlib.Core.Bool.{true, false}
 use mathlib.Core.List.{List, [], _∷_, _++_, map, append-assoc, append-nil, map-append}
 use Prim.Native.Nat.{ℕ, suc, _+_, _-_, _≤_}
 use native.Mathlib.Omega.{arith}
-use lib.ListN.{length, getD, length-append}
+use lib.ListN.{length, length-append}
 use borrow.Author.Tests.{leb-true}
 use Rattle.paper.specs.Reader.{if_then_else_, Out, got, no, andThen, turned, _>>=_, _>>_, times, repeat}
 use Rattle.paper.specs.Lists.{fold, total}
@@ -19,7 +19,7 @@ use Rattle.words.specs.declared.read.Place.{Place}
 use Rattle.words.specs.declared.read.Step.{Step}
 use Rattle.words.specs.declared.read.Step.the-variants.{To, Bad}
 use Rattle.values.specs.Pass.{forget}
-use Rattle.table.specs.View.{fldsOf, logOf, view, Holds, Said, said, Now}
+use Rattle.table.specs.View.{fldsOf, logOf, view, Holds, Said, said, Now, fieldsIn}
 use Rattle.reader.specs.Sound.{Sound, Open}
 use Rattle.reader.specs.Fields.{oldsOf, addNew}
 use Rattle.judge.specs.Fields.{unsized, addOlds, OldsTold, addText, newsStep, fieldsText, addFields, fieldsStep, Stepped}
@@ -78,7 +78,7 @@ module _ (t added n : ℕ) (s : Said) (f : List ℕ) (at : ℕ) where
 
 -- ── the ways out ──
 
-pub count-held : {f l : List ℕ} → Holds f l → (known : ℕ) {n : ℕ} → number? (fieldCountRules (view f l) known) n ≡ true → (getD l 2 0 + (n - known) ≤ 128) × (known ≤ n)
+pub count-held : {f l : List ℕ} → Holds f l → (known : ℕ) {n : ℕ} → number? (fieldCountRules (view f l) known) n ≡ true → (fieldsIn l + (n - known) ≤ 128) × (known ≤ n)
 unfolding fieldCountRules
 count-held {f} {l} h known {n} k =
     let H = number-split (fieldCountRules (view f l) known) n k .1 in
@@ -87,7 +87,7 @@ count-held {f} {l} h known {n} k =
 -- after the known ones there is room for the new ones
 pub news-ready :
     {f l : List ℕ} → Holds f l → {t added : ℕ} (n known : ℕ) → number? (fieldCountRules (view f l) known) n ≡ true → Open (said f l) t 0 → {l₁ : List ℕ} → OldsTold t added l l₁
-    → Holds f l₁ × (Open (said f l₁) t (length (fldsOf l₁)) × (getD l₁ 2 0 + (n - known) ≤ 128))
+    → Holds f l₁ × (Open (said f l₁) t (length (fldsOf l₁)) × (fieldsIn l₁ + (n - known) ≤ 128))
 unfolding addOlds
 news-ready {f} {l} h {t} {added} n known kept o {l₁} due =
     let D = due .says f h o in

@@ -10,7 +10,7 @@ use borrow.Author.Tests.{eq-eqb, ne-eqb}
 use Rattle.paper.specs.Reader.{if_then_else_}
 use Rattle.paper.specs.Ledger.{State, Field, noField, fieldAt, owns?}
 use Rattle.paper.specs.Rules.{valuesDue, oldDue}
-use Rattle.table.specs.View.{fldsOf, view, Holds, Said, said}
+use Rattle.table.specs.View.{fldsOf, view, Holds, Said, said, fieldsIn, duesIn}
 use Rattle.table.specs.Adds.{addDue}
 use Rattle.table.specs.Packed.{dueCells}
 use Rattle.table.specs.Pushes.{Pushed}
@@ -23,7 +23,7 @@ use Rattle.judge.specs.Fields.{unsized, addOld, oldStep, addOlds, Ready,
 
 -- ── field i ──
 
-module _ (l : List ℕ) {t i : ℕ} (lt : i < getD l 2 0) {d : Field} (is : d ≡ getD (fldsOf l) i noField) (added : ℕ) where
+module _ (l : List ℕ) {t i : ℕ} (lt : i < fieldsIn l) {d : Field} (is : d ≡ getD (fldsOf l) i noField) (added : ℕ) where
   -- it is of another type
   pub old-other : (d .owner ≡ t → ⊥) → OldTold t i added l l
   unfolding oldStep owns? fieldAt if_then_else_
@@ -35,10 +35,10 @@ module _ (l : List ℕ) {t i : ℕ} (lt : i < getD l 2 0) {d : Field} (is : d �
     unfolding fieldAt
     owner-is f = rw (← is) mine
 
-    room-over : (f : List ℕ) → Holds f l → Open (said f l) t i → getD l 4 0 < 128
+    room-over : (f : List ℕ) → Holds f l → Open (said f l) t i → duesIn l < 128
     room-over f h o = omega (arith, h .ok .dues-count, old-room o i (le-refl i) (omega (arith, h .ok .flds-count)) (owner-is f))
 
-    pub old-has-room : Ready l t i → getD l 4 0 < 128
+    pub old-has-room : Ready l t i → duesIn l < 128
     old-has-room r = room-over (r .names) (r .holds) (r .still-open)
 
     module _ {v : ℕ} (v-is : v ≡ valuesDue (d .kind) added) {l′ : List ℕ} (p : Pushed 4 7312 4 (dueCells i v 0) l l′) where
@@ -99,7 +99,7 @@ pub record Left (f l₀ l : List ℕ) (t added i : ℕ) : Type 0 where
 
 pub record DuesGoing (l₀ l : List ℕ) (t added n i : ℕ) : Type 0 where
   pub ready : Ready l t i
-  pub fields : getD l 2 0 ≡ n
+  pub fields : fieldsIn l ≡ n
   pub fewer : i ≤ n
   pub long : length l ≡ length l₀
   pub says : (f : List ℕ) → Holds f l₀ → Open (said f l₀) t 0 → Left f l₀ l t added i
@@ -114,7 +114,7 @@ dues-skip {l} t {added} none =
       };
     }
 
-pub dues-begin : {l : List ℕ} {t : ℕ} → Ready l t 0 → {added : ℕ} → (added ≡ 0 → ⊥) → {n : ℕ} → n ≡ getD l 2 0 → DuesGoing l l t added n 0
+pub dues-begin : {l : List ℕ} {t : ℕ} → Ready l t 0 → {added : ℕ} → (added ≡ 0 → ⊥) → {n : ℕ} → n ≡ fieldsIn l → DuesGoing l l t added n 0
 dues-begin {l} {t} ready {added} some n-is =
     record {
       ready = ready;

@@ -4,7 +4,7 @@ use mathlib.Core.Bool.{Bool, true, false, _&&_}
 use mathlib.Core.List.{List, [], _∷_}
 use Prim.Native.Nat.{ℕ, _+_, _-_, _≤_, _<_}
 use native.Mathlib.Omega.{arith}
-use lib.ListN.{length, getD, length-append}
+use lib.ListN.{length, length-append}
 use borrow.Author.Tests.{leb-true}
 use Rattle.paper.specs.Reader.{if_then_else_, Out, got, no, andThen, turned, _>>=_, _>>_, give, times}
 use Rattle.paper.specs.Lists.{fold}
@@ -16,7 +16,7 @@ use Rattle.laws.specs.Bools.{and-split, number-split}
 use Rattle.words.specs.declared.read.Place.{Place}
 use Rattle.words.specs.declared.read.Step.{Step}
 use Rattle.words.specs.declared.read.Step.the-variants.{To, Bad}
-use Rattle.table.specs.View.{kindFrom, strsOf, fldsOf, view, Holds, Said, said}
+use Rattle.table.specs.View.{kindFrom, strsOf, fldsOf, view, Holds, Said, said, stringsIn, fieldsIn}
 use Rattle.parse.specs.declared.NewLine.{NewLine}
 use Rattle.parse.specs.declared.NewRead.{NewRead}
 use Rattle.parse.specs.declared.NewRead.the-variants as new
@@ -29,7 +29,7 @@ use Rattle.reader.specs.NewRows.{open-due}
 use Rattle.judge.specs.Fields.{addText, newStep, newsStep, outSaid, Stepped}
 
 -- a name that keeps its rules is a string's number
-pub name-held : {f l : List ℕ} → Holds f l → (t : ℕ) {n : ℕ} → number? (fieldNameRules t (view f l)) n ≡ true → (1 ≤ n) × (n ≤ getD l 0 0)
+pub name-held : {f l : List ℕ} → Holds f l → (t : ℕ) {n : ℕ} → number? (fieldNameRules t (view f l)) n ≡ true → (1 ≤ n) × (n ≤ stringsIn l)
 unfolding fieldNameRules aString?
 name-held {f} {l} h t {n} k =
     let H = and-split _ _ (number-split (fieldNameRules t (view f l)) n k .1 .0) in
@@ -97,7 +97,7 @@ module _ {f l : List ℕ} (h : Holds f l) (t n : ℕ) {at : ℕ} {a : NewRead} (
       unfolding addText read
       now-says = added .says f h .says
 
-      pub new-got : {i : ℕ} → Open (said f l) t i → getD l 2 0 < 128 → Stepped f l′ t (To c) (newStep t n (said f l) f at)
+      pub new-got : {i : ℕ} → Open (said f l) t i → fieldsIn l < 128 → Stepped f l′ t (To c) (newStep t n (said f l) f at)
       unfolding read
       new-got o room =
           let more : length (fldsOf l′) ≡ length (fldsOf l) + 1 = ap (λ (s : Said). length (s .state .fields)) now-says ∙ fields-more t n (said f l) read in
@@ -142,11 +142,11 @@ module _ (t n : ℕ) (f : List ℕ) where
 pub record NewsGoing (f l₀ l : List ℕ) (t n at₀ all rest at : ℕ) : Type 0 where
   pub holds : Holds f l
   pub still-open : Open (said f l) t (length (fldsOf l))
-  pub room : getD l 2 0 + rest ≤ 128
+  pub room : fieldsIn l + rest ≤ 128
   pub long : length l ≡ length l₀
   pub says : newsStep t n all (said f l₀) f at₀ ≡ newsStep t n rest (said f l) f at
 
-pub news-begin : {f l : List ℕ} → Holds f l → {t : ℕ} → Open (said f l) t (length (fldsOf l)) → {all : ℕ} → getD l 2 0 + all ≤ 128 → (n at : ℕ) → NewsGoing f l l t n at all all at
+pub news-begin : {f l : List ℕ} → Holds f l → {t : ℕ} → Open (said f l) t (length (fldsOf l)) → {all : ℕ} → fieldsIn l + all ≤ 128 → (n at : ℕ) → NewsGoing f l l t n at all all at
 news-begin h o room n at = record { holds = h; still-open = o; room = room; long = refl; says = refl }
 
 module _ {f l₀ l : List ℕ} {t n at₀ all rest at : ℕ} (g : NewsGoing f l₀ l t n at₀ all rest at) where

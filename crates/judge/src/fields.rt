@@ -1,8 +1,8 @@
 // The fields of an entry, from the lines of a listing: the known ones and then new ones, held to the rules of a file and
 // entered in the table. Their chunks are due, and have no size yet.
 ghost use Prim.Native.Nat.{_+_, _<_, _≤_};
-ghost use lib.ListN.{length, getD};
-ghost use Rattle.table.specs.View.{fldsOf, Holds, said};
+ghost use lib.ListN.{length};
+ghost use Rattle.table.specs.View.{fldsOf, Holds, said, fieldsIn};
 ghost use Rattle.reader.specs.Sound.{Open};
 ghost use Rattle.judge.specs.Fields.{Ready, OldTold, OldsTold, newStep, newsStep, fieldsStep, Stepped};
 use numbers::Cursor;
@@ -23,7 +23,7 @@ use words::read::Step;
 // The chunk of field i, where it is a known one of type t: it has a value for each object that is added.
 fn due_if_known(work: &mut [u32], t: u32, i: u32, added: u32)
     requires { ⌜ Ready (now work) t i ⌝ }
-    requires { ⌜ i < getD (now work) 2 0 ⌝ }
+    requires { ⌜ i < fieldsIn (now work) ⌝ }
     ensures { λ _. ⌜ OldTold t i added (now (work .entry)) (now (work .exit)) ⌝ }
 {
     let row = table::rows::field_at(work, i);
@@ -54,7 +54,7 @@ fn known_due(work: &mut [u32], t: u32, added: u32)
 fn new_text(text: &[u8], p: Place, work: &mut [u32], t: u32, objects: u32) -> Step
     requires { ⌜ Holds (now text) (now work) ⌝ }
     requires { ⌜ Open (said (now text) (now work)) t (length (fldsOf (now work))) ⌝ }
-    requires { ⌜ getD (now work) 2 0 < 128 ⌝ }
+    requires { ⌜ fieldsIn (now work) < 128 ⌝ }
     ensures { λ r. ⌜ Stepped (now (text .entry)) (now (work .exit)) t r (newStep t objects (said (now (text .entry)) (now (work .entry))) (now (text .entry)) (p .at)) ⌝ }
 {
     let r = new_line(text, p);
@@ -79,7 +79,7 @@ fn new_text(text: &[u8], p: Place, work: &mut [u32], t: u32, objects: u32) -> St
 fn news_text(text: &[u8], p: Place, work: &mut [u32], t: u32, objects: u32, count: u64) -> Step
     requires { ⌜ Holds (now text) (now work) ⌝ }
     requires { ⌜ Open (said (now text) (now work)) t (length (fldsOf (now work))) ⌝ }
-    requires { ⌜ getD (now work) 2 0 + count ≤ 128 ⌝ }
+    requires { ⌜ fieldsIn (now work) + count ≤ 128 ⌝ }
     ensures { λ r. ⌜ Stepped (now (text .entry)) (now (work .exit)) t r (newsStep t objects count (said (now (text .entry)) (now (work .entry))) (now (text .entry)) (p .at)) ⌝ }
 {
     let mut at = p.at;

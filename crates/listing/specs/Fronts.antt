@@ -5,7 +5,7 @@ use mathlib.Core.List.{List, [], _∷_, _++_, map}
 use Prim.Native.Nat.{ℕ, _+_, _-_, _≤_, _<_}
 use native.Mathlib.Omega.{arith}
 use native.Mathlib.Numerals.{add-one}
-use lib.ListN.{length, getD, take, drop, length-append, length-map, drop-of-length-le}
+use lib.ListN.{length, take, drop, length-append, length-map, drop-of-length-le}
 use lib.Seq.{slice, drop-cons, drop-at}
 use Rattle.paper.specs.Reader.{Out, got, no, turned, _>>=_, times}
 use Rattle.paper.specs.Lists.{flat}
@@ -15,7 +15,7 @@ use Rattle.paper.specs.File.{Upto, Front, what, ends, small, stringBlock, entry
 use Rattle.paper.specs.Listing.{pairLine, stringLine, printEntries}
 use Rattle.laws.specs.Laws.{not-got, bind-inv}
 use Rattle.lay.specs.Laid.{most, Laid, laid-then, laid-as, Leads, leads-start, leads-on, leads-end}
-use Rattle.table.specs.View.{strsOf, view, said, Said, Holds}
+use Rattle.table.specs.View.{strsOf, view, said, Said, Holds, stringsIn}
 use Rattle.table.specs.Answers.{Stands}
 use Rattle.table.specs.NameLaws.{part-of}
 use Rattle.table.specs.declared.rows.Span.{Span}
@@ -129,11 +129,11 @@ module _ {f : List ℕ} (l : List ℕ) {l₁ : List ℕ} {at : ℕ} {a : Step} (
     both h = ap (λ (x : Step). outStep x (said f l₁)) (sym is) ∙ did-so h
 
     -- what the step added are the last strings
-    pub not-fewer : Holds f l → getD l 0 0 ≤ getD l₁ 0 0
+    pub not-fewer : Holds f l → stringsIn l ≤ stringsIn l₁
     unfolding addStrings withStrings
     not-fewer H = go (stringBlock (view f l) f at) (ap (λ (x : Step). outStep x (said f l₁)) (sym is) ∙ did .says)
       where
-        go : (o : Out (List (List ℕ))) → got (said f l₁) (c₁ .at) ≡ turned (addStrings (said f l)) o → getD l 0 0 ≤ getD l₁ 0 0
+        go : (o : Out (List (List ℕ))) → got (said f l₁) (c₁ .at) ≡ turned (addStrings (said f l)) o → stringsIn l ≤ stringsIn l₁
         go (got strings e) q =
             let z : said f l₁ ≡ addStrings (said f l) strings = cc q in
             let more : strsOf f l₁ ≡ strsOf f l ++ strings = ap (λ (g : Said). g .state .strings) z in
@@ -152,7 +152,7 @@ module _ {f : List ℕ} (l : List ℕ) {l₁ : List ℕ} {at : ℕ} {a : Step} (
             text = λ d q h. not-got (sym (was-refused counted no? .says) ∙ count-so (front-parts (view f l) f at d q h));
           }
 
-      module _ {n : ℕ} {c₂ : Cursor} (got? : b ≡ Got n c₂) (H : Holds f l) {before more : ℕ} (had : before ≡ getD l 0 0) (new : more ≡ getD l₁ 0 0 - before) where
+      module _ {n : ℕ} {c₂ : Cursor} (got? : b ≡ Got n c₂) (H : Holds f l) {before more : ℕ} (had : before ≡ stringsIn l) (new : more ≡ stringsIn l₁ - before) where
         module _ {out m₁ m₂ m₃ : List ℕ} {o o₁ o₂ : ℕ} (L₁ : Laid out o (pairLine more n) m₁ o₁) (L₂ : Laid m₁ o₁ (flat stringLine (drop before (strsOf f l₁))) m₂ o₂) {l₂ : List ℕ} {r : Printed} (D : EntriesDone f l₁ l₂ n (c₂ .at) m₂ o₂ m₃ r) where
           front-text : {d : Front} {q : ℕ} → FrontParts (view f l) f at d q → Laid out o (frontText (view f l) d) m₃ (r .at)
           unfolding frontText addStrings withStrings

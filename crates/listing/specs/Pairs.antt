@@ -5,7 +5,7 @@ use mathlib.Core.Logic.{_⊎_, inl, inr}
 use mathlib.Core.List.{List, [], _∷_, _++_, append-nil}
 use Prim.Native.Nat.{ℕ, zero, suc, _+_, _-_, _≤_, _<_}
 use native.Mathlib.Omega.{arith}
-use lib.ListN.{length, getD}
+use lib.ListN.{length}
 use Rattle.paper.specs.Reader.{Out, got, no, turned, part, refuse, toEnd}
 use Rattle.paper.specs.Bounds.{mostPairs}
 use Rattle.paper.specs.Lists.{flat, lastOr}
@@ -19,7 +19,7 @@ use Rattle.laws.specs.Says.{Bytes}
 use Rattle.laws.specs.Longer.{AtEnd, Before, unlessEnd-inv}
 use Rattle.laws.specs.Damage.{Parts, parts, Went, went-through}
 use Rattle.lay.specs.Laid.{most, Laid, laid-then, laid-as, Leads, leads-start, leads-on, leads-end}
-use Rattle.table.specs.View.{duesOf, chunksOf, view, said, Said, Ok, Holds}
+use Rattle.table.specs.View.{duesOf, chunksOf, view, said, Said, Ok, Holds, blockIn}
 use Rattle.table.specs.Counts.{nextBlock, Next}
 use Rattle.numbers.specs.declared.Cursor.{Cursor}
 use Rattle.numbers.specs.declared.Refusal.{Refusal}
@@ -55,7 +55,7 @@ pub record PairText (f l l′ : List ℕ) {at : ℕ} (K : PairThere f l at) (out
   pub inside : K .end ≤ length f
   pub steady : Steady f l′
   pub state : view f l′ ≡ afterPair (view f l) (K .own)
-  pub block : getD l′ 6 0 ≡ getD l 6 0 + 1
+  pub block : blockIn l′ ≡ blockIn l + 1
 
 pub record PairPrinted (f l l′ : List ℕ) (at : ℕ) (out : List ℕ) (o : ℕ) (m : List ℕ) (h : Behind) : Type 0 where
   pub printed : (K : PairThere f l at) → PairText f l l′ K out o m h
@@ -137,7 +137,7 @@ module _ {f l : List ℕ} {at : ℕ} (R : PairReady f l at) {l₁ out : List ℕ
             (ap (λ (x : List (List ℕ)). frontText (view f l) (record { strings = x; entries = P .d .entries; ends = P .d .ends }) ++ flat printChunk (K .own .chunks)) (sym (P .strings))
             ∙ ap (λ (x : List Entry). frontText (view f l) (record { strings = K .own .strings; entries = x; ends = P .d .ends }) ++ flat printChunk (K .own .chunks)) (sym (P .entries)))
 
-        block-after : getD l₃ 6 0 ≡ getD l 6 0 + 1
+        block-after : blockIn l₃ ≡ blockIn l + 1
         unfolding nextBlock closed
         block-after =
             ap (λ (x : Said). x .state .block) closing
@@ -161,7 +161,7 @@ module _ {f l : List ℕ} {at : ℕ} (R : PairReady f l at) {l₁ out : List ℕ
     pair-printed Q N there = record { printed = λ K. pair-text K Q N there }
 
     -- what ending the block asks
-    pub block-ends : Ok l₁ × (getD l₁ 6 0 < 4294967295)
+    pub block-ends : Ok l₁ × (blockIn l₁ < 4294967295)
     block-ends = (D .passed .holds .ok, omega (arith, sound .block))
 
 -- ── all pairs ──
@@ -179,7 +179,7 @@ pub record PairsPrinted (f l : List ℕ) (out : List ℕ) (o : ℕ) (m : List �
 pub record PairsLeft (f l₀ l : List ℕ) (K : PairsThere f l₀ 32 0) (place left : ℕ) (out : List ℕ) (o : ℕ) (m : List ℕ) (p : ℕ) : Type 0 where
   pub ready : Steady f l
   pub inside : place ≤ length f
-  pub block : getD l 6 0 + left ≡ 32
+  pub block : blockIn l + left ≡ 32
   pub more : PairsThere f l left place
   pub leads : Leads out o (printPairs (view f l₀) (K .ledger)) m p (printPairs (view f l) (more .ledger))
 

@@ -14,7 +14,7 @@ use Rattle.paper.specs.Listing.{printChunk}
 use Rattle.laws.specs.Laws.{each-inv, part-inv}
 use Rattle.laws.specs.Columns.{grows-refl}
 use Rattle.lay.specs.Laid.{most, Laid, Leads, leads-start, leads-on, leads-end}
-use Rattle.table.specs.View.{kindFrom, fldsOf, duesOf, view}
+use Rattle.table.specs.View.{kindFrom, fldsOf, duesOf, view, fieldsIn, duesIn}
 use Rattle.table.specs.Answers.{fieldIn, dueIn, noDue}
 use Rattle.table.specs.declared.rows.DueRow.{DueRow}
 use Rattle.table.specs.declared.rows.FieldRow.{FieldRow}
@@ -46,7 +46,7 @@ region-start R out o a b =
     record { long = refl; within = R .within; left = λ cs q h. record { more = cs; reads = h; leads = leads-start a b } }
 
 module _ {f l : List ℕ} {from : ℕ} (R : RegionReady f l from) {place i : ℕ} {out : List ℕ} {o : ℕ} {m : List ℕ} {p : ℕ} (g : RegionPrinting f l from place i out o m p) where
-  pub region-done : getD l 4 0 ≤ i → RegionPrinted f l from out o m p
+  pub region-done : duesIn l ≤ i → RegionPrinted f l from out o m p
   unfolding chunksAt each give flat
   region-done le =
       record {
@@ -58,15 +58,15 @@ module _ {f l : List ℕ} {from : ℕ} (R : RegionReady f l from) {place i : ℕ
             leads-end (B .leads) (ap (flat printChunk) z);
       }
 
-  module _ (lt : i < getD l 4 0) {d : DueRow} (due-is : dueIn d ≡ getD (duesOf l) i noDue) where
+  module _ (lt : i < duesIn l) {d : DueRow} (due-is : dueIn d ≡ getD (duesOf l) i noDue) where
     there : i < length (duesOf l)
     there = omega (arith, R .holds .ok .dues-count)
 
     next : drop i (duesOf l) ≡ dueIn d ∷ drop (i + 1) (duesOf l)
     next = drop-cons (duesOf l) i noDue there ∙ rw (add-one, due-is) refl
 
-    pub field-there : d .field < getD l 2 0
-    field-there = rw (ap (λ (x : Due × ℕ). x .0 .field) due-is) (declared-at (getD l 2 0) (duesOf l) i (R .declared) there)
+    pub field-there : d .field < fieldsIn l
+    field-there = rw (ap (λ (x : Due × ℕ). x .0 .field) due-is) (declared-at (fieldsIn l) (duesOf l) i (R .declared) there)
 
     pub within-file : place + d .size + sizes (drop (i + 1) (duesOf l)) ≤ length f
     unfolding sizes

@@ -7,7 +7,7 @@ use native.Mathlib.Omega.{arith}
 use native.Mathlib.Numerals.{add-one}
 use native.Mathlib.Nat.{min-eq-left, min-eq-right, le-refl, le-of-lt, lt-of-not-le}
 use native.Mathlib.Decide.{decLe}
-use lib.ListN.{length, getD, take, drop, length-append, length-map, length-drop, drop-of-length-le}
+use lib.ListN.{length, take, drop, length-append, length-map, length-drop, drop-of-length-le}
 use lib.Seq.{slice, drop-cons}
 use Rattle.paper.specs.Reader.{Out, got, no as refused}
 use Rattle.paper.specs.Numbers.{putFixed, put}
@@ -21,7 +21,7 @@ use Rattle.laws.specs.Hexes.{hexBytes-whole}
 use Rattle.lay.specs.Laid.{Laid, laid-then, laid-as}
 use Rattle.words.specs.Answers.{Unhexed}
 use Rattle.words.specs.declared.read.Bytes.{Bytes}
-use Rattle.table.specs.View.{strsOf, Holds}
+use Rattle.table.specs.View.{strsOf, Holds, stringsIn}
 use Rattle.table.specs.Answers.{Stands}
 use Rattle.table.specs.NameLaws.{part-of}
 use Rattle.values.specs.Constants.{Capped}
@@ -91,7 +91,7 @@ lines-longer (s ∷ ss) =
 
 -- ── rows ──
 
-pub rows-from : {f l : List ℕ} → Holds f l → (from : ℕ) → getD l 0 0 - from ≡ length (drop from (strsOf f l))
+pub rows-from : {f l : List ℕ} → Holds f l → (from : ℕ) → stringsIn l - from ≡ length (drop from (strsOf f l))
 rows-from {f} {l} H from = sym (length-drop from (strsOf f l) ∙ ap (λ (n : ℕ). n - from) (H .strs-count))
 
 -- one more, whose digits are d

@@ -3,7 +3,7 @@ ghost use mathlib.Core.Path.{_≡_};
 ghost use mathlib.Core.Bool.{true};
 ghost use mathlib.Core.List.{List, map};
 ghost use Prim.Native.Nat.{ℕ, _-_, _≤_, _<_};
-ghost use lib.ListN.{length, getD, drop};
+ghost use lib.ListN.{length, drop};
 ghost use lib.Seq.{slice};
 ghost use Rattle.paper.specs.Numbers.{putFixed};
 ghost use Rattle.paper.specs.Lists.{flat, all};
@@ -11,7 +11,7 @@ ghost use Rattle.paper.specs.Listing.{hex};
 ghost use Rattle.paper.specs.Keeps.{bytes?};
 ghost use Rattle.paper.specs.Encode.{putStrings};
 ghost use Rattle.lay.specs.Laid.{Laid};
-ghost use Rattle.table.specs.View.{strsOf, Ok, Holds};
+ghost use Rattle.table.specs.View.{strsOf, Ok, Holds, stringsIn};
 ghost use Rattle.puts.specs.Strings.{endBehind, endsBehind, bytesIn};
 use numbers::write::put_be4;
 use numbers::write::put_v64;
@@ -24,7 +24,7 @@ use words::read::Place;
 // How many strings there are from a row on.
 fn strings_from(work: &[u32], from: u32) -> u64
     requires { ⌜ Ok (now work) ⌝ }
-    ensures { λ r. ⌜ r ≡ getD (now (work .entry)) 0 0 - from ⌝ }
+    ensures { λ r. ⌜ r ≡ stringsIn (now (work .entry)) - from ⌝ }
 {
     let n = strings(work);
     if n < from {

@@ -3,7 +3,7 @@ use mathlib.Core.Path.{_≡_, refl, sym, ap, _∙_, subst}
 use mathlib.Core.List.{List, [], _∷_, _++_, append-assoc, append-nil}
 use Prim.Native.Nat.{ℕ, _+_, _-_, _*_, _^_, _≤_, _<_}
 use native.Mathlib.Omega.{arith}
-use lib.ListN.{length, getD, take, drop, length-append}
+use lib.ListN.{length, take, drop, length-append}
 use borrow.Author.Tests.{le-leb, lt-leb}
 use Rattle.paper.specs.Reader.{if_then_else_, Out, got, no, andThen, turned, bytes}
 use Rattle.paper.specs.Numbers.{fixed, v64}
@@ -16,7 +16,7 @@ use Rattle.numbers.specs.declared.Number.the-variants.{Got, No}
 use Rattle.numbers.specs.declared.Cursor.{Cursor}
 use Rattle.numbers.specs.declared.Refusal.{Refusal}
 use Rattle.table.specs.Rows.{Push}
-use Rattle.table.specs.View.{view, Said, said, strsOf, Holds, Now}
+use Rattle.table.specs.View.{view, Said, said, strsOf, Holds, Now, stringsIn}
 use Rattle.table.specs.ViewLaws.{pushed-string}
 use Rattle.table.specs.Adds.{addString}
 use Rattle.laws.specs.Laws.{not-got}
@@ -39,7 +39,7 @@ module _ {f l : List ℕ} (h : Holds f l) {b prev at : ℕ} {a : Number} (read :
     unfolding stringEnd endRules
     end-fell lt = record { holds = h; read = read-bad read (endRules prev) (omega arith) is (rw (lt-leb prev e lt)); left = tt }
 
-    pub end-read : {l′ : List ℕ} {x y : ℕ} → getD l 0 0 < 1024 → prev ≤ e → x ≡ capped (length f) (b + prev) → y ≡ capped (length f) (b + e) → Push 0 16 2 (x ∷ y ∷ []) l l′ → EndRead f l l′ b prev at (Got e next)
+    pub end-read : {l′ : List ℕ} {x y : ℕ} → stringsIn l < 1024 → prev ≤ e → x ≡ capped (length f) (b + prev) → y ≡ capped (length f) (b + e) → Push 0 16 2 (x ∷ y ∷ []) l l′ → EndRead f l l′ b prev at (Got e next)
     unfolding stringEnd endRules
     end-read few le is-x is-y push =
         let n = pushed-string h few (rw is-y (cap-most (length f) (b + e))) push in
@@ -61,7 +61,7 @@ module _ {f l : List ℕ} (h : Holds f l) {b prev at : ℕ} {a : Number} (read :
 pub record Ending (f l₀ l : List ℕ) (b n at₀ rest prev at : ℕ) : Type 0 where
   pub holds : Holds f l
   pub done : List ℕ
-  pub room : getD l 0 0 + rest ≤ 1024
+  pub room : stringsIn l + rest ≤ 1024
   pub long : length l ≡ length l₀
   pub many : length done + rest ≡ n
   pub inside : at₀ ≤ length f → at ≤ length f
@@ -75,7 +75,7 @@ then-unit : {A : Type 0} (o : Out A) → andThen o (λ a p. got a p) ≡ o
 then-unit (got a e) = refl
 then-unit (no n p) = refl
 
-pub ending-start : {f l : List ℕ} {b n at : ℕ} → Holds f l → getD l 0 0 + n ≤ 1024 → Ending f l l b n at n 0 at
+pub ending-start : {f l : List ℕ} {b n at : ℕ} → Holds f l → stringsIn l + n ≤ 1024 → Ending f l l b n at n 0 at
 unfolding lastOr pieces
 ending-start {f} {l} {b} {n} {at} h room =
     record {
@@ -171,7 +171,7 @@ module _ {f l : List ℕ} {at : ℕ} (h : Holds f l) (low : at ≤ length f) {a 
     is-read : v64 f at ≡ got n (next .at)
     is-read = was-got read is .says
 
-    pub too-many : 1024 - getD l 0 0 < n → Did f l at (step.No (record { number = 3; place = at })) wanted
+    pub too-many : 1024 - stringsIn l < n → Did f l at (step.No (record { number = 3; place = at })) wanted
     too-many lt =
         record {
           holds = h;
@@ -179,7 +179,7 @@ module _ {f l : List ℕ} {at : ℕ} (h : Holds f l) (low : at ≤ length f) {a 
           inside = λ lo. lo;
         }
 
-    module _ (few : n ≤ 1024 - getD l 0 0) {l′ : List ℕ} {b : Number} (es : EndsRead f l l′ (next .at + 4 * n) n (next .at) b) where
+    module _ (few : n ≤ 1024 - stringsIn l) {l′ : List ℕ} {b : Number} (es : EndsRead f l l′ (next .at + 4 * n) n (next .at) b) where
       room : length (strsOf f l) + n ≤ 1024
       room = omega (arith, h .strs-count, h .ok .strs-fit)
 

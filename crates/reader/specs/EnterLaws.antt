@@ -5,14 +5,14 @@ use mathlib.Core.List.{List, [], _∷_, _++_, append-nil}
 use mathlib.Core.Option.{Option, none, some}
 use Prim.Native.Nat.{ℕ, zero, suc, _+_, _-_, _≤_, _<_}
 use native.Mathlib.Omega.{arith}
-use lib.ListN.{length, getD, length-append}
+use lib.ListN.{length, length-append}
 use Rattle.paper.specs.Reader.{if_then_else_}
 use Rattle.paper.specs.Lists.{given?, or}
 use Rattle.paper.specs.Ledger.{State, Head, Range, Typ, typeNamed, typeIn, text, poolBefore}
 use Rattle.paper.specs.Rules.{entered?, new?, typeOf, superOf, baseUnder, baseOf, newName, newType, newRange, afterHead}
 use Rattle.numbers.specs.declared.Cursor.{Cursor}
 use Rattle.numbers.specs.declared.Refusal.{Refusal}
-use Rattle.table.specs.View.{view, Said, said, maybe, typesOf, strsOf, Ok, Holds}
+use Rattle.table.specs.View.{view, Said, said, maybe, typesOf, strsOf, Ok, Holds, rangesIn}
 use Rattle.table.specs.Adds.{addType, addRange}
 use Rattle.table.specs.Answers.{Stands, rangeIn, Small}
 use Rattle.table.specs.Packed.{rangeCells}
@@ -148,7 +148,7 @@ declares e =
     }
 
 module _ {l : List ℕ} {t : Top} {base : ℕ} (isb : base ≡ baseUnder (typesOf l) (t .name .typ) (maybe (t .above .up))) {r : RangeRow} (isr : rangeIn r ≡ rangeFor l t base) {l₁ : List ℕ} (typed : TypeEntered (t .name) (t .above .up) base l l₁) where
-  pub range-fits : Enterable l t → Ok l₁ × ((getD l₁ 3 0 < 1024) × Small r)
+  pub range-fits : Enterable l t → Ok l₁ × ((rangesIn l₁ < 1024) × Small r)
   range-fits e =
       let small : Small r =
       record {

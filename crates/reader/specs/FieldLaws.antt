@@ -4,7 +4,7 @@ use mathlib.Core.Bool.{Bool}
 use mathlib.Core.List.{List}
 use Prim.Native.Nat.{ℕ, _+_, _-_, _≤_, _^_}
 use native.Mathlib.Omega.{arith}
-use lib.ListN.{length, getD}
+use lib.ListN.{length}
 use Rattle.paper.specs.Reader.{andThen}
 use Rattle.paper.specs.Numbers.{number}
 use Rattle.paper.specs.Lists.{places, total}
@@ -15,7 +15,7 @@ use Rattle.numbers.specs.declared.Number.{Number}
 use Rattle.numbers.specs.declared.Number.the-variants.{Got, No}
 use Rattle.numbers.specs.declared.Cursor.{Cursor}
 use Rattle.numbers.specs.declared.Refusal.{Refusal}
-use Rattle.table.specs.View.{fldsOf, logOf, view, Holds, said}
+use Rattle.table.specs.View.{fldsOf, logOf, view, Holds, said, fieldsIn}
 use Rattle.reader.specs.Sound.{Open}
 use Rattle.reader.specs.Fields.{going, oldsOf, oldsGo, newsGo, fieldsGo, outGoing, Went}
 use Rattle.reader.specs.RulesHeld.{count-held}
@@ -38,7 +38,7 @@ module _ (l : List ℕ) (t : ℕ) {added : ℕ} where
 module _ {f l : List ℕ} (h : Holds f l) (t added end known : ℕ) {at : ℕ} {a : Number} (counted : Read (number (fieldCountRules (view f l) known)) (2 ^ 64) f at a) {n : ℕ} {c₁ : Cursor} (is₁ : a ≡ Got n c₁) where
   pub news-ready :
       {l₁ : List ℕ} {b : Number} → Went f l₁ t (length (fldsOf l₁)) (c₁ .at) b (oldsGo added (oldsOf added (view f l) t) (going f l end) f (c₁ .at))
-      → {last : ℕ} {c₂ : Cursor} → b ≡ Got last c₂ → Holds f l₁ × (Open (said f l₁) t (length (fldsOf l₁)) × (getD l₁ 2 0 + (n - known) ≤ 128))
+      → {last : ℕ} {c₂ : Cursor} → b ≡ Got last c₂ → Holds f l₁ × (Open (said f l₁) t (length (fldsOf l₁)) × (fieldsIn l₁ + (n - known) ≤ 128))
   news-ready {l₁} olds {last} {c₂} is₂ =
       let went = rw is₂ at olds in
       let kept : view f l₁ ≡ view f l = olds-keep added (oldsOf added (view f l) t) (going f l end) (going f l₁ last) f (c₁ .at) (c₂ .at) (went .says) in

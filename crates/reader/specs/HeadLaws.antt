@@ -8,7 +8,7 @@ use Prim.Native.Nat.{ℕ, zero, suc, _+_, _-_, _^_, _≤_, _<_}
 use native.Mathlib.Omega.{arith}
 use native.Mathlib.Numerals.{add-one}
 use lib.Dec.{leb}
-use lib.ListN.{length, getD}
+use lib.ListN.{length}
 use lib.Seq.{slice}
 use borrow.Author.Tests.{le-leb, lt-leb, lt-ltb, le-ltb, ne-eqb, leb-true}
 use Rattle.paper.specs.Reader.{if_then_else_, Reader, Out, got, no, andThen, _>>=_, give, hold, must, only, turned, Rule}
@@ -22,7 +22,7 @@ use Rattle.numbers.specs.declared.Number.the-variants.{Got, No}
 use Rattle.numbers.specs.declared.Cursor.{Cursor}
 use Rattle.numbers.specs.declared.Refusal.{Refusal}
 use Rattle.laws.specs.Bools.{and-split}
-use Rattle.table.specs.View.{view, maybe, strsOf, namesOf, typesOf, logOf, Ok, Holds}
+use Rattle.table.specs.View.{view, maybe, strsOf, namesOf, typesOf, logOf, Ok, Holds, stringsIn, typesIn, blockIn}
 use Rattle.table.specs.Answers.{Stands}
 use Rattle.table.specs.Asks.{found}
 use Rattle.table.specs.declared.names.Found.{Found}
@@ -60,7 +60,7 @@ unfolding aString?
 string-upto s n k ne is = rw (le-leb 1 n (omega arith), is) refl
 
 -- a string's number has a string
-pub string-there : {f l : List ℕ} → Holds f l → {n : ℕ} → aString? (view f l) n ≡ true → (0 < n) × (n ≤ getD l 0 0)
+pub string-there : {f l : List ℕ} → Holds f l → {n : ℕ} → aString? (view f l) n ≡ true → (0 < n) × (n ≤ stringsIn l)
 unfolding aString?
 string-there {f} {l} h {n} e =
     let p = and-split (leb 1 n) (leb n (length (strsOf f l))) e in
@@ -87,22 +87,22 @@ looked-up {f} {l} h {n} {a} {b} row o says =
     let is : typeNamed (view f l) (text (view f l) n) ≡ found o = ap (λ (x : List ℕ). place (same x) 0 (namesOf f l)) (row .is f) ∙ sym says in
     record { is = is; below = go o is }
   where
-    go : (o : Found) → typeNamed (view f l) (text (view f l) n) ≡ found o → foundBelow (getD l 1 0) o
+    go : (o : Found) → typeNamed (view f l) (text (view f l) n) ≡ found o → foundBelow (typesIn l) o
     go (At u) is = omega (arith, named-below (view f l) (text (view f l) n) u is, h .names-count)
     go Nothing is = tt
 
 -- ── the place of an entry's type ──
 
 module _ {l : List ℕ} (ok : Ok l) {n at e : ℕ} where
-  module _ {o : Found} {t : ℕ} (is : o ≡ At t) {b : Bool} (says : b ≡ any (entryOf? (getD l 6 0) t) (logOf l)) where
+  module _ {o : Found} {t : ℕ} (is : o ≡ At t) {b : Bool} (says : b ≡ any (entryOf? (blockIn l) t) (logOf l)) where
     pub placed-again : b ≡ true → NamePlaced l n (found o) at e (named.No (record { number = 6; place = at }))
     unfolding placeRules entered?
     placed-again w = record { says = λ f h. rw (is, sym says ∙ w) refl; inside = λ m lo hi. lo; told = tt }
 
-    pub placed-known : {c : Cursor} → c .at ≡ e → foundBelow (getD l 1 0) o → b ≡ false → NamePlaced l n (found o) at e (named.Got (record { number = n; typ = t; fresh = false }) c)
+    pub placed-known : {c : Cursor} → c .at ≡ e → foundBelow (typesIn l) o → b ≡ false → NamePlaced l n (found o) at e (named.Got (record { number = n; typ = t; fresh = false }) c)
     unfolding placeRules entered? given? or
     placed-known {c} here below w =
-        let lt : t < getD l 1 0 = rw is at below in
+        let lt : t < typesIn l = rw is at below in
         record {
           says = λ f h. rw (is, sym says ∙ w, here) refl;
           inside = λ m lo hi. rw here hi;
@@ -110,12 +110,12 @@ module _ {l : List ℕ} (ok : Ok l) {n at e : ℕ} where
         }
 
   module _ {o : Found} (is : o ≡ Nothing) where
-    pub placed-full : 32 ≤ getD l 1 0 → NamePlaced l n (found o) at e (named.No (record { number = 3; place = at }))
+    pub placed-full : 32 ≤ typesIn l → NamePlaced l n (found o) at e (named.No (record { number = 3; place = at }))
     unfolding placeRules
     placed-full full =
         record { says = λ f h. rw (is, le-ltb (length (namesOf f l)) 32 (omega (arith, h .names-count))) refl; inside = λ m lo hi. lo; told = tt }
 
-    pub placed-new : {t : ℕ} {c : Cursor} → t ≡ getD l 1 0 → c .at ≡ e → getD l 1 0 < 32 → NamePlaced l n (found o) at e (named.Got (record { number = n; typ = t; fresh = true }) c)
+    pub placed-new : {t : ℕ} {c : Cursor} → t ≡ typesIn l → c .at ≡ e → typesIn l < 32 → NamePlaced l n (found o) at e (named.Got (record { number = n; typ = t; fresh = true }) c)
     unfolding placeRules given? or
     placed-new {t} {c} last here room =
         record {
@@ -202,13 +202,13 @@ module _ {f l : List ℕ} (h : Holds f l) (t : ℕ) {n at next : ℕ} where
       let q : hold {A = ℕ} (superNameRules (view f l) t n) at (got n next) ≡ got 0 next = rw (e, le-leb 0 (length (strsOf f l)) (omega arith), chain-none (length (typesOf l)) (typesOf l) t) refl in
       record { says = rw (q, here) refl; inside = λ m lo hi. rw here hi; told = refl }
 
-  pub super-far : getD l 0 0 < n → SuperJudged (view f l) t n at next (above.No (record { number = 5; place = at }))
+  pub super-far : stringsIn l < n → SuperJudged (view f l) t n at next (above.No (record { number = 5; place = at }))
   unfolding superNameRules
   super-far lt =
       let q : hold {A = ℕ} (superNameRules (view f l) t n) at (got n next) ≡ no 5 at = rw (lt-leb n (length (strsOf f l)) (omega (arith, h .strs-count))) refl in
       record { says = rw q refl; inside = λ m lo hi. lo; told = tt }
 
-  pub super-placed : (n ≡ 0 → ⊥) → n ≤ getD l 0 0 → {o : Found} → Known f l n o → {r : Above} → SuperPlaced (typesOf l) t n (found o) at next r → SuperJudged (view f l) t n at next r
+  pub super-placed : (n ≡ 0 → ⊥) → n ≤ stringsIn l → {o : Found} → Known f l n o → {r : Above} → SuperPlaced (typesOf l) t n (found o) at next r → SuperJudged (view f l) t n at next r
   unfolding superNameRules superNamed if_then_else_
   super-placed low high {o} k {r} p =
       let q : hold {A = ℕ} (superNameRules (view f l) t n) at (got n next) ≡ hold (knownRules (typesOf l) t (found o)) at (got n next) =

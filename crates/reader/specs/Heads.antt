@@ -4,7 +4,7 @@ use mathlib.Core.List.{List, [], _∷_}
 use mathlib.Core.Path.{_≡_}
 use mathlib.Core.Bool.{Bool, true, false, not}
 use mathlib.Core.Option.{Option, none, some}
-use lib.ListN.{length, getD}
+use lib.ListN.{length}
 use Rattle.paper.specs.Reader.{Reader, Out, got, no, only, turned, hold, Rule, _orNo_}
 use Rattle.paper.specs.Numbers.{number}
 use Rattle.paper.specs.Lists.{given?, or, total, any}
@@ -14,7 +14,7 @@ use Rattle.paper.specs.File.{head}
 use Rattle.numbers.specs.Cursors.{outOf, placeOf, valueOf}
 use Rattle.numbers.specs.declared.Number.{Number}
 use Rattle.numbers.specs.declared.Refusal.{Refusal}
-use Rattle.table.specs.View.{view, said, maybe, logOf, Holds, Said, Now}
+use Rattle.table.specs.View.{view, said, maybe, logOf, Holds, Said, Now, stringsIn, typesIn, rangesIn, blockIn}
 use Rattle.table.specs.Adds.{addType}
 use Rattle.table.specs.Asks.{found}
 use Rattle.table.specs.declared.names.Found.{Found}
@@ -44,7 +44,7 @@ foundBelow m Nothing = Unit {0}
 -- string n names the type r
 pub record Known (f l : List ℕ) (n : ℕ) (r : Found) : Type 0 where
   pub is : typeNamed (view f l) (text (view f l) n) ≡ found r
-  pub below : foundBelow (getD l 1 0) r
+  pub below : foundBelow (typesIn l) r
 
 -- ── an entry's type ──
 
@@ -88,10 +88,10 @@ pub record NameRead (s : State) (f : List ℕ) (at : ℕ) (r : Named) : Type 0 w
 pub record Place (l : List ℕ) (n : ℕ) (o : Option ℕ) (x : Name) : Type 0 where
   pub number : x .number ≡ n
   pub fresh : x .fresh ≡ not (given? o)
-  pub typ : x .typ ≡ or o (getD l 1 0)
+  pub typ : x .typ ≡ or o (typesIn l)
   pub few : x .typ < 32
-  pub room : x .fresh ≡ true → getD l 1 0 < 32
-  pub first : x .fresh ≡ false → any (entryOf? (getD l 6 0) (x .typ)) (logOf l) ≡ false
+  pub room : x .fresh ≡ true → typesIn l < 32
+  pub first : x .fresh ≡ false → any (entryOf? (blockIn l) (x .typ)) (logOf l) ≡ false
 
 abbrev pub toldPlace : List ℕ → ℕ → Option ℕ → Named → Type 0
 toldPlace l n o (named.Got x c) = Place l n o x
@@ -218,17 +218,17 @@ abbrev pub rangeFor : List ℕ → Top → ℕ → Range
 rangeFor l h base =
     record {
       type = h .name .typ;
-      block = getD l 6 0;
+      block = blockIn l;
       start = h .start;
-      first = total (before? (getD l 6 0) base) size (logOf l) + h .start;
+      first = total (before? (blockIn l) base) size (logOf l) + h .start;
       count = h .count;
     }
 
 -- a new type has a string for its name, and room
 pub record Declares (l : List ℕ) (x : Name) : Type 0 where
   pub low : 0 < x .number
-  pub high : x .number ≤ getD l 0 0
-  pub room : x .fresh ≡ true → getD l 1 0 < 32
+  pub high : x .number ≤ stringsIn l
+  pub room : x .fresh ≡ true → typesIn l < 32
 
 -- a type more, if it is new
 abbrev pub addNew : Bool → Said → List ℕ → Typ → Said
@@ -236,7 +236,7 @@ addNew true g name t = addType g name t
 addNew false g name t = g
 
 pub record TypeEntered (x : Name) (up base : ℕ) (l l′ : List ℕ) : Type 0 where
-  pub ranges : getD l′ 3 0 ≡ getD l 3 0
+  pub ranges : rangesIn l′ ≡ rangesIn l
   pub says : (f : List ℕ) → Holds f l → Now f l′ (addNew (x .fresh) (said f l) (text (view f l) (x .number)) (record { super = maybe up; base = base }))
 
 -- there are bytes with which the table finds room for the head h

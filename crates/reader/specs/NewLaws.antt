@@ -4,7 +4,7 @@ use mathlib.Core.Bool.{Bool}
 use mathlib.Core.List.{List}
 use Prim.Native.Nat.{ℕ, _+_, _-_, _≤_, _<_, _^_}
 use native.Mathlib.Omega.{arith}
-use lib.ListN.{length, getD}
+use lib.ListN.{length}
 use Rattle.paper.specs.Reader.{Out, got, no, andThen, _>>=_, give}
 use Rattle.paper.specs.Numbers.{number}
 use Rattle.paper.specs.Rules.{fieldNameRules}
@@ -14,7 +14,7 @@ use Rattle.numbers.specs.declared.Number.{Number}
 use Rattle.numbers.specs.declared.Number.the-variants.{Got, No}
 use Rattle.numbers.specs.declared.Cursor.{Cursor}
 use Rattle.numbers.specs.declared.Refusal.{Refusal}
-use Rattle.table.specs.View.{fldsOf, view, Holds, Said, said}
+use Rattle.table.specs.View.{fldsOf, view, Holds, Said, said, fieldsIn}
 use Rattle.reader.specs.declared.kinds.Kind.{Kind as KindRow}
 use Rattle.reader.specs.declared.kinds.KindRead.{KindRead}
 use Rattle.reader.specs.declared.kinds.KindRead.the-variants as kinds
@@ -66,7 +66,7 @@ module _ {f l : List ℕ} (h : Holds f l) (named : ℕ → Bool) (t n end : ℕ)
             let R = was-refused ended is in
             rw is (refused-new h t (length (fldsOf l)) (λ lo. R .inside (R₃ .inside (R₂ .inside (R₁ .inside lo)))) (rw (R₁ .says, R₂ .says, R₃ .says, R .says)))
 
-        module _ {e : ℕ} {c₄ : Cursor} (is₄ : d ≡ Got e c₄) {l′ : List ℕ} (added : FieldAdded t n m row (e - end) l l′) {i : ℕ} (o : Open (said f l) t i) (room : getD l 2 0 < 128) where
+        module _ {e : ℕ} {c₄ : Cursor} (is₄ : d ≡ Got e c₄) {l′ : List ℕ} (added : FieldAdded t n m row (e - end) l l′) {i : ℕ} (o : Open (said f l) t i) (room : fieldsIn l < 128) where
           new-is : newGo named t n (going f l end) f at ≡ got (goNew t n (going f l end) (record { kind = kindIn row; name = m }, e)) (c₄ .at)
           unfolding newGo newField _>>=_ give
           new-is = rw (was-got restricted is₁ .says, kind-was-got kinded is₂ .says, was-got name is₃ .says, was-got ended is₄ .says)
@@ -92,12 +92,12 @@ module _ {f l : List ℕ} (h : Holds f l) (named : ℕ → Bool) (t n end : ℕ)
 pub record NewsGoing (f l₀ l : List ℕ) (named : ℕ → Bool) (t n end at₀ all rest last at : ℕ) : Type 0 where
   pub holds : Holds f l
   pub still-open : Open (said f l) t (length (fldsOf l))
-  pub room : getD l 2 0 + rest ≤ 128
+  pub room : fieldsIn l + rest ≤ 128
   pub long : length l ≡ length l₀
   pub inside : at₀ ≤ length f → at ≤ length f
   pub says : newsGo named t n all (going f l₀ end) f at₀ ≡ newsGo named t n rest (going f l last) f at
 
-pub news-begin : {f l : List ℕ} → Holds f l → {t : ℕ} → Open (said f l) t (length (fldsOf l)) → {all : ℕ} → getD l 2 0 + all ≤ 128 → (named : ℕ → Bool) (n end at : ℕ) → NewsGoing f l l named t n end at all all end at
+pub news-begin : {f l : List ℕ} → Holds f l → {t : ℕ} → Open (said f l) t (length (fldsOf l)) → {all : ℕ} → fieldsIn l + all ≤ 128 → (named : ℕ → Bool) (n end at : ℕ) → NewsGoing f l l named t n end at all all end at
 news-begin h o room named n end at = record { holds = h; still-open = o; room = room; long = refl; inside = λ lo. lo; says = refl }
 
 module _ {f l₀ l : List ℕ} {named : ℕ → Bool} {t n end at₀ all rest last at : ℕ} (g : NewsGoing f l₀ l named t n end at₀ all rest last at) where

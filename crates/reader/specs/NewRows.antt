@@ -4,11 +4,11 @@ use mathlib.Core.List.{List}
 use Prim.Native.Nat.{ℕ, _+_, _-_, _<_}
 use native.Mathlib.Omega.{arith}
 use native.Mathlib.Nat.{le-refl}
-use lib.ListN.{length, getD}
+use lib.ListN.{length}
 use lib.Seq.{slice}
 use Rattle.paper.specs.Ledger.{plain, New, text}
 use Rattle.paper.specs.Rules.{afterNew, valuesDue}
-use Rattle.table.specs.View.{strsOf, fldsOf, duesOf, view, Ok, Holds, Said, said, Now}
+use Rattle.table.specs.View.{strsOf, fldsOf, duesOf, view, Ok, Holds, Said, said, Now, fieldsIn, duesIn}
 use Rattle.table.specs.Answers.{Stands, fieldIn}
 use Rattle.table.specs.Adds.{addField, addDue}
 use Rattle.table.specs.Packed.{fieldCells, dueCells}
@@ -26,7 +26,7 @@ use Rattle.reader.specs.Fields.{addNew, FieldAdded}
 abbrev pub rowOf : ℕ → KindRow → ℕ → ℕ → FieldRow
 rowOf t k start end = record { start = start; end = end; owner = t; kind = k .first; a = k .bits; e = k .last }
 
-module _ {l : List ℕ} (ok : Ok l) (room : getD l 2 0 < 128) (due-room : getD l 4 0 < 128) (t n name : ℕ) (k : KindRow) (size : ℕ) {start end i v : ℕ} {l₁ l₂ : List ℕ} (stands : Stands strsOf l (name - 1) start end) (i-is : i ≡ getD l 2 0) (p : Pushed 2 2192 16 (fieldCells (rowOf t k start end)) l l₁) (v-is : v ≡ valuesDue (kindIn k) n) (q : Pushed 4 7312 4 (dueCells i v size) l₁ l₂) where
+module _ {l : List ℕ} (ok : Ok l) (room : fieldsIn l < 128) (due-room : duesIn l < 128) (t n name : ℕ) (k : KindRow) (size : ℕ) {start end i v : ℕ} {l₁ l₂ : List ℕ} (stands : Stands strsOf l (name - 1) start end) (i-is : i ≡ fieldsIn l) (p : Pushed 2 2192 16 (fieldCells (rowOf t k start end)) l l₁) (v-is : v ≡ valuesDue (kindIn k) n) (q : Pushed 4 7312 4 (dueCells i v size) l₁ l₂) where
   rows-are :
       (f : List ℕ)
       → addDue (addField (said f l) (slice start end f) (fieldIn (rowOf t k start end))) (record { field = i; values = v }) size
@@ -36,7 +36,7 @@ module _ {l : List ℕ} (ok : Ok l) (room : getD l 2 0 < 128) (due-room : getD l
 
   pub field-added-by : FieldAdded t n name k size l l₂
   field-added-by =
-      let more-room : getD l₁ 4 0 < 128 = omega (arith, p .dues) in
+      let more-room : duesIn l₁ < 128 = omega (arith, p .dues) in
       record {
         says = λ f h.
             let first = pushed-field h (rowOf t k start end) room (stands .within f h) (p .push) in
@@ -46,7 +46,7 @@ module _ {l : List ℕ} (ok : Ok l) (room : getD l 2 0 < 128) (due-room : getD l
 
 -- ── there is room, and the table stays as it must ──
 
-module _ {f l : List ℕ} (h : Holds f l) {t i : ℕ} (o : Open (said f l) t i) (room : getD l 2 0 < 128) where
+module _ {f l : List ℕ} (h : Holds f l) {t i : ℕ} (o : Open (said f l) t i) (room : fieldsIn l < 128) where
   few : length (fldsOf l) < 128
   few = omega (arith, h .ok .flds-count)
 
@@ -62,7 +62,7 @@ module _ {f l : List ℕ} (h : Holds f l) {t i : ℕ} (o : Open (said f l) t i) 
   open-field x = field-added {g = said f l} {g′ = with-field x} o few refl (fielded x) refl refl
 
   -- no chunk of the new field is due yet
-  pub new-has-room : getD l 4 0 < 128
+  pub new-has-room : duesIn l < 128
   unfolding with-field
   new-has-room =
       let x : New = record { kind = plain 0; name = 0 } in

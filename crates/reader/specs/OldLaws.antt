@@ -15,7 +15,7 @@ use Rattle.numbers.specs.declared.Number.{Number}
 use Rattle.numbers.specs.declared.Number.the-variants.{Got, No}
 use Rattle.numbers.specs.declared.Cursor.{Cursor}
 use Rattle.numbers.specs.declared.Refusal.{Refusal}
-use Rattle.table.specs.View.{fldsOf, view, Holds, Said, said, Now}
+use Rattle.table.specs.View.{fldsOf, view, Holds, Said, said, Now, fieldsIn, duesIn}
 use Rattle.table.specs.Adds.{addDue}
 use Rattle.table.specs.Packed.{dueCells}
 use Rattle.table.specs.Pushes.{Pushed}
@@ -31,7 +31,7 @@ open-later {g} {t} {i} {j} o le =
 
 -- ── field i ──
 
-module _ {f l : List ℕ} (h : Holds f l) {t i : ℕ} (o : Open (said f l) t i) (lt : i < getD l 2 0) {d : Field} (is : d ≡ getD (fldsOf l) i noField) where
+module _ {f l : List ℕ} (h : Holds f l) {t i : ℕ} (o : Open (said f l) t i) (lt : i < fieldsIn l) {d : Field} (is : d ≡ getD (fldsOf l) i noField) where
   -- it is of another type
   pub old-other : (added end : ℕ) {c : Cursor} → (d .owner ≡ t → ⊥) → Went f l t (i + 1) (c .at) (Got end c) (oldGo added t i (going f l end) f (c .at))
   unfolding oldGo owns? fieldAt if_then_else_
@@ -48,7 +48,7 @@ module _ {f l : List ℕ} (h : Holds f l) {t i : ℕ} (o : Open (said f l) t i) 
     unfolding fieldAt
     owner-is = rw (← is) mine
 
-    pub old-has-room : getD l 4 0 < 128
+    pub old-has-room : duesIn l < 128
     old-has-room = omega (arith, h .ok .dues-count, old-room o i (le-refl i) (omega (arith, h .ok .flds-count)) owner-is)
 
     module _ (added end : ℕ) {at : ℕ} {a : Number} (read : Read (endOffset end) (2 ^ 64) f at a) where
@@ -102,13 +102,13 @@ olds-skip {f} {l} h {t} o {added} none end {c} =
 pub record OldsGoing (f l₀ l : List ℕ) (t added end at₀ n i last at : ℕ) : Type 0 where
   pub holds : Holds f l
   pub still-open : Open (said f l) t i
-  pub fields : getD l 2 0 ≡ n
+  pub fields : fieldsIn l ≡ n
   pub fewer : i ≤ n
   pub long : length l ≡ length l₀
   pub inside : at₀ ≤ length f → at ≤ length f
   pub says : oldsGo added (oldsOf added (view f l₀) t) (going f l₀ end) f at₀ ≡ oldsGo added (ownFrom t i (fldsOf l)) (going f l last) f at
 
-pub olds-begin : {f l : List ℕ} → Holds f l → {t : ℕ} → Open (said f l) t 0 → {added : ℕ} → (added ≡ 0 → ⊥) → {n : ℕ} → n ≡ getD l 2 0 → (end at : ℕ) → OldsGoing f l l t added end at n 0 end at
+pub olds-begin : {f l : List ℕ} → Holds f l → {t : ℕ} → Open (said f l) t 0 → {added : ℕ} → (added ≡ 0 → ⊥) → {n : ℕ} → n ≡ fieldsIn l → (end at : ℕ) → OldsGoing f l l t added end at n 0 end at
 olds-begin {f} {l} h {t} o {added} some n-is end at =
     record {
       holds = h;

@@ -3,7 +3,7 @@ use mathlib.Core.Path.{_≡_}
 use mathlib.Core.List.{List}
 use Prim.Native.Nat.{ℕ, _+_, _-_, _≤_}
 use native.Mathlib.Omega.{arith}
-use lib.ListN.{length, getD}
+use lib.ListN.{length}
 use borrow.Author.Tests.{leb-true}
 use Rattle.paper.specs.Reader.{Reader, Out, got, no, andThen, hold, must, Rule}
 use Rattle.paper.specs.Numbers.{v64, number}
@@ -14,7 +14,7 @@ use Rattle.numbers.specs.Cursors.{Read, was-got}
 use Rattle.numbers.specs.declared.Number.{Number}
 use Rattle.numbers.specs.declared.Number.the-variants.{Got}
 use Rattle.numbers.specs.declared.Cursor.{Cursor}
-use Rattle.table.specs.View.{strsOf, fldsOf, view, Holds}
+use Rattle.table.specs.View.{strsOf, fldsOf, view, Holds, stringsIn, fieldsIn}
 use Rattle.laws.specs.Says.{Held}
 use Rattle.laws.specs.Bools.{and-split}
 use Rattle.reader.specs.Ruled.{refused-not-got, held}
@@ -40,13 +40,13 @@ end-held {before} {f = f} {at = at} read {e} is = leb-true before e (number-held
 -- ── over the table ──
 
 module _ {f l : List ℕ} (h : Holds f l) {b at : ℕ} {a : Number} where
-  pub count-held : (known : ℕ) → Read (number (fieldCountRules (view f l) known)) b f at a → {n : ℕ} {c : Cursor} → a ≡ Got n c → (getD l 2 0 + (n - known) ≤ 128) × (known ≤ n)
+  pub count-held : (known : ℕ) → Read (number (fieldCountRules (view f l) known)) b f at a → {n : ℕ} {c : Cursor} → a ≡ Got n c → (fieldsIn l + (n - known) ≤ 128) × (known ≤ n)
   unfolding fieldCountRules
   count-held known read {n} is =
       let H = number-held (fieldCountRules (view f l) known) f at (was-got read is .says) in
       (omega (arith, h .ok .flds-count, leb-true (length (fldsOf l) + (n - known)) 128 (H .0)), leb-true known n (H .1 .0))
 
-  pub name-held : (t : ℕ) → Read (number (fieldNameRules t (view f l))) b f at a → {n : ℕ} {c : Cursor} → a ≡ Got n c → (1 ≤ n) × (n ≤ getD l 0 0)
+  pub name-held : (t : ℕ) → Read (number (fieldNameRules t (view f l))) b f at a → {n : ℕ} {c : Cursor} → a ≡ Got n c → (1 ≤ n) × (n ≤ stringsIn l)
   unfolding fieldNameRules aString?
   name-held t read {n} is =
       let H = and-split _ _ (number-held (fieldNameRules t (view f l)) f at (was-got read is .says) .0) in

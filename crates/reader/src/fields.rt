@@ -3,12 +3,12 @@
 ghost use mathlib.Core.Path.{_≡_};
 ghost use mathlib.Core.List.{List};
 ghost use Prim.Native.Nat.{ℕ, _+_, _^_, _<_, _≤_};
-ghost use lib.ListN.{length, getD};
+ghost use lib.ListN.{length};
 ghost use Rattle.paper.specs.Numbers.{number};
 ghost use Rattle.paper.specs.Rules.{fieldCountRules, fieldNameRules, valuesDue};
 ghost use Rattle.paper.specs.File.{endOffset};
 ghost use Rattle.numbers.specs.Cursors.{Read};
-ghost use Rattle.table.specs.View.{view, kindFrom, fldsOf, Ok, Holds, said};
+ghost use Rattle.table.specs.View.{view, kindFrom, fldsOf, Ok, Holds, said, stringsIn, fieldsIn, duesIn};
 ghost use Rattle.reader.specs.Sound.{Open};
 ghost use Rattle.reader.specs.Ruled.{Judged};
 ghost use Rattle.reader.specs.Kinds.{named?};
@@ -102,7 +102,7 @@ fn old_field(
 ) -> Number
     requires { ⌜ Holds (now file) (now work) ⌝ }
     requires { ⌜ Open (said (now file) (now work)) t i ⌝ }
-    requires { ⌜ i < getD (now work) 2 0 ⌝ }
+    requires { ⌜ i < fieldsIn (now work) ⌝ }
     ensures { λ r. ⌜ Went (now (file .entry)) (now (work .exit)) t (i + 1) (c .at) r (oldGo added t i (going (now (file .entry)) (now (work .entry)) end) (now (file .entry)) (c .at)) ⌝ }
 {
     let row = table::rows::field_at(work, i);
@@ -196,9 +196,9 @@ fn field_name(file: &[u8], c: Cursor, work: &[u32], t: u32) -> Number
 // type's objects.
 pub fn add_field(work: &mut [u32], t: u32, kind: Kind, name: u64, objects: u32, size: u64)
     requires { ⌜ Ok (now work) ⌝ }
-    requires { ⌜ (1 ≤ name) × (name ≤ getD (now work) 0 0) ⌝ }
+    requires { ⌜ (1 ≤ name) × (name ≤ stringsIn (now work)) ⌝ }
     requires { ⌜ kind .first ≤ 32 ⌝ }
-    requires { ⌜ (getD (now work) 2 0 < 128) × (getD (now work) 4 0 < 128) ⌝ }
+    requires { ⌜ (fieldsIn (now work) < 128) × (duesIn (now work) < 128) ⌝ }
     ensures { λ _. ⌜ FieldAdded t objects name kind size (now (work .entry)) (now (work .exit)) ⌝ }
 {
     let text = table::rows::string_at(work, (name - 1) as u32);
@@ -229,7 +229,7 @@ fn new_field(
 ) -> Number
     requires { ⌜ Holds (now file) (now work) ⌝ }
     requires { ⌜ Open (said (now file) (now work)) t (length (fldsOf (now work))) ⌝ }
-    requires { ⌜ getD (now work) 2 0 < 128 ⌝ }
+    requires { ⌜ fieldsIn (now work) < 128 ⌝ }
     ensures { λ r. ⌜ Went (now (file .entry)) (now (work .exit)) t (length (fldsOf (now (work .exit)))) (c .at) r (newGo (named? named) t objects (going (now (file .entry)) (now (work .entry)) end) (now (file .entry)) (c .at)) ⌝ }
 {
     let a = no_restrictions(file, c);
@@ -266,7 +266,7 @@ fn new_fields(
 ) -> Number
     requires { ⌜ Holds (now file) (now work) ⌝ }
     requires { ⌜ Open (said (now file) (now work)) t (length (fldsOf (now work))) ⌝ }
-    requires { ⌜ getD (now work) 2 0 + count ≤ 128 ⌝ }
+    requires { ⌜ fieldsIn (now work) + count ≤ 128 ⌝ }
     ensures { λ r. ⌜ Went (now (file .entry)) (now (work .exit)) t (length (fldsOf (now (work .exit)))) (c .at) r (newsGo (named? named) t objects count (going (now (file .entry)) (now (work .entry)) end) (now (file .entry)) (c .at)) ⌝ }
 {
     let mut at = c.at;

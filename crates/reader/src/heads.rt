@@ -5,14 +5,13 @@
 ghost use mathlib.Core.Path.{_≡_};
 ghost use mathlib.Core.List.{List};
 ghost use Prim.Native.Nat.{ℕ, _<_, _≤_};
-ghost use lib.ListN.{getD};
 ghost use Rattle.paper.specs.Numbers.{number};
 ghost use Rattle.paper.specs.Lists.{given?};
 ghost use Rattle.paper.specs.Ledger.{aString?};
 ghost use Rattle.paper.specs.Rules.{fewObjects?, inRange?, countRules, baseUnder};
 ghost use Rattle.paper.specs.File.{small, restrictions};
 ghost use Rattle.numbers.specs.Cursors.{Read};
-ghost use Rattle.table.specs.View.{view, said, maybe, typesOf, Ok, Holds};
+ghost use Rattle.table.specs.View.{view, said, maybe, typesOf, Ok, Holds, stringsIn, typesIn};
 ghost use Rattle.table.specs.Answers.{rangeIn};
 ghost use Rattle.table.specs.Asks.{found};
 ghost use Rattle.reader.specs.Sound.{Sound};
@@ -131,7 +130,7 @@ fn is_string(work: &[u32], n: u64) -> bool
 // The type that string n names.
 fn type_named(names: &[u8], work: &[u32], n: u64) -> Found
     requires { ⌜ Holds (now names) (now work) ⌝ }
-    requires { ⌜ (0 < n) × (n ≤ getD (now work) 0 0) ⌝ }
+    requires { ⌜ (0 < n) × (n ≤ stringsIn (now work)) ⌝ }
     ensures { λ r. ⌜ Known (now (names .entry)) (now (work .entry)) n r ⌝ }
 {
     let name = string_at(work, (n - 1) as u32);
@@ -142,7 +141,7 @@ fn type_named(names: &[u8], work: &[u32], n: u64) -> Found
 // have an entry in this block already.
 fn placed_name(work: &[u32], n: u64, known: Found, at: usize, next: Cursor) -> Named
     requires { ⌜ Ok (now work) ⌝ }
-    requires { ⌜ foundBelow (getD (now work) 1 0) known ⌝ }
+    requires { ⌜ foundBelow (typesIn (now work)) known ⌝ }
     ensures { λ r. ⌜ NamePlaced (now (work .entry)) n (found known) at (next .at) r ⌝ }
 {
     match known {
@@ -209,7 +208,7 @@ fn type_name(file: &[u8], c: Cursor, work: &[u32]) -> Named
 // types above it must end without meeting t.
 fn placed_super(work: &[u32], t: u32, n: u64, known: Found, at: usize, next: Cursor) -> Above
     requires { ⌜ Ok (now work) ⌝ }
-    requires { ⌜ foundBelow (getD (now work) 1 0) known ⌝ }
+    requires { ⌜ foundBelow (typesIn (now work)) known ⌝ }
     ensures { λ r. ⌜ SuperPlaced (typesOf (now (work .entry))) t n (found known) at (next .at) r ⌝ }
 {
     let Found::At(u) = known else {

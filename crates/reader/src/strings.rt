@@ -2,10 +2,10 @@
 // The table keeps where each string stands in the file.
 ghost use mathlib.Core.Path.{_≡_};
 ghost use Prim.Native.Nat.{_+_, _<_, _≤_};
-ghost use lib.ListN.{length, getD};
+ghost use lib.ListN.{length};
 ghost use Rattle.paper.specs.Reader.{turned};
 ghost use Rattle.paper.specs.File.{stringBlock};
-ghost use Rattle.table.specs.View.{view, said, Holds};
+ghost use Rattle.table.specs.View.{view, said, Holds, stringsIn};
 ghost use Rattle.reader.specs.Strings.{noStep, capped, EndRead, EndsRead, Skip, Did, addStrings};
 use numbers::Cursor;
 use numbers::Number;
@@ -53,7 +53,7 @@ fn place_in(file: &[u8], base: usize, e: u64) -> u32
 // The end of a string that begins where the one before it ends, at `prev`. Ends do not fall.
 fn read_end(file: &[u8], c: Cursor, prev: u64, base: usize, work: &mut [u32]) -> Number
     requires { ⌜ Holds (now file) (now work) ⌝ }
-    requires { ⌜ getD (now work) 0 0 < 1024 ⌝ }
+    requires { ⌜ stringsIn (now work) < 1024 ⌝ }
     ensures { λ r. ⌜ EndRead (now (file .entry)) (now (work .entry)) (now (work .exit)) base prev (c .at) r ⌝ }
 {
     let at = c.at;
@@ -76,7 +76,7 @@ fn read_end(file: &[u8], c: Cursor, prev: u64, base: usize, work: &mut [u32]) ->
 // The ends of n strings, whose bytes begin at `base`: the last of them, 0 if there is none.
 fn read_ends(file: &[u8], c: Cursor, n: u64, base: usize, work: &mut [u32]) -> Number
     requires { ⌜ Holds (now file) (now work) ⌝ }
-    requires { ⌜ getD (now work) 0 0 + n ≤ 1024 ⌝ }
+    requires { ⌜ stringsIn (now work) + n ≤ 1024 ⌝ }
     ensures { λ r. ⌜ EndsRead (now (file .entry)) (now (work .entry)) (now (work .exit)) base n (c .at) r ⌝ }
 {
     let mut at = c.at;

@@ -9,7 +9,7 @@ use Rattle.paper.specs.Lists.{flat}
 use Rattle.paper.specs.Ledger.{Kind, Field, noField, fieldAt, object?}
 use Rattle.paper.specs.Encode.{putValue, putChunk}
 use Rattle.paper.specs.Scan.{valueText, chunkText}
-use Rattle.table.specs.View.{kindFrom, fldsOf, logOf, view, Holds}
+use Rattle.table.specs.View.{kindFrom, fldsOf, logOf, view, Holds, stringsIn}
 use Rattle.table.specs.Answers.{fieldIn, dueIn}
 use Rattle.table.specs.declared.rows.DueRow.{DueRow}
 use Rattle.table.specs.declared.rows.FieldRow.{FieldRow}
@@ -23,7 +23,7 @@ abbrev pub KindTaken : ℕ → FieldRow → List ℕ → List ℕ → ℕ → Li
 KindTaken n row l t from out at m r =
     Told (repeat n (valueText (view t l) (kindFrom (row .kind) (row .a) (row .e)))) (flat (putValue (kindFrom (row .kind) (row .a) (row .e)))) t from out at m r
 
-module _ {n : ℕ} (row : FieldRow) {strings : ℕ} {l t : List ℕ} {from : ℕ} {out : List ℕ} {at : ℕ} {m : List ℕ} {r : TextRead} (h : Holds t l) (count : strings ≡ getD l 0 0) where
+module _ {n : ℕ} (row : FieldRow) {strings : ℕ} {l t : List ℕ} {from : ℕ} {out : List ℕ} {at : ℕ} {m : List ℕ} {r : TextRead} (h : Holds t l) (count : strings ≡ stringsIn l) where
   -- no element refers to an object
   pub taken-plain : {first last : List ℕ} → row .e < 32 → ChunkTaken n (row .kind) (row .a) (row .e) strings first last t from out at m r → KindTaken n row l t from out at m r
   taken-plain low C = C .told (view t l) (record { strings-are = h .strs-count ∙ sym count; objects-are = λ high. absurd (omega arith) })

@@ -11,7 +11,7 @@ use Rattle.paper.specs.Ledger.{Chunk, Due, State}
 use Rattle.paper.specs.Encode.{zip, putChunk, putChunks}
 use Rattle.paper.specs.Scan.{chunkText}
 use Rattle.lay.specs.Laid.{most, Laid, laid-none, laid-then, laid-as, laid-long}
-use Rattle.table.specs.View.{fldsOf, logOf, duesOf, chunksOf, view, said, Said, Holds, Now}
+use Rattle.table.specs.View.{fldsOf, logOf, duesOf, chunksOf, view, said, Said, Holds, Now, fieldsIn, duesIn}
 use Rattle.table.specs.Answers.{dueIn, noDue}
 use Rattle.table.specs.Sizes.{resized, DueSized}
 use Rattle.table.specs.declared.rows.DueRow.{DueRow}
@@ -50,13 +50,13 @@ pub record DueReady (t l : List ℕ) (i : ℕ) : Type 0 where
   pub holds : Holds t l
   pub low : Low 0 (logOf l)
   pub listed : Listed (fldsOf l)
-  pub due : i < getD l 4 0
-  pub declared : getD (duesOf l) i noDue .0 .field < getD l 2 0
+  pub due : i < duesIn l
+  pub declared : getD (duesOf l) i noDue .0 .field < fieldsIn l
 
 abbrev pub dueAt : List ℕ → ℕ → Due
 dueAt l i = getD (duesOf l) i noDue .0
 
-pub ready-at : {t l : List ℕ} → RegionReady t l → (i : ℕ) → i < getD l 4 0 → DueReady t l i
+pub ready-at : {t l : List ℕ} → RegionReady t l → (i : ℕ) → i < duesIn l → DueReady t l i
 ready-at {t} {l} R i lt =
     let ok = R .holds .ok in
     record {
@@ -67,7 +67,7 @@ ready-at {t} {l} R i lt =
       declared = omega (arith, ok .flds-count, every-at (Declared (view t l)) (duesOf l) i (R .sound .declared) (omega (arith, ok .dues-count)) .below);
     }
 
-pub field-declared : {t l : List ℕ} {i : ℕ} → DueReady t l i → (d : DueRow) → dueIn d ≡ getD (duesOf l) i noDue → d .field < getD l 2 0
+pub field-declared : {t l : List ℕ} {i : ℕ} → DueReady t l i → (d : DueRow) → dueIn d ≡ getD (duesOf l) i noDue → d .field < fieldsIn l
 field-declared {t} {l} {i} D d is = omega (arith, ap (λ (x : Due × ℕ). x .0 .field) is, D .declared)
 
 -- its reading and its bytes
@@ -148,11 +148,11 @@ sizing-start {t} {l} from R =
 what-at : (l : List ℕ) (i : ℕ) → getD (whatDue l) i (what noDue) ≡ dueAt l i
 what-at l i = List·getD-map what (duesOf l) i noDue
 
-what-long : {t l : List ℕ} → Holds t l → length (whatDue l) ≡ getD l 4 0
+what-long : {t l : List ℕ} → Holds t l → length (whatDue l) ≡ duesIn l
 what-long {t} {l} h = length-map (duesOf l) what ∙ h .ok .dues-count
 
 module _ {t l₀ : List ℕ} {from : ℕ} (R : RegionReady t l₀) {l : List ℕ} {at i : ℕ} (G : Sizing t l₀ from l at i) where
-  pub sizing-done : getD l₀ 4 0 ≤ i → i ≤ getD l₀ 4 0 → RegionSized t l₀ from (step.To (record { at = at })) l
+  pub sizing-done : duesIn l₀ ≤ i → i ≤ duesIn l₀ → RegionSized t l₀ from (step.To (record { at = at })) l
   sizing-done le ge =
       let all : length (G .done) ≡ length (duesOf l₀) = omega (arith, G .left .count, R .holds .ok .dues-count) in
       let whole = G .due ∙ sized-all (view t l₀) (duesOf l₀) (G .done) all in
@@ -171,7 +171,7 @@ module _ {t l₀ : List ℕ} {from : ℕ} (R : RegionReady t l₀) {l : List ℕ
         refused = λ q. let z : _≡_ {A = ℕ} 0 1 = cc q in absurd (omega arith);
       }
 
-  module _ (lt : i < getD l₀ 4 0) where
+  module _ (lt : i < duesIn l₀) where
     row-same : getD (duesOf l) i noDue ≡ getD (duesOf l₀) i noDue
     row-same = ap (λ (ds : List (Due × ℕ)). getD ds i noDue) (G .due) ∙ sized-at (view t l₀) (duesOf l₀) (G .done) i (omega (arith, G .left .count))
 
@@ -195,7 +195,7 @@ module _ {t l₀ : List ℕ} {from : ℕ} (R : RegionReady t l₀) {l : List ℕ
           low = subst (λ (s : State). Low 0 (s .log)) (sym (G .state)) (R .low);
           listed = subst (λ (s : State). Listed (s .fields)) (sym (G .state)) (R .listed);
           due = omega (arith, own .dues-count, before .dues-count, dues-long);
-          declared = subst (λ (d : Due × ℕ). d .0 .field < getD l 2 0) (sym row-same) (omega (arith, own .flds-count, before .flds-count, fields, first .declared));
+          declared = subst (λ (d : Due × ℕ). d .0 .field < fieldsIn l) (sym row-same) (omega (arith, own .flds-count, before .flds-count, fields, first .declared));
         }
 
     module _ {r : Step} {l′ : List ℕ} (C : ChunkSized t l at i r l′) where
@@ -266,10 +266,10 @@ laying-start t l out at k h le is =
     }
 
 module _ {t l : List ℕ} (R : RegionReady t l) {from : ℕ} {out : List ℕ} {at : ℕ} {m : List ℕ} {i : ℕ} {k : Taken} (G : Laying t l from out at m i k) where
-  pub laying-done : getD l 4 0 ≤ i → RegionTold t l from out at m (Got k)
+  pub laying-done : duesIn l ≤ i → RegionTold t l from out at m (Got k)
   laying-done le = takes k (record { value = G .done; reads = left-done (G .left) (omega (arith, what-long (R .holds))); laid = G .laid })
 
-  module _ (lt : i < getD l 4 0) {m₂ : List ℕ} {a : TextRead} (T : DueTold t l i (k .next .at) m (k .at) m₂ a) where
+  module _ (lt : i < duesIn l) {m₂ : List ℕ} {a : TextRead} (T : DueTold t l i (k .next .at) m (k .at) m₂ a) where
     laid-there : i < length (whatDue l)
     laid-there = omega (arith, what-long (R .holds))
 

@@ -2,11 +2,10 @@
 // down how many bytes each chunk has, as the front of the pair must say where each one ends; the second lays the bytes.
 ghost use mathlib.Core.Path.{_≡_};
 ghost use Prim.Native.Nat.{_+_, _<_, _≤_, min};
-ghost use lib.ListN.{getD};
 ghost use Rattle.paper.specs.Encode.{putChunk};
 ghost use Rattle.paper.specs.Scan.{chunkText};
 ghost use Rattle.lay.specs.Laid.{most};
-ghost use Rattle.table.specs.View.{fldsOf, logOf, duesOf, view, Ok, Holds};
+ghost use Rattle.table.specs.View.{fldsOf, logOf, duesOf, view, Ok, Holds, fieldsIn};
 ghost use Rattle.table.specs.Answers.{dueIn};
 ghost use Rattle.values.specs.Chunks.{Kinds};
 ghost use Rattle.walk.specs.Low.{Low};
@@ -107,7 +106,7 @@ fn chunk_bytes(
     at: usize,
 ) -> TextRead
     requires { ⌜ Holds (now text) (now work) × Low 0 (logOf (now work)) × Listed (fldsOf (now work)) ⌝ }
-    requires { ⌜ d .field < getD (now work) 2 0 ⌝ }
+    requires { ⌜ d .field < fieldsIn (now work) ⌝ }
     ensures { λ r. ⌜ Told (chunkText (view (now (text .entry)) (now (work .entry))) (dueIn d .0)) (putChunk (view (now (text .entry)) (now (work .entry))) (dueIn d .0)) (now (text .entry)) (p .at) (now (out .entry)) at (now (out .exit)) r ⌝ }
 {
     let kind = field_at(work, d.field);

@@ -31,6 +31,29 @@ use Rattle.table.specs.Rows.{seg, Each}
 --   7312 ..  7823  chunks due: field, values, size in two                       128 x 4
 --   7824 .. 16015  chunks: field and first byte, end                          4,096 x 2
 
+-- ── how many rows there are of each kind, and how many blocks came before ──
+
+abbrev pub stringsIn : List ℕ → ℕ
+stringsIn l = getD l 0 0
+
+abbrev pub typesIn : List ℕ → ℕ
+typesIn l = getD l 1 0
+
+abbrev pub fieldsIn : List ℕ → ℕ
+fieldsIn l = getD l 2 0
+
+abbrev pub rangesIn : List ℕ → ℕ
+rangesIn l = getD l 3 0
+
+abbrev pub duesIn : List ℕ → ℕ
+duesIn l = getD l 4 0
+
+abbrev pub chunksIn : List ℕ → ℕ
+chunksIn l = getD l 5 0
+
+abbrev pub blockIn : List ℕ → ℕ
+blockIn l = getD l 6 0
+
 -- ── rows ──
 
 -- 0 is none, and u + 1 is u

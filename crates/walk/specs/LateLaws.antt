@@ -5,7 +5,7 @@ use mathlib.Core.List.{List, [], _∷_, _++_}
 use Prim.Native.Nat.{ℕ, _+_, _-_, _≤_, _<_}
 use native.Mathlib.Omega.{arith}
 use lib.Dec.{ltb}
-use lib.ListN.{length, getD, take, length-append}
+use lib.ListN.{length, take, length-append}
 use lib.Seq.{take-append-seam, take-all}
 use Rattle.paper.specs.Reader.{Out, got, no, turned}
 use Rattle.paper.specs.Ledger.{Pair, State}
@@ -17,7 +17,7 @@ use Rattle.numbers.specs.declared.Cursor.{Cursor}
 use Rattle.numbers.specs.declared.Refusal.{Refusal}
 use Rattle.numbers.specs.declared.Number.{Number}
 use Rattle.numbers.specs.declared.Number.the-variants as number
-use Rattle.table.specs.View.{namesOf, duesOf, chunksOf, view, said, Said, Holds, Now}
+use Rattle.table.specs.View.{namesOf, duesOf, chunksOf, view, said, Said, Holds, Now, stringsIn, typesIn, fieldsIn, rangesIn, chunksIn}
 use Rattle.table.specs.Counts.{countsIn, cutTo, recounted, NotAbove, Cut}
 use Rattle.table.specs.declared.rows.Counts.{Counts}
 use Rattle.reader.specs.Kinds.{namedBy}
@@ -47,7 +47,7 @@ module _ {f l : List ℕ} {before : Counts} {at : ℕ} (L : LateReady f l before
   pub late-begins : Holds f l₁ × Sound (said f l₁) × (at ≤ length f)
   late-begins = let now = cut .says f (L .holds) in (now .holds, rw (now .says) (L .sound), L .inside)
 
-  module _ {types : ℕ} (count : types ≡ getD l 1 0) {l₂ : List ℕ} {a : Number} (passed : Passed f l₂ at a (frontGo (namedBy true types) (said f l₁) f at)) where
+  module _ {types : ℕ} (count : types ≡ typesIn l) {l₂ : List ℕ} {a : Number} (passed : Passed f l₂ at a (frontGo (namedBy true types) (said f l₁) f at)) where
     same-named : namedBy true types ≡ aType? (view f l)
     unfolding namedBy aType?
     same-named = λ i k. ltb k 32 || ltb (k - 32) ((count ∙ sym (L .holds .names-count)) i)
@@ -98,16 +98,16 @@ module _ {f l l₁ : List ℕ} {at size m : ℕ} (R : PairReady f l at) (F : Fro
       let h = R .steady .holds in
       λ i. record {
         state = record {
-          strings = begins-take (getD l 0 0) (grown .strings) (sym (h .strs-count)) i;
-          typeNames = begins-take (getD l 1 0) (grown .typeNames) (sym (h .names-count)) i;
-          types = begins-take (getD l 1 0) (grown .types) (sym (h .ok .types-count)) i;
-          fieldNames = begins-take (getD l 2 0) (grown .fieldNames) (sym (h .titles-count)) i;
-          fields = begins-take (getD l 2 0) (grown .fields) (sym (h .ok .flds-count)) i;
-          log = begins-take (getD l 3 0) (grown .log) (sym (h .ok .log-count)) i;
+          strings = begins-take (stringsIn l) (grown .strings) (sym (h .strs-count)) i;
+          typeNames = begins-take (typesIn l) (grown .typeNames) (sym (h .names-count)) i;
+          types = begins-take (typesIn l) (grown .types) (sym (h .ok .types-count)) i;
+          fieldNames = begins-take (fieldsIn l) (grown .fieldNames) (sym (h .titles-count)) i;
+          fields = begins-take (fieldsIn l) (grown .fields) (sym (h .ok .flds-count)) i;
+          log = begins-take (rangesIn l) (grown .log) (sym (h .ok .log-count)) i;
           block = (ap (λ (u : State). u .block) (state-is R F h₁ sound) ∙ front-block (view f l) (F .d .strings) (F .d .entries)) i;
         };
         due = sym (R .steady .between .none) i;
-        chunks = (ap (take (getD l 5 0)) (chunks-are R F h₁ sound) ∙ take-all (getD l 5 0) (chunksOf l) (omega (arith, h .ok .chunks-count))) i;
+        chunks = (ap (take (chunksIn l)) (chunks-are R F h₁ sound) ∙ take-all (chunksIn l) (chunksOf l) (omega (arith, h .ok .chunks-count))) i;
       }
 
   pub late-ready : LateReady f l₁ (countsIn l) at

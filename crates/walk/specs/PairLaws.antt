@@ -5,7 +5,7 @@ use mathlib.Core.List.{List, [], _∷_, _++_}
 use Prim.Native.Nat.{ℕ, _+_, _-_, _≤_, _<_}
 use native.Mathlib.Omega.{arith}
 use lib.Dec.{leb}
-use lib.ListN.{length, getD, drop, take, length-append}
+use lib.ListN.{length, drop, take, length-append}
 use borrow.Author.Tests.{le-leb, lt-leb}
 use Rattle.paper.specs.Reader.{if_then_else_, Out, got, no, andThen, turned, _>>=_, _>>_, give, within, part}
 use Rattle.paper.specs.Lists.{all, lastOr}
@@ -22,7 +22,7 @@ use Rattle.numbers.specs.declared.Refusal.{Refusal}
 use Rattle.numbers.specs.declared.Number.{Number}
 use Rattle.numbers.specs.declared.Number.the-variants as number
 use Rattle.numbers.specs.Cursors.{refusalOf as refusalOfNumber}
-use Rattle.table.specs.View.{fldsOf, logOf, duesOf, chunksOf, view, said, Said, Holds, Now}
+use Rattle.table.specs.View.{fldsOf, logOf, duesOf, chunksOf, view, said, Said, Holds, Now, fieldsIn, blockIn}
 use Rattle.table.specs.Counts.{nextBlock, Next}
 use Rattle.values.specs.Pass.{forget}
 use Rattle.reader.specs.Counting.{Keys}
@@ -59,7 +59,7 @@ pub record PairReady (f l : List ℕ) (at : ℕ) : Type 0 where
   pub bytes : Bytes f
   pub small : length f ≤ 1048576
   pub inside : at ≤ length f
-  pub block : getD l 6 0 < 32
+  pub block : blockIn l < 32
 
 abbrev pub outSaid : List ℕ → List ℕ → Step → Out Said
 outSaid f l (Got c) = got (said f l) (c .at)
@@ -168,15 +168,15 @@ module _ {f l l₁ : List ℕ} {at size m : ℕ} (R : PairReady f l at) (F : Fro
   unfolding within if_then_else_
   pair-short lt = record { holds = h₁; says = sym (pair-is ∙ rw (lt-leb (m + lastOr 0 (d .ends)) (length f) (omega (arith, size-is)))); steady = tt }
 
-  stood : {b : Bool} → AllStand l₁ (getD l 2 0) b → b ≡ kindsStand? s₂ (d .entries)
+  stood : {b : Bool} → AllStand l₁ (fieldsIn l) b → b ≡ kindsStand? s₂ (d .entries)
   stood A =
       let fields : fldsOf l₁ ≡ s₂ .fields = ap (λ (u : State). u .fields) state-is in
-      let count : getD l 2 0 ≡ length (fldsOf l) = sym (R .steady .holds .ok .flds-count) in
+      let count : fieldsIn l ≡ length (fldsOf l) = sym (R .steady .holds .ok .flds-count) in
       A .says f h₁ ∙ rw (count, state-is, fields) (new-fields-stand s (d .strings) (d .entries))
 
   module _ (le : m + size ≤ length f) where
     -- a kind names no type: the refusal is that of the front, read again
-    pub pair-late : AllStand l₁ (getD l 2 0) false → {l₂ : List ℕ} {r : Step} → Holds f l₂ → stepOf r ≡ refusalOf (front (aType? (view f l₁)) s f at) → PairDone f l l₂ at r
+    pub pair-late : AllStand l₁ (fieldsIn l) false → {l₂ : List ℕ} {r : Step} → Holds f l₂ → stepOf r ≡ refusalOf (front (aType? (view f l₁)) s f at) → PairDone f l l₂ at r
     unfolding within if_then_else_ kindsNamed _>>_
     pair-late A {l₂} {r} h₂ q =
         let again : stepOf r ≡ refusalOf (front (aType? s₂) s f at) = rw state-is at q in
@@ -226,7 +226,7 @@ module _ {f l l₁ : List ℕ} {at size m : ℕ} (R : PairReady f l at) (F : Fro
           listed = subst (λ (g : Said). Listed (g .state .fields)) (sym closing) (ready .listed);
         }
 
-    module _ (A : AllStand l₁ (getD l 2 0) true) where
+    module _ (A : AllStand l₁ (fieldsIn l) true) where
       whole : within (lastOr 0 (d .ends)) (faithful.region s at d) f m ≡ chunksAt (view f l₁) (duesOf l₁) f m
       unfolding within if_then_else_ kindsNamed _>>_ dataRegion chunksAt
       whole =

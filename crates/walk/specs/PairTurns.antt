@@ -5,7 +5,7 @@ use mathlib.Core.List.{List}
 use Prim.Native.Nat.{ℕ, zero, suc, _+_, _-_, _≤_, _<_}
 use native.Mathlib.Omega.{arith}
 use lib.Dec.{leb}
-use lib.ListN.{length, getD}
+use lib.ListN.{length}
 use borrow.Author.Tests.{le-leb, lt-leb}
 use Rattle.paper.specs.Reader.{if_then_else_, Out, got, no, andThen, turned, within}
 use Rattle.paper.specs.Lists.{lastOr}
@@ -16,7 +16,7 @@ use Rattle.laws.specs.Faithful as faithful
 use Rattle.laws.specs.Says.{Bytes}
 use Rattle.numbers.specs.declared.Cursor.{Cursor}
 use Rattle.numbers.specs.declared.Refusal.{Refusal}
-use Rattle.table.specs.View.{said, Said, Holds}
+use Rattle.table.specs.View.{said, Said, Holds, blockIn}
 use Rattle.walk.specs.Pairs.{saidAfter, pairTo, pairsTo}
 use Rattle.walk.specs.Blocks.{front-block}
 use Rattle.walk.specs.PairLaws.{Steady, PairReady, PairDone, outSaid, steadyAfter}
@@ -64,7 +64,7 @@ pub record WalkReady (f l : List ℕ) : Type 0 where
   pub steady : Steady f l
   pub bytes : Bytes f
   pub small : length f ≤ 1048576
-  pub block : getD l 6 0 ≡ 0
+  pub block : blockIn l ≡ 0
 
 pub record WalkDone (f l l′ : List ℕ) (r : Step) : Type 0 where
   pub holds : Holds f l′
@@ -75,7 +75,7 @@ pub record WalkDone (f l l′ : List ℕ) (r : Step) : Type 0 where
 pub record PairsGoing (f l₀ l : List ℕ) (left at : ℕ) : Type 0 where
   pub steady : Steady f l
   pub inside : at ≤ length f
-  pub block : getD l 6 0 + left ≡ 32
+  pub block : blockIn l + left ≡ 32
   pub long : length l ≡ length l₀
   pub says : pairsTo 32 (said f l₀) f 0 ≡ pairsTo left (said f l) f at
 
@@ -111,5 +111,5 @@ module _ {f l₀ l : List ℕ} {left at : ℕ} (W : WalkReady f l₀) (G : Pairs
         pub pairs-next : {c : Cursor} → a ≡ Got c → length l′ ≡ length l → PairsGoing f l₀ l′ (left - 1) (c .at)
         pairs-next {c} is long =
             let one′ = rw is at one in
-            let next : getD l′ 6 0 ≡ getD l 6 0 + 1 = pair-block (said f l) (said f l′) f at (c .at) (one′ .says) in
+            let next : blockIn l′ ≡ blockIn l + 1 = pair-block (said f l) (said f l′) f at (c .at) (one′ .says) in
             record { steady = one′ .steady .0; inside = one′ .steady .1; block = omega (arith, G .block, some-left); long = long ∙ G .long; says = turn ∙ rw is refl }

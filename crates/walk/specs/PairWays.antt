@@ -4,13 +4,13 @@ use mathlib.Core.Bool.{Bool, true, false, not}
 use mathlib.Core.List.{List}
 use Prim.Native.Nat.{ℕ, _+_, _-_, _≤_, _<_}
 use native.Mathlib.Omega.{arith}
-use lib.ListN.{length, getD}
+use lib.ListN.{length}
 use borrow.Author.Tests.{not-true, not-false}
 use Rattle.numbers.specs.declared.Cursor.{Cursor}
 use Rattle.numbers.specs.declared.Refusal.{Refusal}
 use Rattle.numbers.specs.declared.Number.{Number}
 use Rattle.numbers.specs.declared.Number.the-variants as number
-use Rattle.table.specs.View.{said, Said, Ok}
+use Rattle.table.specs.View.{said, Said, Ok, fieldsIn, blockIn}
 use Rattle.table.specs.Counts.{countsIn, Next}
 use Rattle.table.specs.declared.rows.Counts.{Counts}
 use Rattle.reader.specs.Kinds.{namedBy}
@@ -33,10 +33,10 @@ module _ {f l : List ℕ} {at : ℕ} (R : PairReady f l at) {l₁ : List ℕ} {a
   sound = (rw is at passed) .sound
 
   -- the region leaves the block as it was
-  pub next-asks : {l₂ : List ℕ} {d : Step} → RegionChecked f l₁ (c .at) d l₂ → {e : Cursor} → d ≡ Got e → Ok l₂ × (getD l₂ 6 0 < 4294967295)
+  pub next-asks : {l₂ : List ℕ} {d : Step} → RegionChecked f l₁ (c .at) d l₂ → {e : Cursor} → d ≡ Got e → Ok l₂ × (blockIn l₂ < 4294967295)
   next-asks {l₂} checked {e} yes? =
       let C = rw yes? at checked in
-      let same : getD l₂ 6 0 ≡ getD l₁ 6 0 = ap (λ (g : Said). g .state .block) (C .puts e refl) in
+      let same : blockIn l₂ ≡ blockIn l₁ = ap (λ (g : Said). g .state .block) (C .puts e refl) in
       (C .holds .ok, omega (arith, sound .block))
 
   pub start-inside : c .at ≤ length f
@@ -53,7 +53,7 @@ module _ {f l : List ℕ} {at : ℕ} (R : PairReady f l at) {l₁ : List ℕ} {a
       fits : c .at + size ≤ length f
       fits = omega (arith, start-inside)
 
-      asked-here : AllStand l₁ (getD l 2 0) b
+      asked-here : AllStand l₁ (fieldsIn l) b
       asked-here = rw had at asked
 
       pub kind-late : not b ≡ true → {l₂ : List ℕ} {r : Step} → LateDone f l₁ before at r l₂ → PairDone f l l₂ at r
@@ -66,7 +66,7 @@ module _ {f l : List ℕ} {at : ℕ} (R : PairReady f l at) {l₁ : List ℕ} {a
       region-asks = pair-ready R F (passed .holds) sound fits
 
       module _ (t : not b ≡ false) {l₂ : List ℕ} {d : Step} (checked : RegionChecked f l₁ (c .at) d l₂) where
-        stand : AllStand l₁ (getD l 2 0) true
+        stand : AllStand l₁ (fieldsIn l) true
         stand = let z : b ≡ true = not-false b t in rw z at asked-here
 
         pub region-refused : {e : Refusal} → d ≡ No e → PairDone f l l₂ at d

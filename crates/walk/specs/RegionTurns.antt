@@ -11,7 +11,7 @@ use Rattle.paper.specs.Ledger.{Chunk, Due, State, fieldAt}
 use Rattle.paper.specs.File.{value, chunk}
 use Rattle.paper.specs.Places.{spotsFrom}
 use Rattle.laws.specs.Laws.{part-inv, not-got}
-use Rattle.table.specs.View.{fldsOf, logOf, duesOf, chunksOf, view, said, Said, Holds}
+use Rattle.table.specs.View.{fldsOf, logOf, duesOf, chunksOf, view, said, Said, Holds, fieldsIn, duesIn, chunksIn}
 use Rattle.table.specs.Answers.{dueIn, noDue}
 use Rattle.table.specs.Adds.{addChunk}
 use Rattle.table.specs.Pushes.{Pushed}
@@ -78,11 +78,11 @@ pub record DueAt (f l : List ℕ) (at i : ℕ) : Type 0 where
   pub holds : Holds f l
   pub low : Low 0 (logOf l)
   pub listed : Listed (fldsOf l)
-  pub due : i < getD l 4 0
-  pub declared : getD (duesOf l) i noDue .0 .field < getD l 2 0
+  pub due : i < duesIn l
+  pub declared : getD (duesOf l) i noDue .0 .field < fieldsIn l
   pub within : at + getD (duesOf l) i noDue .1 ≤ length f
   pub small : length f ≤ 1048576
-  pub room : getD l 5 0 < 4096
+  pub room : chunksIn l < 4096
 
 -- what it does: the answer is the chunk's, and the chunk's place is put down if it was read
 pub record TurnDone (f l : List ℕ) (at i : ℕ) (r : Step) (l′ : List ℕ) : Type 0 where
@@ -98,7 +98,7 @@ module _ {f l : List ℕ} {at i : ℕ} (D : DueAt f l at i) {d : DueRow} (is : d
   size-is = ap (λ (x : Due × ℕ). x .1) is
 
   -- its row fits the file, the table, and the cells of the place
-  pub field-declared : d .field < getD l 2 0
+  pub field-declared : d .field < fieldsIn l
   field-declared = omega (arith, field-is, D .declared)
 
   pub size-within : at + d .size ≤ length f
@@ -136,10 +136,10 @@ pub record RegionReady (f l : List ℕ) (from : ℕ) : Type 0 where
   pub holds : Holds f l
   pub low : Low 0 (logOf l)
   pub listed : Listed (fldsOf l)
-  pub declared : Declared (getD l 2 0) (duesOf l)
+  pub declared : Declared (fieldsIn l) (duesOf l)
   pub within : from + sizes (duesOf l) ≤ length f
   pub small : length f ≤ 1048576
-  pub room : getD l 5 0 + getD l 4 0 ≤ 4096
+  pub room : chunksIn l + duesIn l ≤ 4096
 
 -- what it does: the answer is that of the chunks one after the other, and where all are read their places are put down
 pub record RegionChecked (f l : List ℕ) (from : ℕ) (r : Step) (l′ : List ℕ) : Type 0 where
@@ -156,7 +156,7 @@ pub record Going (f l₀ : List ℕ) (from : ℕ) (l : List ℕ) (at i : ℕ) : 
   pub holds : Holds f l
   pub state : view f l ≡ view f l₀
   pub due : duesOf l ≡ duesOf l₀
-  pub count : getD l 5 0 ≡ getD l₀ 5 0 + i
+  pub count : chunksIn l ≡ chunksIn l₀ + i
   pub within : at + sizes (drop i (duesOf l₀)) ≤ length f
   pub says : forget (chunksAt (view f l₀) (drop i (duesOf l₀)) f at) ≡ forget (chunksAt (view f l₀) (duesOf l₀) f from)
   pub spots : chunksOf l ++ spotsFrom at (drop i (duesOf l₀)) ≡ chunksOf l₀ ++ spotsFrom from (duesOf l₀)
@@ -165,7 +165,7 @@ pub going-start : {f l : List ℕ} {from : ℕ} → RegionReady f l from → Goi
 going-start R = record { holds = R .holds; state = refl; due = refl; count = omega arith; within = R .within; says = refl; spots = refl }
 
 module _ {f l₀ : List ℕ} {from : ℕ} (R : RegionReady f l₀ from) {l : List ℕ} {at i : ℕ} (G : Going f l₀ from l at i) where
-  pub going-done : getD l₀ 4 0 ≤ i → RegionChecked f l₀ from (Got (record { at = at })) l
+  pub going-done : duesIn l₀ ≤ i → RegionChecked f l₀ from (Got (record { at = at })) l
   unfolding spotsFrom
   going-done le =
       let past : length (duesOf l₀) ≤ i = omega (arith, R .holds .ok .dues-count) in
@@ -177,7 +177,7 @@ module _ {f l₀ : List ℕ} {from : ℕ} (R : RegionReady f l₀ from) {l : Lis
         puts = λ c is j. record { state = G .state j; due = G .due j; chunks = whole j };
       }
 
-  module _ (lt : i < getD l₀ 4 0) where
+  module _ (lt : i < duesIn l₀) where
     there : i < length (duesOf l₀)
     there = omega (arith, R .holds .ok .dues-count)
 
@@ -202,7 +202,7 @@ module _ {f l₀ : List ℕ} {from : ℕ} (R : RegionReady f l₀ from) {l : Lis
           low = rw (ap (λ (s : State). s .log) (G .state)) (R .low);
           listed = rw fields-same (R .listed);
           due = omega (arith, own .dues-count, before .dues-count);
-          declared = rw (G .due) (omega (arith, own .flds-count, before .flds-count, declared-at (getD l₀ 2 0) (duesOf l₀) i (R .declared) there));
+          declared = rw (G .due) (omega (arith, own .flds-count, before .flds-count, declared-at (fieldsIn l₀) (duesOf l₀) i (R .declared) there));
           within = rw (G .due) (omega (arith, size-fits));
           small = R .small;
           room = omega (arith, G .count, R .room);

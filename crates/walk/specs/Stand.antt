@@ -16,7 +16,7 @@ use Rattle.paper.specs.Lists.{all, fold}
 use Rattle.paper.specs.Ledger.{New, Entry, Field, State, noField}
 use Rattle.paper.specs.Rules.{withStrings, typeOf, afterHead, afterEntry, aType?, kindStands?, kindsStand?, afterFront}
 use Rattle.laws.specs.Count.{made, fold-fields}
-use Rattle.table.specs.View.{kindFrom, fldsOf, view, Holds}
+use Rattle.table.specs.View.{kindFrom, fldsOf, view, Holds, typesIn, fieldsIn}
 use Rattle.table.specs.Answers.{fieldIn}
 use Rattle.table.specs.Loops.{all-here, all-on, all-end}
 use Rattle.table.specs.declared.rows.FieldRow.{FieldRow}
@@ -68,12 +68,12 @@ pub stand-start : (l : List ℕ) (from : ℕ) → StandSoFar l from from
 stand-start l from = record { says = λ f h. refl }
 
 module _ {l : List ℕ} {from i : ℕ} (S : StandSoFar l from i) where
-  pub stand-done : getD l 2 0 ≤ i → AllStand l from true
+  pub stand-done : fieldsIn l ≤ i → AllStand l from true
   stand-done le =
       record { says = λ f h. sym (all-end (stands? (view f l)) (fldsOf l) i (omega (arith, h .ok .flds-count))) ∙ S .says f h }
 
   -- the field at place i
-  module _ (lt : i < getD l 2 0) {types : ℕ} (count : types ≡ getD l 1 0) {row : FieldRow} (is : fieldIn row ≡ getD (fldsOf l) i noField) {r : Bool} (one : Standing types row r) where
+  module _ (lt : i < fieldsIn l) {types : ℕ} (count : types ≡ typesIn l) {row : FieldRow} (is : fieldIn row ≡ getD (fldsOf l) i noField) {r : Bool} (one : Standing types row r) where
     here : (f : List ℕ) → Holds f l → r ≡ stands? (view f l) (fieldIn row)
     here f h = one .says (view f l) (h .names-count ∙ sym count)
 

@@ -11,7 +11,7 @@ use borrow.Author.Tests.{le-leb, eq-eqb, ne-eqb}
 use Rattle.paper.specs.Reader.{if_then_else_, Reader, Out, got, no, filled, part, repeat}
 use Rattle.paper.specs.Ledger.{Field, Chunk, noField, fieldAt, object?}
 use Rattle.paper.specs.File.{value, chunk}
-use Rattle.table.specs.View.{kindFrom, fldsOf, logOf, view, Holds}
+use Rattle.table.specs.View.{kindFrom, fldsOf, logOf, view, Holds, stringsIn}
 use Rattle.table.specs.Answers.{fieldIn, dueIn}
 use Rattle.table.specs.declared.rows.DueRow.{DueRow}
 use Rattle.table.specs.declared.rows.FieldRow.{FieldRow}
@@ -38,7 +38,7 @@ pub record Valued (n k a e : ℕ) (l f : List ℕ) (r : Number) : Type 0 where
   pub says : (source : List ℕ) → Holds source l → forget (outOf r) ≡ forget (repeat n (value (view source l) (kindFrom k a e)) f 0)
   pub inside : placeOf r ≤ length f
 
-module _ {n k a e strings : ℕ} {l f : List ℕ} {r : Number} (count : strings ≡ getD l 0 0) where
+module _ {n k a e strings : ℕ} {l f : List ℕ} {r : Number} (count : strings ≡ stringsIn l) where
   -- no element refers to an object
   pub valued-plain : {first last : List ℕ} → e < 32 → ChunkChecked n k a e strings first last f r → Valued n k a e l f r
   valued-plain low C =

@@ -1,10 +1,10 @@
 // A chunk of the data region: the part of the file that it is handed on as, what its values are held to, and its answer.
 ghost use mathlib.Core.Path.{_≡_};
 ghost use Prim.Native.Nat.{_+_, _<_, _≤_};
-ghost use lib.ListN.{length, getD};
+ghost use lib.ListN.{length};
 ghost use Rattle.paper.specs.File.{chunk};
 ghost use Rattle.paper.specs.Reader.{filled};
-ghost use Rattle.table.specs.View.{fldsOf, logOf, view, Ok, Holds};
+ghost use Rattle.table.specs.View.{fldsOf, logOf, view, Ok, Holds, fieldsIn};
 ghost use Rattle.table.specs.Answers.{dueIn};
 ghost use Rattle.numbers.specs.Cursors.{outOf, placeOf};
 ghost use Rattle.values.specs.Pass.{forget};
@@ -127,7 +127,7 @@ fn fill(a: Number, at: usize, size: usize) -> Step
 // The chunk d, from `at` on: its values are read from a part of the file that has nothing else.
 pub fn chunk(file: &[u8], at: usize, d: DueRow, work: &[u32]) -> Step
     requires { ⌜ Holds (now file) (now work) × Low 0 (logOf (now work)) × Listed (fldsOf (now work)) ⌝ }
-    requires { ⌜ (d .field < getD (now work) 2 0) × (at + d .size ≤ length (now file)) ⌝ }
+    requires { ⌜ (d .field < fieldsIn (now work)) × (at + d .size ≤ length (now file)) ⌝ }
     ensures { λ r. ⌜ stepOf r ≡ forget (chunk (view (now (file .entry)) (now (work .entry))) (dueIn d) (now (file .entry)) at) ⌝ }
 {
     let kind = field_at(work, d.field);
