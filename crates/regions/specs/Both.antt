@@ -20,7 +20,7 @@ use Rattle.texts.specs.declared.TextRead.{TextRead}
 use Rattle.texts.specs.declared.TextRead.the-variants.{Got, Bad}
 use Rattle.regions.specs.Chunks.{put-more}
 use Rattle.regions.specs.Sizes.{counted}
-use Rattle.regions.specs.Turns.{RegionReady, DueReady, DueTold, dueAt, whatDue, OneSized, ChunkSized, Sized, Sizing, sizing-start, sizing-ready, sizing-next, sizing-done, regionBytes, laying-start, row-same, there, what-at}
+use Rattle.regions.specs.Turns.{RegionReady, DueReady, DueTold, dueAt, whatDue, OneSized, ChunkSized, Sized, RegionSized, Sizing, sizing-start, sizing-ready, sizing-next, sizing-done, regionBytes, laying-start, row-same, there, what-at}
 
 -- ── one chunk ──
 
@@ -59,6 +59,16 @@ pub record RegionLaid (t l : List ℕ) (from : ℕ) (out : List ℕ) (at : ℕ) 
 pub record LaidSized (t l : List ℕ) (from : ℕ) (out : List ℕ) (at : ℕ) (m : List ℕ) (r : TextRead) (l′ : List ℕ) : Type 0 where
   pub holds : Holds t l′
   pub laid : (k : Taken) → r ≡ Got k → RegionLaid t l from out at m k l′
+
+-- what the pass that only sizes would have told
+pub as-sized : {t l : List ℕ} → RegionReady t l → {from : ℕ} {out : List ℕ} {at : ℕ} {m : List ℕ} {k : Taken} {l′ : List ℕ} → RegionLaid t l from out at m k l′ → RegionSized t l from (step.To (k .next)) l′
+as-sized {t} {l} R {from} {k = k} {l′} Y =
+    record {
+      holds = Y .sized .now .holds;
+      long = Y .sized .now .holds .ok .long ∙ sym (R .holds .ok .long);
+      sized = λ next q. let same : k .next .at ≡ next .at = cc q in subst (λ (e : ℕ). Sized t l from e l′) same (Y .sized);
+      refused = λ q. let z : _≡_ {A = ℕ} 0 1 = cc q in absurd (omega arith);
+    }
 
 -- i of them are laid, and have their sizes
 pub record Both (t l₀ : List ℕ) (from : ℕ) (out : List ℕ) (at : ℕ) (l m : List ℕ) (i : ℕ) (k : Taken) : Type 0 where
