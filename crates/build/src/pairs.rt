@@ -26,7 +26,14 @@ use words::read::Place;
 use words::read::Step;
 
 // The string block of the strings from a row on, the number of entries, and the entries.
-pub fn put_front(text: &[u8], front: Front, work: &[u32], from: u32, out: &mut [u8], at: usize) -> usize
+pub fn put_front(
+    text: &[u8],
+    front: Front,
+    work: &[u32],
+    from: u32,
+    out: &mut [u8],
+    at: usize,
+) -> usize
     requires { ⌜ Holds (now text) (now work) ⌝ }
     ensures { λ r. ⌜ FrontLays (now (text .entry)) front (now (work .entry)) from (now (out .entry)) at (now (out .exit)) r ⌝ }
 {

@@ -1,5 +1,6 @@
 // The data region of a listed pair: the lines of its values, chunk by chunk, in two passes. The first judges them and puts
 // down how many bytes each chunk has, as the front of the pair must say where each one ends; the second lays the bytes.
+// Where it is known how long the front will be, one pass does both.
 ghost use mathlib.Core.Path.{_≡_};
 ghost use Prim.Native.Nat.{_+_, _<_, _≤_, min};
 ghost use lib.ListN.{getD};
@@ -221,8 +222,7 @@ fn lay_due(text: &[u8], here: Taken, i: u32, work: &mut [u32], out: &mut [u8]) -
     TextRead::Got(k)
 }
 
-// The lines of all chunks that are due, laid as their bytes, and each chunk's size in the table: both passes in one, for
-// who knows where the bytes belong before the front says their sizes.
+// The lines of all chunks that are due, laid as their bytes, and each chunk's size in the table: both passes in one.
 pub fn lay_sized(text: &[u8], p: Place, work: &mut [u32], out: &mut [u8], at: usize) -> TextRead
     requires { ⌜ RegionReady (now text) (now work) ⌝ }
     ensures { λ r. ⌜ LaidSized (now (text .entry)) (now (work .entry)) (p .at) (now (out .entry)) at (now (out .exit)) r (now (work .exit)) ⌝ }
