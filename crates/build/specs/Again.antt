@@ -1,9 +1,9 @@
 -- The second pass: the values of a pair laid before its front. Assumes nothing.
 use mathlib.Core.Path.{_≡_, refl, sym, ap, _∙_, subst}
 use mathlib.Core.Bool.{Bool, true, false}
-use mathlib.Core.List.{List, [], _∷_, _++_, map, append-nil}
-use mathlib.Core.Option.{Option, none, some}
-use Prim.Native.Nat.{ℕ, zero, suc, _+_, _-_, _≤_, _<_, min}
+use mathlib.Core.List.{List, [], map, append-nil}
+use mathlib.Core.Option.{none, some}
+use Prim.Native.Nat.{ℕ, _-_, _≤_, _<_, min}
 use native.Mathlib.Omega.{arith}
 use lib.Dec.{leb}
 use lib.ListN.{length, getD, drop, drop-of-length-le}
@@ -15,7 +15,7 @@ use Rattle.paper.specs.Listing.{hex}
 use Rattle.paper.specs.Encode.{encode}
 use Rattle.paper.specs.Scan.{scan, short, fileOf}
 use Rattle.paper.specs.Calls.{overFront}
-use Rattle.lay.specs.Laid.{most, Laid}
+use Rattle.lay.specs.Laid.{most}
 use Rattle.laws.specs.Hexed.{hexed, Spelt}
 use Rattle.table.specs.View.{view, strsOf, duesOf}
 use Rattle.table.specs.Counts.{Next}
@@ -28,7 +28,7 @@ use Rattle.regions.specs.Turns.{RegionReady, RegionSized}
 use Rattle.regions.specs.Both.{RegionLaid, LaidSized, as-sized}
 use Rattle.regions.specs.After.{still-ready, same-view}
 use Rattle.words.specs.declared.read.Step.the-variants as step
-use Rattle.build.specs.FrontLaws.{PairAsks, Fronted}
+use Rattle.build.specs.FrontLaws.{PairAsks}
 use Rattle.build.specs.FrontTold.{FrontTold}
 use Rattle.build.specs.Pairs.{Built, PairBuilt, FileBuilt, fileBy, PairsBuilt, PairsGoing, pairs-next, pairs-done}
 use Rattle.build.specs.PairLaws.{as-many, sum-small, front-laid, region-laid-first, pair-laid-last, pair-inside, pair-built}

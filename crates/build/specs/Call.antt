@@ -7,7 +7,6 @@ use Prim.Native.Nat.{ℕ, zero, suc, _+_, _^_, _≤_, _<_}
 use native.Mathlib.Omega.{arith}
 use lib.Dec.{leb}
 use lib.ListN.{length, take, drop, length-take}
-use lib.Seq.{sets}
 use borrow.Author.Tests.{le-leb, lt-leb}
 use Rattle.paper.specs.Reader.{if_then_else_, Out, got, no}
 use Rattle.paper.specs.Bounds.{mostBytes}
@@ -22,7 +21,6 @@ use Rattle.laws.specs.Promises.{Accepted, accepted-exactly, forth, fitted-done}
 use Rattle.laws.specs.Short.{print-short}
 use Rattle.table.specs.Counts.{noughts, Begun}
 use Rattle.walk.specs.FileLaws.{steady-begun, state-begun}
-use Rattle.values.specs.Filling.{sets-front}
 use Rattle.texts.specs.declared.Taken.{Taken}
 use Rattle.texts.specs.declared.TextRead.{TextRead}
 use Rattle.texts.specs.declared.TextRead.the-variants.{Got, Bad}

@@ -1,13 +1,13 @@
 -- The chunks that are due laid as their bytes, with the size of each put down on the way. Assumes nothing.
 use mathlib.Core.Path.{_≡_, refl, sym, ap, _∙_, subst}
-use mathlib.Core.List.{List, [], _∷_, _++_}
-use Prim.Native.Nat.{ℕ, _+_, _-_, _≤_, _<_, min}
+use mathlib.Core.List.{List}
+use Prim.Native.Nat.{ℕ, _+_, _-_, _≤_, _<_}
 use native.Mathlib.Omega.{arith}
 use lib.ListN.{length, getD}
 use Rattle.paper.specs.Reader.{got}
 use Rattle.paper.specs.Lists.{flat}
 use Rattle.paper.specs.File.{what}
-use Rattle.paper.specs.Ledger.{Chunk, Due, State}
+use Rattle.paper.specs.Ledger.{Due, State}
 use Rattle.paper.specs.Encode.{putChunk, putChunks}
 use Rattle.lay.specs.Laid.{most, Laid, laid-then, laid-as, laid-long}
 use Rattle.table.specs.View.{duesOf, chunksOf, view, Holds, Now}
@@ -20,7 +20,7 @@ use Rattle.texts.specs.declared.TextRead.{TextRead}
 use Rattle.texts.specs.declared.TextRead.the-variants.{Got, Bad}
 use Rattle.regions.specs.Chunks.{put-more}
 use Rattle.regions.specs.Sizes.{counted}
-use Rattle.regions.specs.Turns.{RegionReady, DueReady, DueTold, dueAt, whatDue, OneSized, ChunkSized, Sized, RegionSized, Sizing, sizing-start, sizing-ready, sizing-next, sizing-done, regionBytes, laying-start, row-same, there, what-at}
+use Rattle.regions.specs.Turns.{RegionReady, DueReady, DueTold, dueAt, whatDue, OneSized, ChunkSized, Sized, RegionSized, Sizing, sizing-start, sizing-next, sizing-done, regionBytes, laying-start, row-same, there, what-at}
 
 -- ── one chunk ──
 

@@ -1,3 +1,4 @@
+-- `regions::lay_due` meets its contract: a law for each of its ways out. Assumes nothing.
 use native.Mathlib.Omega.{arith}
 use Rattle.regions.specs.Both.{due-given-up, due-behind, due-laid}
 use Rattle.lay.specs.Laid.{most}

@@ -1,3 +1,4 @@
+-- `regions::lay_sized` meets its contract. The invariant: the chunks that are left, from here, give the whole. Assumes nothing.
 use Rattle.regions.specs.Both.{Both, both-start, both-given-up, both-next, both-done}
 use Rattle.regions.specs.Turns.{sizing-ready}
 use Rattle.lay.specs.Laid.{most}
