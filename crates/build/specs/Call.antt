@@ -6,8 +6,7 @@ use mathlib.Core.Option.{Option, none, some}
 use Prim.Native.Nat.{ℕ, zero, suc, _+_, _^_, _≤_, _<_}
 use native.Mathlib.Omega.{arith}
 use lib.Dec.{leb}
-use lib.ListN.{length, drop}
-use lib.Seq.{sets}
+use lib.ListN.{length, take, drop, length-take}
 use borrow.Author.Tests.{le-leb, lt-leb}
 use Rattle.paper.specs.Reader.{if_then_else_, Out, got, no}
 use Rattle.paper.specs.Bounds.{mostBytes}
@@ -15,14 +14,13 @@ use Rattle.paper.specs.Ledger.{Ledger}
 use Rattle.paper.specs.Encode.{encode}
 use Rattle.paper.specs.Listing.{print}
 use Rattle.paper.specs.Scan.{scan, short, fileOf}
-use Rattle.paper.specs.Calls.{Answer, done, refused, _>>=_, _>>_, need, found, fitted, build, howMany, leftIn, cleared, writes, afterBuild}
+use Rattle.paper.specs.Calls.{Answer, done, refused, _>>=_, _>>_, need, found, fitted, build, howMany, leftIn, cleared, writes, overFront, afterBuild}
 use Rattle.lay.specs.Laid.{most, Laid}
 use Rattle.laws.specs.Says.{Bytes}
 use Rattle.laws.specs.Promises.{Accepted, accepted-exactly, forth, fitted-done}
 use Rattle.laws.specs.Short.{print-short}
 use Rattle.table.specs.Counts.{noughts, Begun}
 use Rattle.walk.specs.FileLaws.{steady-begun, state-begun}
-use Rattle.values.specs.Filling.{sets-front}
 use Rattle.texts.specs.declared.Taken.{Taken}
 use Rattle.texts.specs.declared.TextRead.{TextRead}
 use Rattle.texts.specs.declared.TextRead.the-variants.{Got, Bad}
@@ -31,6 +29,7 @@ use Rattle.calls.specs.Table.{untouched, noughts-first}
 use Rattle.calls.specs.Fixed.{one-way}
 use Rattle.calls.specs.declared.replies.Reply.{Reply}
 use Rattle.calls.specs.declared.replies.Reply.the-variants.{Done, Refused}
+use Rattle.build.specs.Again.{Filled}
 use Rattle.build.specs.Pairs.{TextReady, PairsBuilt, FileBuilt, fileBy, not-short}
 
 -- ── what the definitions answer, with a table that is long enough ──
@@ -76,6 +75,10 @@ module _ {t out m : List ℕ} {k : Taken} (B : FileBuilt t out 0 m k) where
 
 -- ── counted, and then written ──
 
+-- so many bytes are lent
+pub lent : (n : ℕ) (out : List ℕ) → n ≤ length out → n ≡ length (take n out)
+lent n out le = omega (arith, length-take n out)
+
 module _ {t out out₁ : List ℕ} (same : out₁ ≡ out) {m : List ℕ} {a : TextRead} (C : PairsBuilt t [] 0 m a) where
   pub build-bad : a ≡ Bad → Wrote (build (length out) 16384 t) out (Refused 20) out₁
   build-bad is = rw same (wrote-none (build-none (length out) t (subst (fileBy t [] 0 m) is (C .told))))
@@ -95,19 +98,16 @@ module _ {t out out₁ : List ℕ} (same : out₁ ≡ out) {m : List ℕ} {a : T
           let many = file-length counted le in
           rw same (wrote-none (build-some (length out) t (file-fits counted le) ∙ rw (lt-leb (length (encode (counted .ledger))) (length out) (omega arith))))
 
-      pub build-written : k .at ≤ length out₁ → {m₂ : List ℕ} {b : TextRead} → PairsBuilt t out₁ 0 m₂ b → Wrote (build (length out) 16384 t) out (Done (k .at)) m₂
-      build-written room {m₂} {b} W = go b (rw same at (W .told))
-        where
-          go : (b : TextRead) → fileBy t out 0 m₂ b → Wrote (build (length out) 16384 t) out (Done (k .at)) m₂
-          go (Got j) B =
-              let long : length out₁ ≡ length out = ap length same in
-              let again : B .ledger ≡ counted .ledger = cc (sym (B .reads) ∙ counted .reads) in
-              let many : length (encode (B .ledger)) ≡ k .at = rw again (file-length counted le) in
-              let fits : length (encode (B .ledger)) ≤ length out = omega arith in
-              wrote-all
-              (build-some (length out) t (rw again (file-fits counted le)) ∙ fitted-done (length out) (encode (B .ledger)) fits)
-              many (B .laid .bytes ∙ sets-front (encode (B .ledger)) out fits)
-          go Bad h = let z : none ≡ some (encode (counted .ledger)) = sym h ∙ file-fits counted le in let y : _≡_ {A = ℕ} 0 1 = cc z in absurd (omega arith)
+      pub build-written : k .at ≤ length out₁ → {m₂ : List ℕ} → Filled t (take (k .at) out₁) m₂ → Wrote (build (length out) 16384 t) out (Done (k .at)) (m₂ ++ drop (k .at) out₁)
+      unfolding overFront
+      build-written room {m₂} W =
+          let long : length out₁ ≡ length out = ap length same in
+          let f = encode (counted .ledger) in
+          let many : length f ≡ k .at = file-length counted le in
+          let fits : length f ≤ length out = omega arith in
+          let stands : m₂ ≡ f = W .told f (file-fits counted le) (many ∙ lent (k .at) out₁ room) in
+          wrote-all (build-some (length out) t (file-fits counted le) ∙ fitted-done (length out) f fits) many
+          (ap (λ (x : List ℕ). x ++ drop (k .at) out₁) stands ∙ ap (λ (x : List ℕ). f ++ drop (k .at) x) same ∙ ap (λ (n : ℕ). f ++ drop n out) (sym many))
 
 -- a text that is too long is not read at all
 pub build-too-long : (t : List ℕ) → Bytes t → 4294967295 < length t → {out : List ℕ} → Wrote (build (length out) 16384 t) out (Refused 20) out

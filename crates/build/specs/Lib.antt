@@ -7,3 +7,5 @@ pub mod Call
 pub mod PairLaws
 pub mod FrontTold
 pub mod Puts
+pub mod Swap
+pub mod Again

@@ -34,11 +34,13 @@ use Rattle.fronts.specs.Ends.{sum, endsOf, ends-of}
 use Rattle.regions.specs.Sizes.{counted}
 use Rattle.regions.specs.Chunks.{chunksText}
 use Rattle.regions.specs.Turns.{whatDue, RegionReady, RegionSized, Sized, regionBytes, RegionTold}
+use Rattle.regions.specs.Both.{RegionLaid}
 use Rattle.regions.specs.After.{same-view, same-dues, still-ready, sized-length, told-before}
 use Rattle.words.specs.declared.read.Place.{Place}
 use Rattle.words.specs.declared.read.Step.{Step}
 use Rattle.words.specs.declared.read.Step.the-variants as step
 use Rattle.build.specs.Spelling.{chunkText-hexed, putChunks-hexed}
+use Rattle.build.specs.Swap.{laid-swap}
 use Rattle.build.specs.Fronts.{regionText, withValues}
 use Rattle.build.specs.FrontLaws.{PairAsks, Fronted}
 use Rattle.build.specs.Pairs.{Refused, wrong, tooLong, Built}
@@ -174,6 +176,16 @@ module _ {t l : List ℕ} {at : ℕ} {s : State} (S : Spelt s) {m from to : ℕ}
 
       pub region-laid-not : {o₁ o₂ : List ℕ} {p₁ : ℕ} {a : TextRead} → RegionTold t l₂ to o₁ p₁ o₂ a → a ≡ Bad → ⊥
       region-laid-not T q = let z : no 20 0 ≡ got cs (next .at) = sym (was-bad (told-before sized T) q) ∙ sized .reads in let y : _≡_ {A = ℕ} 0 1 = cc z in absurd (omega arith)
+
+      -- by the code that lays them as it sizes them, before the front
+      pub region-laid-first : {o₁ o₂ : List ℕ} {p₁ : ℕ} {k : Taken} → RegionLaid t l₁ to o₁ p₁ o₂ k l₂ → Laid o₁ p₁ (flat (λ b. b) bs) o₂ (k .at)
+      region-laid-first Y =
+          let same : Y .sized .chunks ≡ cs = cc (sym (Y .sized .reads) ∙ sized .reads) in
+          laid-as (Y .laid) (ap (λ (x : List Chunk). regionBytes (view t l₁) (whatDue l₁) x) same ∙ ap (flat (λ b. b)) (bytes-as cs))
+
+      pub pair-laid-last :
+          {out o₁ o₂ : List ℕ} {p q r : ℕ} → Laid out q (flat (λ b. b) bs) o₁ r → Laid o₁ p (putFront s ss es (endsFrom 0 bs)) o₂ q → Laid out p (putPair s pair) o₂ r
+      pair-laid-last a b = laid-as (laid-swap a b) (sym pair-is)
 
       -- lent no room, they are counted by their sizes
       pub region-counted : (o₁ : List ℕ) → length o₁ ≡ 0 → {p₁ r : ℕ} → r ≡ min (p₁ + n) most → Laid o₁ p₁ (flat (λ b. b) bs) o₁ r

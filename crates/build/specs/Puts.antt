@@ -66,7 +66,7 @@ module _ {t l : List ℕ} {at : ℕ} (A : PairAsks t l at) {a : FrontRead} {l₁
   pair-no-front is = record { told = λ s S q. wrong (subst (λ (x : FrontRead). frontedBy t l s at x l₁) is (T .told s S q)) }
 
   module _ {x : Front} (is : a ≡ Got x) where
-    fronted : (s : State) → Spelt s → view t l ≡ hexed s → Fronted t l s at (x .entries) (x .from .at) (x .values .at) l₁
+    pub fronted : (s : State) → Spelt s → view t l ≡ hexed s → Fronted t l s at (x .entries) (x .from .at) (x .values .at) l₁
     fronted s S q = subst (λ (y : FrontRead). frontedBy t l s at y l₁) is (T .told s S q)
 
     pub front-ready : RegionReady t l₁

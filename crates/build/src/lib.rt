@@ -1,4 +1,5 @@
 // A file from its listing: the call, and the pairs of a text from its lines to their bytes.
+pub mod again;
 pub mod front;
 pub mod pairs;
 pub mod strings;
@@ -10,6 +11,8 @@ ghost use Rattle.paper.specs.Calls.{build, afterBuild};
 ghost use Rattle.table.specs.Counts.{noughts};
 ghost use Rattle.calls.specs.Told.{Wrote, after};
 ghost use Rattle.build.specs.Pairs.{PairsBuilt};
+ghost use Rattle.build.specs.Again.{Filled};
+use again::pairs_again;
 use calls::replies::Reply;
 use pairs::pairs_text;
 use paper::Ledger;
@@ -17,22 +20,36 @@ use table::counts::begin;
 use table::counts::clear;
 use texts::TextRead;
 
-// The file of a text, as far as there is room, and how long it is.
-fn build_file(text: &[u8], table: &mut [u32], out: &mut [u8]) -> TextRead
-    requires { ⌜ (length (now table) ≡ 16384) × (length (now text) < 4294967296) ⌝ }
+// The file of a text, as far as there is room, how long it is, and where the values of its pairs begin.
+fn build_file(text: &[u8], table: &mut [u32], out: &mut [u8], places: &mut [u64]) -> TextRead
+    requires { ⌜ (length (now table) ≡ 16384) × (length (now text) < 4294967296) × (length (now places) ≡ 32) ⌝ }
     ensures { λ r. ⌜ PairsBuilt (now (text .entry)) (now (out .entry)) 0 (now (out .exit)) r ⌝ }
 {
     begin(table);
-    pairs_text(text, table, out, 0)
+    pairs_text(text, table, out, 0, places)
 }
 
-// The same code judges and writes: lent no room it stores nothing. So nothing is written before all of it is known to be the
+// The file of a text that is known to have one, of just the length that is lent. The places are right, so the second pass
+// does not give up; were they not, the first one would do as well, with room.
+fn fill_file(text: &[u8], table: &mut [u32], out: &mut [u8], places: &mut [u64])
+    requires { ⌜ (length (now table) ≡ 16384) × (length (now text) < 4294967296) × (length (now places) ≡ 32) ⌝ }
+    ensures { λ _. ⌜ Filled (now (text .entry)) (now (out .entry)) (now (out .exit)) ⌝ }
+{
+    begin(table);
+    if pairs_again(text, table, places, out) {
+        return;
+    }
+    build_file(text, table, out, places);
+}
+
+// The same code judges and counts: lent no room it stores nothing. So nothing is written before all of it is known to be the
 // listing of a file, and the file to fit.
 fn write_file(text: &[u8], table: &mut [u32], out: &mut [u8]) -> Reply
     requires { ⌜ (length (now table) ≡ 16384) × (length (now text) < 4294967296) ⌝ }
     ensures { λ r. ⌜ Wrote (build (length (now (out .entry))) 16384 (now (text .entry))) (now (out .entry)) r (now (out .exit)) ⌝ }
 {
-    let a = build_file(text, table, &mut out[..0]);
+    let mut places = [0u64; 32];
+    let a = build_file(text, table, &mut out[..0], &mut places);
     let TextRead::Got(k) = a else {
         return Reply::Refused(20);
     };
@@ -43,7 +60,7 @@ fn write_file(text: &[u8], table: &mut [u32], out: &mut [u8]) -> Reply
     if out.len() < count {
         return Reply::Refused(19);
     }
-    build_file(text, table, out);
+    fill_file(text, table, &mut out[..count], &mut places);
     Reply::Done(count as u64)
 }
 

@@ -1,6 +1,7 @@
 // A pair of a text as the bytes of a file, and all pairs. Lent no room, the same code judges and counts.
 ghost use mathlib.Core.Path.{_≡_};
-ghost use Prim.Native.Nat.{_+_, min};
+ghost use Prim.Native.Nat.{_+_, _<_, min};
+ghost use lib.ListN.{length};
 ghost use Rattle.lay.specs.Laid.{most};
 ghost use Rattle.table.specs.View.{Holds};
 ghost use Rattle.regions.specs.Turns.{RegionReady};
@@ -25,7 +26,14 @@ use words::read::Place;
 use words::read::Step;
 
 // The string block of the strings from a row on, the number of entries, and the entries.
-fn put_front(text: &[u8], front: Front, work: &[u32], from: u32, out: &mut [u8], at: usize) -> usize
+pub fn put_front(
+    text: &[u8],
+    front: Front,
+    work: &[u32],
+    from: u32,
+    out: &mut [u8],
+    at: usize,
+) -> usize
     requires { ⌜ Holds (now text) (now work) ⌝ }
     ensures { λ r. ⌜ FrontLays (now (text .entry)) front (now (work .entry)) from (now (out .entry)) at (now (out .exit)) r ⌝ }
 {
@@ -60,9 +68,19 @@ fn put_region(text: &[u8], p: Place, work: &[u32], size: u64, out: &mut [u8], at
     k.at
 }
 
-// The pair at p, laid from `at` on. What is too long for any file is not laid: its ends might pass 64 bits.
-fn pair_text(text: &[u8], p: Place, work: &mut [u32], out: &mut [u8], at: usize) -> TextRead
+// The pair at p, laid from `at` on, and the place where its values begin, put down as the i-th. What is too long for any
+// file is not laid: its ends might pass 64 bits.
+fn pair_text(
+    text: &[u8],
+    p: Place,
+    work: &mut [u32],
+    out: &mut [u8],
+    at: usize,
+    places: &mut [u64],
+    i: usize,
+) -> TextRead
     requires { ⌜ PairAsks (now text) (now work) (p .at) ⌝ }
+    requires { ⌜ (length (now places) ≡ 32) × (i < 32) ⌝ }
     ensures { λ r. ⌜ PairBuilt (now (text .entry)) (now (work .entry)) (p .at) (now (out .entry)) at (now (out .exit)) r (now (work .exit)) ⌝ }
 {
     let known = strings(work);
@@ -77,14 +95,22 @@ fn pair_text(text: &[u8], p: Place, work: &mut [u32], out: &mut [u8], at: usize)
         return TextRead::Bad;
     }
     let behind = put_front(text, front, work, known, out, at);
+    places[i] = behind as u64;
     let end = put_region(text, front.values, work, size, out, behind);
     next_block(work);
     TextRead::Got(Taken { next, at: end })
 }
 
-// All pairs of the text, from `at` on.
-pub fn pairs_text(text: &[u8], work: &mut [u32], out: &mut [u8], at: usize) -> TextRead
+// All pairs of the text, from `at` on, and where the values of each begin, the last of 32 places for the first pair.
+pub fn pairs_text(
+    text: &[u8],
+    work: &mut [u32],
+    out: &mut [u8],
+    at: usize,
+    places: &mut [u64],
+) -> TextRead
     requires { ⌜ TextReady (now text) (now work) ⌝ }
+    requires { ⌜ length (now places) ≡ 32 ⌝ }
     ensures { λ r. ⌜ PairsBuilt (now (text .entry)) (now (out .entry)) at (now (out .exit)) r ⌝ }
 {
     let mut here = Taken {
@@ -97,7 +123,8 @@ pub fn pairs_text(text: &[u8], work: &mut [u32], out: &mut [u8], at: usize) -> T
         if left == 0 {
             return TextRead::Bad;
         }
-        let a = pair_text(text, Place { at: from }, work, out, here.at);
+        let i = (left - 1) as usize;
+        let a = pair_text(text, Place { at: from }, work, out, here.at, places, i);
         let TextRead::Got(k) = a else {
             return TextRead::Bad;
         };

@@ -4,3 +4,4 @@ pub mod Sizes
 pub mod Sums
 pub mod Turns
 pub mod After
+pub mod Both

@@ -140,19 +140,19 @@ pub record Sizing (t l₀ : List ℕ) (from : ℕ) (l : List ℕ) (at i : ℕ) :
   pub due : duesOf l ≡ sizedBy (view t l₀) (duesOf l₀) done
   pub chunks : chunksOf l ≡ chunksOf l₀
 
-pub sizing-start : {t l : List ℕ} (from : ℕ) → RegionReady t l → Sizing t l from l from 0
+unfoldable pub sizing-start : {t l : List ℕ} (from : ℕ) → RegionReady t l → Sizing t l from l from 0
 sizing-start {t} {l} from R =
     record { holds = R .holds; done = []; left = left-start (view t l) (whatDue l) t from; state = refl; due = sym (sized-none (view t l) (duesOf l)); chunks = refl }
 
 -- the same chunk by either list
-what-at : (l : List ℕ) (i : ℕ) → getD (whatDue l) i (what noDue) ≡ dueAt l i
+pub what-at : (l : List ℕ) (i : ℕ) → getD (whatDue l) i (what noDue) ≡ dueAt l i
 what-at l i = List·getD-map what (duesOf l) i noDue
 
-what-long : {t l : List ℕ} → Holds t l → length (whatDue l) ≡ duesIn l
+pub what-long : {t l : List ℕ} → Holds t l → length (whatDue l) ≡ duesIn l
 what-long {t} {l} h = length-map (duesOf l) what ∙ h .ok .dues-count
 
 module _ {t l₀ : List ℕ} {from : ℕ} (R : RegionReady t l₀) {l : List ℕ} {at i : ℕ} (G : Sizing t l₀ from l at i) where
-  pub sizing-done : duesIn l₀ ≤ i → i ≤ duesIn l₀ → RegionSized t l₀ from (step.To (record { at = at })) l
+  unfoldable pub sizing-done : duesIn l₀ ≤ i → i ≤ duesIn l₀ → RegionSized t l₀ from (step.To (record { at = at })) l
   sizing-done le ge =
       let all : length (G .done) ≡ length (duesOf l₀) = omega (arith, G .left .count, R .holds .ok .dues-count) in
       let whole = G .due ∙ sized-all (view t l₀) (duesOf l₀) (G .done) all in
@@ -172,10 +172,10 @@ module _ {t l₀ : List ℕ} {from : ℕ} (R : RegionReady t l₀) {l : List ℕ
       }
 
   module _ (lt : i < duesIn l₀) where
-    row-same : getD (duesOf l) i noDue ≡ getD (duesOf l₀) i noDue
+    pub row-same : getD (duesOf l) i noDue ≡ getD (duesOf l₀) i noDue
     row-same = ap (λ (ds : List (Due × ℕ)). getD ds i noDue) (G .due) ∙ sized-at (view t l₀) (duesOf l₀) (G .done) i (omega (arith, G .left .count))
 
-    there : i < length (whatDue l₀)
+    pub there : i < length (whatDue l₀)
     there = omega (arith, what-long (R .holds))
 
     dues-long : length (duesOf l) ≡ length (duesOf l₀)
@@ -200,7 +200,7 @@ module _ {t l₀ : List ℕ} {from : ℕ} (R : RegionReady t l₀) {l : List ℕ
 
     module _ {r : Step} {l′ : List ℕ} (C : ChunkSized t l at i r l′) where
       -- the turn's reading, by what the region began with
-      as-first : (e : Out Chunk) → chunkText (view t l) (dueAt l i) t at ≡ e → chunkText (view t l₀) (getD (whatDue l₀) i (what noDue)) t at ≡ e
+      pub as-first : (e : Out Chunk) → chunkText (view t l) (dueAt l i) t at ≡ e → chunkText (view t l₀) (getD (whatDue l₀) i (what noDue)) t at ≡ e
       as-first e h =
           ap (λ (d : Due). chunkText (view t l₀) d t at) (what-at l₀ i ∙ ap (λ (d : Due × ℕ). d .0) (sym row-same))
           ∙ ap (λ (s : State). chunkText s (dueAt l i) t at) (sym (G .state)) ∙ h
@@ -215,7 +215,7 @@ module _ {t l₀ : List ℕ} {from : ℕ} (R : RegionReady t l₀) {l : List ℕ
             refused = λ q. all;
           }
 
-      pub sizing-next : {next : Place} → r ≡ step.To next → Sizing t l₀ from l′ (next .at) (i + 1)
+      unfoldable pub sizing-next : {next : Place} → r ≡ step.To next → Sizing t l₀ from l′ (next .at) (i + 1)
       sizing-next {next} is =
           let O = C .sized next is in
           let c = O .chunk in
@@ -250,12 +250,12 @@ pub record Laying (t l : List ℕ) (from : ℕ) (out : List ℕ) (at : ℕ) (m :
   pub left : Left (view t l) (whatDue l) t from i done (k .next .at)
   pub laid : Laid out at (regionBytes (view t l) (whatDue l) done) m (k .at)
 
-put-none : (s : State) (ds : List Due) → putChunks s ds [] ≡ []
+pub put-none : (s : State) (ds : List Due) → putChunks s ds [] ≡ []
 unfolding putChunks
 put-none s [] = refl
 put-none s (d ∷ ds) = refl
 
-pub laying-start : (t l : List ℕ) (out : List ℕ) (at : ℕ) (k : Taken) → length out ≤ most → k .at ≤ most → k .at ≡ at → Laying t l (k .next .at) out at out 0 k
+unfoldable pub laying-start : (t l : List ℕ) (out : List ℕ) (at : ℕ) (k : Taken) → length out ≤ most → k .at ≤ most → k .at ≡ at → Laying t l (k .next .at) out at out 0 k
 unfolding flat
 laying-start t l out at k h le is =
     record {

@@ -1,5 +1,6 @@
 // The data region of a listed pair: the lines of its values, chunk by chunk, in two passes. The first judges them and puts
 // down how many bytes each chunk has, as the front of the pair must say where each one ends; the second lays the bytes.
+// Where it is known how long the front will be, one pass does both.
 ghost use mathlib.Core.Path.{_≡_};
 ghost use Prim.Native.Nat.{_+_, _<_, _≤_, min};
 ghost use Rattle.paper.specs.Encode.{putChunk};
@@ -14,6 +15,7 @@ ghost use Rattle.walk.specs.Region.{sizes};
 ghost use Rattle.texts.specs.Told.{Told};
 ghost use Rattle.regions.specs.Chunk.{KindTaken};
 ghost use Rattle.regions.specs.Turns.{RegionReady, DueReady, DueTold, ChunkSized, RegionSized, RegionTold};
+ghost use Rattle.regions.specs.Both.{DueLaid, LaidSized};
 use table::pushes::size_due;
 use table::rows::DueRow;
 use table::rows::FieldRow;
@@ -192,6 +194,43 @@ pub fn lay_chunks(text: &[u8], p: Place, work: &[u32], out: &mut [u8], at: usize
     let mut i = 0;
     while i < n {
         let a = due_bytes(text, here.next, i, work, out, here.at);
+        let TextRead::Got(k) = a else {
+            return TextRead::Bad;
+        };
+        here = k;
+        i += 1;
+    }
+    TextRead::Got(here)
+}
+
+// The i-th chunk that is due, laid as its bytes, and its size. It gives up at the largest number: a count that stands still
+// says no size.
+fn lay_due(text: &[u8], here: Taken, i: u32, work: &mut [u32], out: &mut [u8]) -> TextRead
+    requires { ⌜ DueReady (now text) (now work) i ⌝ }
+    ensures { λ r. ⌜ DueLaid (now (text .entry)) (now (work .entry)) (here .next .at) i (now (out .entry)) (here .at) (now (out .exit)) r (now (work .exit)) ⌝ }
+{
+    let a = due_bytes(text, here.next, i, work, out, here.at);
+    let TextRead::Got(k) = a else {
+        return TextRead::Bad;
+    };
+    if MOST <= k.at as u64 {
+        return TextRead::Bad;
+    }
+    let size = k.at - here.at;
+    size_due(work, i, size as u64);
+    TextRead::Got(k)
+}
+
+// The lines of all chunks that are due, laid as their bytes, and each chunk's size in the table: both passes in one.
+pub fn lay_sized(text: &[u8], p: Place, work: &mut [u32], out: &mut [u8], at: usize) -> TextRead
+    requires { ⌜ RegionReady (now text) (now work) ⌝ }
+    ensures { λ r. ⌜ LaidSized (now (text .entry)) (now (work .entry)) (p .at) (now (out .entry)) at (now (out .exit)) r (now (work .exit)) ⌝ }
+{
+    let n = dues(work);
+    let mut here = Taken { next: p, at };
+    let mut i = 0;
+    while i < n {
+        let a = lay_due(text, here, i, work, out);
         let TextRead::Got(k) = a else {
             return TextRead::Bad;
         };

@@ -7,4 +7,5 @@ use Rattle.build.proofs.build_file.Tie as tie
 
 pub build-file-spec : {M : Type 1} → statement M
 build-file-spec =
-    tie.close (tie.spec (λ c κs. search needs) (λ c κs. text-ready ((c .before .before .before .before .before .before .before .before .before) .pre .1) (c .before .before .before .before .begin .ensures) (all-bytes ((c .before .before .before .before .before .before .before .before .before) .args .text .now) (λ i. omega (arith, c .before .before .before .before .before .before .before .before .shared-slice-known .given i)))) (λ c. search needs) (λ c. search needs) (λ c. search needs))
+    tie.close
+    (tie.spec (λ c κs. search needs) (λ c κs. (text-ready ((c .before .before .before .before .before .before .before .before .before .before .before) .pre .1) (c .before .before .before .before .before .begin .ensures) (all-bytes ((c .before .before .before .before .before .before .before .before .before .before .before) .args .text .now) (λ i. omega (arith, c .before .before .before .before .before .before .before .before .before .before .shared-slice-known .given i))), (c .before .before .before .before .before .before .before .before .before .before .before) .pre .2)) (λ c. search needs) (λ c. search needs) (λ c. search needs) (λ c. search needs))
