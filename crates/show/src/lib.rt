@@ -150,20 +150,76 @@ fn put_list(part: &[u8], c: Cursor, e: u64, out: &mut [u8], at: usize) -> Behind
     put_value(part, next, m, e, out, at)
 }
 
-// The line of a value of one element.
-fn put_single(part: &[u8], c: Cursor, e: u64, out: &mut [u8], at: usize) -> Behind
-    requires { ⌜ elementKind? e ≡ true ⌝ }
-    ensures { λ r. ⌜ Shows e (λ s. repeat 1 (element s e)) valueLine (now (part .entry)) (c .at) (now (out .entry)) at (now (out .exit)) r ⌝ }
+// The line of a v64.
+fn put_v64_line(part: &[u8], c: Cursor, out: &mut [u8], at: usize) -> Behind
+    ensures { λ r. ⌜ Shows 11 (λ s. repeat 1 (element s 11)) valueLine (now (part .entry)) (c .at) (now (out .entry)) at (now (out .exit)) r ⌝ }
 {
     let first = put_bytes(out, at, b"val");
-    let one = put_next(part, c, e, out, first);
+    let one = put_v64(part, c, out, first);
     let end = put(out, one.at, b'\n');
     let next = one.next;
     Behind { next, at: end }
 }
 
-// The lines of n values of one element each.
-fn put_singles(part: &[u8], n: u32, e: u64, out: &mut [u8], at: usize) -> usize
+// The lines of n of them.
+fn put_v64_lines(part: &[u8], n: u32, out: &mut [u8], at: usize) -> usize
+    ensures { λ r. ⌜ Shown 11 (λ s. repeat n (repeat 1 (element s 11))) printChunk (now (part .entry)) 0 (now (out .entry)) at (now (out .exit)) r ⌝ }
+{
+    let mut here = Behind {
+        next: Cursor { at: 0 },
+        at,
+    };
+    let mut rest = n;
+    while 0 < rest {
+        here = put_v64_line(part, here.next, out, here.at);
+        rest -= 1;
+    }
+    here.at
+}
+
+// The line of a string's or an object's number.
+fn put_link_line(part: &[u8], c: Cursor, e: u64, out: &mut [u8], at: usize) -> Behind
+    requires { ⌜ 13 < e ⌝ }
+    ensures { λ r. ⌜ Shows e (λ s. repeat 1 (element s e)) valueLine (now (part .entry)) (c .at) (now (out .entry)) at (now (out .exit)) r ⌝ }
+{
+    let first = put_bytes(out, at, b"val");
+    let one = put_link(part, c, e, out, first);
+    let end = put(out, one.at, b'\n');
+    let next = one.next;
+    Behind { next, at: end }
+}
+
+// The lines of n of them.
+fn put_link_lines(part: &[u8], n: u32, e: u64, out: &mut [u8], at: usize) -> usize
+    requires { ⌜ 13 < e ⌝ }
+    ensures { λ r. ⌜ Shown e (λ s. repeat n (repeat 1 (element s e))) printChunk (now (part .entry)) 0 (now (out .entry)) at (now (out .exit)) r ⌝ }
+{
+    let mut here = Behind {
+        next: Cursor { at: 0 },
+        at,
+    };
+    let mut rest = n;
+    while 0 < rest {
+        here = put_link_line(part, here.next, e, out, here.at);
+        rest -= 1;
+    }
+    here.at
+}
+
+// The line of a value of one element of another kind.
+fn put_other_line(part: &[u8], c: Cursor, e: u64, out: &mut [u8], at: usize) -> Behind
+    requires { ⌜ elementKind? e ≡ true ⌝ }
+    ensures { λ r. ⌜ Shows e (λ s. repeat 1 (element s e)) valueLine (now (part .entry)) (c .at) (now (out .entry)) at (now (out .exit)) r ⌝ }
+{
+    let first = put_bytes(out, at, b"val");
+    let one = put_other(part, c, e, out, first);
+    let end = put(out, one.at, b'\n');
+    let next = one.next;
+    Behind { next, at: end }
+}
+
+// The lines of n of them.
+fn put_other_lines(part: &[u8], n: u32, e: u64, out: &mut [u8], at: usize) -> usize
     requires { ⌜ elementKind? e ≡ true ⌝ }
     ensures { λ r. ⌜ Shown e (λ s. repeat n (repeat 1 (element s e))) printChunk (now (part .entry)) 0 (now (out .entry)) at (now (out .exit)) r ⌝ }
 {
@@ -173,10 +229,24 @@ fn put_singles(part: &[u8], n: u32, e: u64, out: &mut [u8], at: usize) -> usize
     };
     let mut rest = n;
     while 0 < rest {
-        here = put_single(part, here.next, e, out, here.at);
+        here = put_other_line(part, here.next, e, out, here.at);
         rest -= 1;
     }
     here.at
+}
+
+// The lines of n values of one element each. The kind is asked before the loop, never in it.
+fn put_singles(part: &[u8], n: u32, e: u64, out: &mut [u8], at: usize) -> usize
+    requires { ⌜ elementKind? e ≡ true ⌝ }
+    ensures { λ r. ⌜ Shown e (λ s. repeat n (repeat 1 (element s e))) printChunk (now (part .entry)) 0 (now (out .entry)) at (now (out .exit)) r ⌝ }
+{
+    if e == 11 {
+        return put_v64_lines(part, n, out, at);
+    }
+    if 13 < e {
+        return put_link_lines(part, n, e, out, at);
+    }
+    put_other_lines(part, n, e, out, at)
 }
 
 // The lines of n values of m elements each.
