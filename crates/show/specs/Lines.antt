@@ -1,13 +1,15 @@
 -- Elements, values and chunks as text. Assumes nothing.
 use mathlib.Core.Path.{_≡_, refl, sym, ap, subst, _∙_}
 use mathlib.Core.Bool.{Bool, true, false}
-use mathlib.Core.List.{List, [], _∷_}
-use Prim.Native.Nat.{ℕ, _*_, _≤_, _<_}
+use mathlib.Core.List.{List, [], _∷_, append-nil}
+use Prim.Native.Nat.{ℕ, _-_, _*_, _^_, _≤_, _<_}
 use native.Mathlib.Omega.{arith}
 use native.Mathlib.Nat.{lt-of-not-le}
 use native.Mathlib.Decide.{decLe}
 use lib.IntN.{ℤ}
 use Rattle.paper.specs.Reader.{if_then_else_, Reader, Out, got, _>>=_, give, each, times, repeat}
+use Rattle.paper.specs.Numbers.{signed, v64}
+use Rattle.paper.specs.Lists.{flat}
 use Rattle.paper.specs.Ledger.{Element, Chunk, State}
 use Rattle.paper.specs.File.{small, element, value}
 use Rattle.paper.specs.Listing.{ascii, tab, newline, glyph, shown, decimal, decimalℤ, hexDigits, elementWord, valueLine, printChunk}
@@ -20,7 +22,9 @@ use Rattle.numbers.specs.declared.Cursor.{Cursor}
 use Rattle.numbers.specs.declared.Refusal.{Refusal}
 use Rattle.numbers.specs.declared.Number.{Number}
 use Rattle.numbers.specs.declared.Number.the-variants as number
-use Rattle.values.specs.Bare.{Linkable}
+use Rattle.values.specs.Bare.{Linkable, bare, boundOf, wholeMade, made, element-stands, bare-link, bound-link, made-link}
+use Rattle.values.specs.Items.{linked, atMost}
+use Rattle.values.specs.Filling.{repeat-first, repeat-none}
 use Rattle.values.specs.Chunks.{value-constant, kind-array, kind-many, kind-plain}
 use Rattle.values.specs.Columns.{elementOf, Storable, StorableIn, valued, ValueRead}
 use Rattle.values.specs.declared.columns.Value.{Value}
@@ -94,6 +98,50 @@ module _ {e : ℕ} {f : List ℕ} {from : ℕ} {a : Valued} (R : ValueRead e f f
         there : (s : State) (x : Element) (q : ℕ) → Linkable s e → element s e f from ≡ got x q → got (elementOf v) (c .at) ≡ got x q
         there s x q L h = ap valued (sym is) ∙ R .reads s x q L h
 
+-- the same by the number that stands for it
+module _ {e : ℕ} {f : List ℕ} {from : ℕ} {a : Number} (R : Read (bare e) (boundOf e) f from a) where
+  pub number-none : {u : Refusal} → a ≡ number.No u → {l : List ℕ} {at : ℕ} {m : List ℕ} {o : Behind} → Shows e (λ s. element s e) (λ x. tab ∷ elementWord x) f from l at m o
+  number-none is =
+      shows-none (λ s x q L h. not-got (sym (was-refused R is .says) ∙ element-stands s e f from x q L h .reads))
+
+  pub number-shows :
+      {n : ℕ} {c : Cursor} → a ≡ number.Got n c
+      → {l m k w : List ℕ} {at p r : ℕ} → Laid l at (tab ∷ []) m p → Laid m p w k r → w ≡ elementWord (made e n)
+      → Shows e (λ s. element s e) (λ x. tab ∷ elementWord x) f from l at k (record { next = c; at = r })
+  number-shows {n} {c} is {l} {m} {k} {w} {at} {p} {r} one two word =
+      record {
+        text = record {
+          laid = λ s x q L h.
+              laid-as (laid-then one (laid-as two word)) (ap (λ (y : Element). tab ∷ elementWord y) (there s x q L h .0));
+        };
+        next = λ s x q L h. there s x q L h .1;
+      }
+    where
+      there : (s : State) (x : Element) (q : ℕ) → Linkable s e → element s e f from ≡ got x q → (made e n ≡ x) × (c .at ≡ q)
+      there s x q L h =
+          let S = element-stands s e f from x q L h in
+          let both : got n (c .at) ≡ got (S .number) q = sym (was-got R is .says) ∙ S .reads in
+          let same : n ≡ S .number = cc both in
+          (ap (made e) same ∙ S .is, cc both)
+
+-- a v64
+pub v64-read : {f : List ℕ} {from : ℕ} {a : Number} → Read v64 (2 ^ 64) f from a → Read (bare 11) (boundOf 11) f from a
+unfolding bare boundOf if_then_else_
+v64-read R = R
+
+pub v64-word : (n : ℕ) → decimalℤ (signed 8 n) ≡ elementWord (made 11 n)
+unfolding made wholeMade elementWord if_then_else_
+v64-word n = refl
+
+-- the number of a string or of an object
+module _ {e : ℕ} (h : 13 < e) where
+  pub link-read : {f : List ℕ} {from : ℕ} {a : Number} → Read (linked (atMost (2 ^ 63 - 1))) (2 ^ 63) f from a → Read (bare e) (boundOf e) f from a
+  link-read R = rw (bare-link e h, bound-link e h) R
+
+  pub link-word : (n : ℕ) → decimal n ≡ elementWord (made e n)
+  unfolding elementWord
+  link-word n = rw (made-link e h n)
+
 -- ── a value's line ──
 
 pub line-shows :
@@ -106,6 +154,27 @@ line-shows word all close =
       text = record { laid = λ s es q L h. laid-as (laid-then word (laid-then (all .text .laid s es q L h) close)) (sym (line-tabs elementWord (ascii "val") es)) };
       next = all .next;
     }
+
+-- one element is a row of one
+pub one-shows :
+    {e : ℕ} {f : List ℕ} {from : ℕ} {l : List ℕ} {at : ℕ} {m : List ℕ} {o : Behind}
+    → Shows e (λ s. element s e) (λ x. tab ∷ elementWord x) f from l at m o → Shows e (λ s. repeat 1 (element s e)) (tabs elementWord) f from l at m o
+unfolding tabs flat
+one-shows {e} {f} {from} {l} {at} {m} {o} S =
+    record {
+      text = record {
+        laid = λ s es q L h.
+            let F = only s es q h in
+            laid-as (S .text .laid s (F .0) q L (F .1)) (sym (append-nil (tab ∷ elementWord (F .0))) ∙ ap (flat (λ x. tab ∷ elementWord x)) (sym (F .2)));
+      };
+      next = λ s es q L h. let F = only s es q h in S .next s (F .0) q L (F .1);
+    }
+  where
+    only : (s : State) (es : List Element) (q : ℕ) → repeat 1 (element s e) f from ≡ got es q → (x : Element) × (element s e f from ≡ got x q) × (es ≡ x ∷ [])
+    only s es q h =
+        let F = repeat-first (element s e) 0 f from es q h in
+        let N = repeat-none (element s e) f (F .next) (F .more) q (F .rest) in
+        (F .value, F .first ∙ ap (λ (p : ℕ). got (F .value) p) (N .1), F .is ∙ ap (λ (v : List Element). F .value ∷ v) (N .0))
 
 module _ {e : ℕ} {f : List ℕ} {from : ℕ} {a : Number} (R : Read small 65536 f from a) {l : List ℕ} {at : ℕ} {m : List ℕ} {o : Behind} where
   pub list-none : {u : Refusal} → a ≡ number.No u → Shows e (list e) valueLine f from l at m o

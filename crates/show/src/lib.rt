@@ -22,8 +22,10 @@ use values::chunks::list_length;
 use values::columns::Value;
 use values::columns::Valued;
 use values::columns::read_value;
+use values::runs::number_up_to;
 use words::write::put_decimal;
 use words::write::put_hex;
+use words::write::put_integer;
 use words::write::put_signed;
 
 // Behind what was read, and behind what was laid.
@@ -54,8 +56,35 @@ pub fn put_element(out: &mut [u8], at: usize, v: Value) -> usize
     }
 }
 
-// A tab, and the word of the element of kind e that comes next.
-fn put_next(part: &[u8], c: Cursor, e: u64, out: &mut [u8], at: usize) -> Behind
+// A tab, and the word of the v64 that comes next.
+fn put_v64(part: &[u8], c: Cursor, out: &mut [u8], at: usize) -> Behind
+    ensures { λ r. ⌜ Shows 11 (λ s. element s 11) (λ x. tab ∷ elementWord x) (now (part .entry)) (c .at) (now (out .entry)) at (now (out .exit)) r ⌝ }
+{
+    let a = c.v64(part);
+    let Number::Got(n, next) = a else {
+        return Behind { next: c, at };
+    };
+    let word = put(out, at, b'\t');
+    let end = put_integer(out, word, n);
+    Behind { next, at: end }
+}
+
+// A tab, and the number of the string or of the object that comes next.
+fn put_link(part: &[u8], c: Cursor, e: u64, out: &mut [u8], at: usize) -> Behind
+    requires { ⌜ 13 < e ⌝ }
+    ensures { λ r. ⌜ Shows e (λ s. element s e) (λ x. tab ∷ elementWord x) (now (part .entry)) (c .at) (now (out .entry)) at (now (out .exit)) r ⌝ }
+{
+    let a = number_up_to(part, c, 9223372036854775807);
+    let Number::Got(n, next) = a else {
+        return Behind { next: c, at };
+    };
+    let word = put(out, at, b'\t');
+    let end = put_decimal(out, word, n);
+    Behind { next, at: end }
+}
+
+// A tab, and the word of the element of kind e that comes next, by way of its value.
+fn put_other(part: &[u8], c: Cursor, e: u64, out: &mut [u8], at: usize) -> Behind
     requires { ⌜ elementKind? e ≡ true ⌝ }
     ensures { λ r. ⌜ Shows e (λ s. element s e) (λ x. tab ∷ elementWord x) (now (part .entry)) (c .at) (now (out .entry)) at (now (out .exit)) r ⌝ }
 {
@@ -66,6 +95,21 @@ fn put_next(part: &[u8], c: Cursor, e: u64, out: &mut [u8], at: usize) -> Behind
     let word = put(out, at, b'\t');
     let end = put_element(out, word, v);
     Behind { next, at: end }
+}
+
+// A tab, and the word of the element of kind e that comes next. The kinds that are met most have a way of their own, which is
+// shorter.
+fn put_next(part: &[u8], c: Cursor, e: u64, out: &mut [u8], at: usize) -> Behind
+    requires { ⌜ elementKind? e ≡ true ⌝ }
+    ensures { λ r. ⌜ Shows e (λ s. element s e) (λ x. tab ∷ elementWord x) (now (part .entry)) (c .at) (now (out .entry)) at (now (out .exit)) r ⌝ }
+{
+    if e == 11 {
+        return put_v64(part, c, out, at);
+    }
+    if 13 < e {
+        return put_link(part, c, e, out, at);
+    }
+    put_other(part, c, e, out, at)
 }
 
 // m such elements. Where there are none, e need not be the kind of an element: a constant has no other.
@@ -104,6 +148,105 @@ fn put_list(part: &[u8], c: Cursor, e: u64, out: &mut [u8], at: usize) -> Behind
         return Behind { next: c, at };
     };
     put_value(part, next, m, e, out, at)
+}
+
+// The line of a v64.
+fn put_v64_line(part: &[u8], c: Cursor, out: &mut [u8], at: usize) -> Behind
+    ensures { λ r. ⌜ Shows 11 (λ s. repeat 1 (element s 11)) valueLine (now (part .entry)) (c .at) (now (out .entry)) at (now (out .exit)) r ⌝ }
+{
+    let first = put_bytes(out, at, b"val");
+    let one = put_v64(part, c, out, first);
+    let end = put(out, one.at, b'\n');
+    let next = one.next;
+    Behind { next, at: end }
+}
+
+// The lines of n of them.
+fn put_v64_lines(part: &[u8], n: u32, out: &mut [u8], at: usize) -> usize
+    ensures { λ r. ⌜ Shown 11 (λ s. repeat n (repeat 1 (element s 11))) printChunk (now (part .entry)) 0 (now (out .entry)) at (now (out .exit)) r ⌝ }
+{
+    let mut here = Behind {
+        next: Cursor { at: 0 },
+        at,
+    };
+    let mut rest = n;
+    while 0 < rest {
+        here = put_v64_line(part, here.next, out, here.at);
+        rest -= 1;
+    }
+    here.at
+}
+
+// The line of a string's or an object's number.
+fn put_link_line(part: &[u8], c: Cursor, e: u64, out: &mut [u8], at: usize) -> Behind
+    requires { ⌜ 13 < e ⌝ }
+    ensures { λ r. ⌜ Shows e (λ s. repeat 1 (element s e)) valueLine (now (part .entry)) (c .at) (now (out .entry)) at (now (out .exit)) r ⌝ }
+{
+    let first = put_bytes(out, at, b"val");
+    let one = put_link(part, c, e, out, first);
+    let end = put(out, one.at, b'\n');
+    let next = one.next;
+    Behind { next, at: end }
+}
+
+// The lines of n of them.
+fn put_link_lines(part: &[u8], n: u32, e: u64, out: &mut [u8], at: usize) -> usize
+    requires { ⌜ 13 < e ⌝ }
+    ensures { λ r. ⌜ Shown e (λ s. repeat n (repeat 1 (element s e))) printChunk (now (part .entry)) 0 (now (out .entry)) at (now (out .exit)) r ⌝ }
+{
+    let mut here = Behind {
+        next: Cursor { at: 0 },
+        at,
+    };
+    let mut rest = n;
+    while 0 < rest {
+        here = put_link_line(part, here.next, e, out, here.at);
+        rest -= 1;
+    }
+    here.at
+}
+
+// The line of a value of one element of another kind.
+fn put_other_line(part: &[u8], c: Cursor, e: u64, out: &mut [u8], at: usize) -> Behind
+    requires { ⌜ elementKind? e ≡ true ⌝ }
+    ensures { λ r. ⌜ Shows e (λ s. repeat 1 (element s e)) valueLine (now (part .entry)) (c .at) (now (out .entry)) at (now (out .exit)) r ⌝ }
+{
+    let first = put_bytes(out, at, b"val");
+    let one = put_other(part, c, e, out, first);
+    let end = put(out, one.at, b'\n');
+    let next = one.next;
+    Behind { next, at: end }
+}
+
+// The lines of n of them.
+fn put_other_lines(part: &[u8], n: u32, e: u64, out: &mut [u8], at: usize) -> usize
+    requires { ⌜ elementKind? e ≡ true ⌝ }
+    ensures { λ r. ⌜ Shown e (λ s. repeat n (repeat 1 (element s e))) printChunk (now (part .entry)) 0 (now (out .entry)) at (now (out .exit)) r ⌝ }
+{
+    let mut here = Behind {
+        next: Cursor { at: 0 },
+        at,
+    };
+    let mut rest = n;
+    while 0 < rest {
+        here = put_other_line(part, here.next, e, out, here.at);
+        rest -= 1;
+    }
+    here.at
+}
+
+// The lines of n values of one element each. The kind is asked before the loop, never in it.
+fn put_singles(part: &[u8], n: u32, e: u64, out: &mut [u8], at: usize) -> usize
+    requires { ⌜ elementKind? e ≡ true ⌝ }
+    ensures { λ r. ⌜ Shown e (λ s. repeat n (repeat 1 (element s e))) printChunk (now (part .entry)) 0 (now (out .entry)) at (now (out .exit)) r ⌝ }
+{
+    if e == 11 {
+        return put_v64_lines(part, n, out, at);
+    }
+    if 13 < e {
+        return put_link_lines(part, n, e, out, at);
+    }
+    put_other_lines(part, n, e, out, at)
 }
 
 // The lines of n values of m elements each.
@@ -151,6 +294,6 @@ pub fn show_chunk(part: &[u8], n: u32, k: u64, a: u64, e: u64, out: &mut [u8], a
         0..=4 => put_values(part, n, 0, e, out, at),
         15 => put_values(part, n, a, e, out, at),
         17..=19 => put_lists(part, n, e, out, at),
-        _ => put_values(part, n, 1, e, out, at),
+        _ => put_singles(part, n, e, out, at),
     }
 }

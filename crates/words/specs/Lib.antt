@@ -3,6 +3,7 @@ pub mod Decimals
 pub mod Hexes
 pub mod Signs
 pub mod Answers
+pub mod Backwards
 pub mod ReadBytes
 pub mod ReadDecimals
 pub mod ReadSigns

@@ -1,23 +1,30 @@
 // Words laid into a lent buffer. What does not fit is counted and not stored, as in `lay`, so no writer has a precondition.
 ghost use mathlib.Core.Path.{_≡_};
 ghost use mathlib.Core.List.{[], _∷_};
-ghost use Prim.Native.Nat.{_/_, _%_, _^_, _<_};
+ghost use Prim.Native.Nat.{_+_, _/_, _%_, _^_, _≤_, _<_};
 ghost use lib.ListN.{length};
+ghost use lib.Seq.{sets};
 ghost use Rattle.lay.specs.Laid.{Laid};
 ghost use Rattle.paper.specs.Listing.{glyph, decimal, decimalℤ, hexDigits, hex};
 ghost use Rattle.paper.specs.Numbers.{signed, unsigned};
 use crate::HALF;
 use crate::MOST;
 
-// A digit of base ten or sixteen, in lower case.
+// A digit of base ten or sixteen, in lower case: from 10 on it stands 39 further. Reckoned and not asked, since nothing
+// foretells which digit comes.
+fn glyph_of(d: u64) -> u8
+    requires { ⌜ d < 16 ⌝ }
+    ensures { λ r. ⌜ r ≡ glyph d ⌝ }
+{
+    let letter = (d + 6) / 16;
+    (48 + d + 39 * letter) as u8
+}
+
 pub fn put_glyph(out: &mut [u8], at: usize, d: u64) -> usize
     requires { ⌜ d < 16 ⌝ }
     ensures { λ r. ⌜ Laid (now (out .entry)) at (glyph d ∷ []) (now (out .exit)) r ⌝ }
 {
-    if d < 10 {
-        return lay::put(out, at, (48 + d) as u8);
-    }
-    lay::put(out, at, (87 + d) as u8)
+    lay::put(out, at, glyph_of(d))
 }
 
 // How many digits a number has, without making them.
@@ -37,25 +44,52 @@ fn digits_of(x: u64) -> usize
     n
 }
 
-// The digits come last first, so they are set down in a local from its end, and laid all at once: twice as fast for a long
-// number as a recursion that lays each digit. 64 bits have at most 20 of them.
+// The n digits of a number, all of which fit. They come last first, so they are stored from the last: two for each
+// division, since that is what takes the time.
+fn store_decimal(out: &mut [u8], at: usize, n: usize, x: u64)
+    requires { ⌜ (n ≡ length (decimal x)) × (at + n ≤ length (now out)) ⌝ }
+    ensures { λ _. ⌜ now (out .exit) ≡ sets (now (out .entry)) at (decimal x) ⌝ }
+{
+    let mut p = at + n;
+    let mut left = x;
+    while 100 <= left {
+        let two = left % 100;
+        left = left / 100;
+        out[p - 1] = (48 + two % 10) as u8;
+        out[p - 2] = (48 + two / 10) as u8;
+        p -= 2;
+    }
+    if 10 <= left {
+        out[at + 1] = (48 + left % 10) as u8;
+        out[at] = (48 + left / 10) as u8;
+        return;
+    }
+    out[at] = (48 + left) as u8;
+}
+
+// A decimal of which some digits may fit: from a local, which has room for all. 64 bits have at most 20 of them.
+fn put_some_digits(out: &mut [u8], at: usize, n: usize, x: u64) -> usize
+    requires { ⌜ n ≡ length (decimal x) ⌝ }
+    ensures { λ r. ⌜ Laid (now (out .entry)) at (decimal x) (now (out .exit)) r ⌝ }
+{
+    let mut digits = [0u8; 20];
+    store_decimal(&mut digits, 0, n, x);
+    lay::put_bytes(out, at, &digits[..n])
+}
+
 pub fn put_decimal(out: &mut [u8], at: usize, x: u64) -> usize
     ensures { λ r. ⌜ Laid (now (out .entry)) at (decimal x) (now (out .exit)) r ⌝ }
 {
+    let n = digits_of(x);
     // Lent no room, it only counts.
     if out.len() <= at {
-        return lay::behind(at, digits_of(x));
+        return lay::behind(at, n);
     }
-    let mut digits = [0u8; 20];
-    let mut first: usize = 19;
-    let mut left = x;
-    while 10 <= left {
-        digits[first] = (48 + left % 10) as u8;
-        left = left / 10;
-        first -= 1;
+    if n <= out.len() - at {
+        store_decimal(out, at, n, x);
+        return at + n;
     }
-    digits[first] = (48 + left) as u8;
-    lay::put_bytes(out, at, &digits[first..])
+    put_some_digits(out, at, n, x)
 }
 
 // The signed number of these 64 bits.
@@ -98,8 +132,22 @@ fn hex_digit(x: u64, k: usize) -> u64
     0
 }
 
-// The last n digits of x in hex.
-pub fn put_hex(out: &mut [u8], at: usize, n: usize, x: u64) -> usize
+// The last n digits of x in hex, all of which fit, stored from the last.
+fn store_hex(out: &mut [u8], at: usize, n: usize, x: u64)
+    requires { ⌜ at + n ≤ length (now out) ⌝ }
+    ensures { λ _. ⌜ now (out .exit) ≡ sets (now (out .entry)) at (hexDigits n x) ⌝ }
+{
+    let mut k = n;
+    let mut left = x;
+    while 0 < k {
+        k -= 1;
+        out[at + k] = glyph_of(left % 16);
+        left = left / 16;
+    }
+}
+
+// The last n digits of x in hex, one by one, of which some may fit.
+fn put_some_hex(out: &mut [u8], at: usize, n: usize, x: u64) -> usize
     ensures { λ r. ⌜ Laid (now (out .entry)) at (hexDigits n x) (now (out .exit)) r ⌝ }
 {
     let mut p = at;
@@ -109,6 +157,21 @@ pub fn put_hex(out: &mut [u8], at: usize, n: usize, x: u64) -> usize
         p = put_glyph(out, p, hex_digit(x, k));
     }
     p
+}
+
+// The last n digits of x in hex.
+pub fn put_hex(out: &mut [u8], at: usize, n: usize, x: u64) -> usize
+    ensures { λ r. ⌜ Laid (now (out .entry)) at (hexDigits n x) (now (out .exit)) r ⌝ }
+{
+    // Lent no room, it only counts.
+    if out.len() <= at {
+        return lay::behind(at, n);
+    }
+    if n <= out.len() - at {
+        store_hex(out, at, n, x);
+        return at + n;
+    }
+    put_some_hex(out, at, n, x)
 }
 
 // A byte in hex.

@@ -1,4 +1,3 @@
-use Rattle.show.specs.Lines.{next-none, next-storable, next-shows}
 use borrow.Author.Needs.{needs}
 use Rattle.show.proofs.put_next.Statement.{statement}
 use Rattle.show.proofs.put_next.Tie as tie
@@ -9,9 +8,10 @@ put-next-spec =
     (tie.spec
     (λ c κs. search needs)
     (λ c. search needs)
-    (λ c. search needs)
-    (λ c. next-none (c .before .before .read-value .ensures) (c .enum-told .given .1))
+    (λ c. rw (c .before .before .before .before .if1 .taken) (c .before .before .put-v64 .ensures))
     (λ c κs. search needs)
-    (λ c κs. next-storable (c .before .before .before .before .before .before .before .before .read-value .ensures) (c .before .before .before .before .before .before .a .given .1))
     (λ c. search needs)
-    (λ c. next-shows (c .before .before .before .before .before .before .before .before .before .before .before .read-value .ensures) (c .before .before .before .before .before .before .before .before .before .a .given .1) (c .before .before .before .before .before .before .put .ensures) (c .before .before .put-element .ensures)))
+    (λ c. search needs)
+    (λ c κs. search needs)
+    (λ c. search needs)
+    (λ c. search needs))

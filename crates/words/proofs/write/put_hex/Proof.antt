@@ -1,33 +1,32 @@
-use borrow.Author.Needs.{needs}
+use mathlib.Core.Path.{sym}
 use native.Mathlib.Omega.{arith}
-use Rattle.paper.specs.Listing.{hexDigits}
-use Rattle.lay.specs.Laid.{most, Leads, leads-start, leads-on, leads-end}
-use Rattle.words.specs.Hexes.{hex-next, hex-over}
+use Rattle.lay.specs.Laid.{most, laid-over, laid-whole, laid-as}
+use Rattle.words.specs.Backwards.{hex-long, laid-stored}
+use borrow.Author.Needs.{needs}
 use Rattle.words.proofs.write.put_hex.Statement.{statement}
 use Rattle.words.proofs.write.put_hex.Tie as tie
 
-abbrev Inv-loop : tie.InvT-loop
-Inv-loop out₀ at n x p₀ k₀ out p k = Leads out₀ at (hexDigits n x) out p (hexDigits k x)
-
-abbrev μ-loop : tie.MeasureT-loop
-μ-loop out₀ at n x p₀ k₀ out p k = k
-
--- src/write.rt:83:5
-loop-holds : tie.Need-loop-holds Inv-loop μ-loop
+-- src/write.rt:168:9
+returns : tie.Need-returns
 unfolding most
-loop-holds c = leads-start (omega arith) (omega arith)
+returns c = laid-over (omega arith) (c .before .if1 .taken) (rw hex-long (c .behind .ensures))
+
+-- src/write.rt:172:9
+returns-2 : tie.Need-returns-2
+unfolding most
+returns-2 c = laid-stored (sym (hex-long _ _)) (omega arith) (omega arith) (c .before .before .store-hex .ensures)
 
 pub put-hex-spec : {M : Type 1} → statement M
 put-hex-spec =
     tie.close
     (tie.spec
-    Inv-loop
-    μ-loop
-    loop-holds
-    (λ c. omega arith)
     (λ c κs. search needs)
-    (λ c κs. omega arith)
-    (λ c. omega arith)
-    (λ c. leads-on (c .before .before .before .before .before .before .loop .inv) (hex-next (c .before .before .before .before .before .before .loop .k) ((c .before .before .before .before .before .before .before .before) .args .x) (omega arith)) (rw (c .before .before .before .hex-digit .ensures) at (c .before .before .put-glyph .ensures)))
-    (λ c. c .before .loop .inv .long)
-    (λ c. leads-end (c .before .loop .inv) (hex-over (c .before .loop .k) ((c .before .before .before) .args .x) (omega arith))))
+    returns
+    (λ c. search needs)
+    (λ c κs. search needs)
+    (λ c. search needs)
+    (λ c. search needs)
+    returns-2
+    (λ c κs. search needs)
+    (λ c. search needs)
+    (λ c. search needs))
