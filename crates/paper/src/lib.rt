@@ -1,10 +1,10 @@
 // The bounds, written once in code on the ledger's own type, and the statement that they are those of the definitions.
 ghost use mathlib.Core.Path.{_≡_};
 ghost use lib.Dec.{leb};
-ghost use Rattle.paper.specs.Bounds.{mostBytes};
+ghost use Rattle.paper.specs.Bounds.{mostBytes, mostObjects};
 ghost use Rattle.paper.specs.Agree.{Agree};
 
-// A ledger, by the length of its file.
+// A ledger, by the length of its file: to ask whether it is within the bound.
 pub struct Ledger {
     pub bytes: u64,
 }
@@ -36,6 +36,9 @@ impl Ledger {
     // Over all base pools; and no count of entries or objects, local start or array length is above it.
     pub const OBJECTS: u64 = 65535;
 
+    // The ranges of objects: a type has at most one entry in a block.
+    pub const RANGES: u64 = Ledger::PAIRS * Ledger::TYPES;
+
     // The numbers of a work table.
     pub const TABLE: u64 = 16384;
 
@@ -48,6 +51,13 @@ impl Ledger {
         ensures { λ r. ⌜ r ≡ leb (self .bytes) mostBytes ⌝ }
     {
         self.bytes <= Ledger::BYTES
+    }
+
+    // Whether a count of entries or objects, a local start or an array's length is within the bound of objects.
+    pub fn is_small(n: u64) -> bool
+        ensures { λ r. ⌜ r ≡ leb n mostObjects ⌝ }
+    {
+        n <= Ledger::OBJECTS
     }
 
     pub fn bounds() -> Bounds
