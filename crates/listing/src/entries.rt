@@ -10,10 +10,9 @@ ghost use Rattle.reader.specs.Heads.{due, headOf};
 ghost use Rattle.table.specs.View.{said};
 ghost use Rattle.reader.specs.Sound.{Sound};
 ghost use Rattle.listing.specs.Entries.{EntryPrinted, EntriesDone};
-use crate::fields::past_ends;
-use crate::fields::print_news;
+use crate::fields::Listed;
+use crate::fields::print_fields;
 use lines::OrDash;
-use lines::put_olds;
 use lines::put_type;
 use numbers::Cursor;
 use numbers::Number;
@@ -63,7 +62,8 @@ fn put_head(out: &mut [u8], at: usize, top: Top, n: u64) -> usize
     put_type(out, at, name.number, sup, start, top.count as u64, n)
 }
 
-// The lines of the entry at c, of which the table says what is known before it.
+// The lines of the entry at c, of which the table says what is known before it, and the place behind them. A read that fails
+// ends the entry at once; its refusal is the answer of `entry`, which reads the same bytes next.
 fn print_entry(file: &[u8], c: Cursor, work: &[u32], out: &mut [u8], at: usize) -> usize
     requires { ⌜ Holds (now file) (now work) ⌝ }
     ensures { λ r. ⌜ EntryPrinted (now (file .entry)) (now (work .entry)) (c .at) (now (out .entry)) at (now (out .exit)) r ⌝ }
@@ -82,10 +82,11 @@ fn print_entry(file: &[u8], c: Cursor, work: &[u32], out: &mut [u8], at: usize) 
         return at;
     }
     let behind_head = put_head(out, at, top, n);
-    let behind_olds = put_olds(out, behind_head, known);
-    let c3 = past_ends(file, c2, known);
-    let all = print_news(file, c3, n - known, out, behind_olds);
-    all.at
+    let all = print_fields(file, c2, known, n - known, out, behind_head);
+    let Listed::Got(_, end) = all else {
+        return at;
+    };
+    end
 }
 
 // The lines of so many entries. Each is printed from what the table says before it, and then read into the table: the answer
