@@ -21,6 +21,8 @@ use Rattle.words.specs.declared.read.Place.{Place}
 use Rattle.parse.specs.Answers.{keptNew}
 use Rattle.fronts.specs.declared.Ends.{Ends}
 use Rattle.fronts.specs.declared.Here.{Here}
+use Rattle.fronts.specs.declared.Put.{Put}
+use Rattle.fronts.specs.declared.Put.the-variants.{To, Bad}
 use Rattle.fronts.specs.Ends.{sum, endsOf, sizes, ends-behind, left, NextEnd}
 use Rattle.fronts.specs.Lines.{needed, written, Listed, oldOr, fieldLine, oneEnd, fieldBytes, one-each, Lines, entryLines, endsOfEntry, entryBytes, allLines, give-inv, repeat-length, entries-read, entries-same, ends-due}
 
@@ -30,12 +32,17 @@ pub record Went (l : List ℕ) (w : List ℕ) (q : ℕ) (es m : List ℕ) (at : 
   pub place : r .next .at ≡ q
   pub ends : left l (r .ends) ≡ es
 
+-- so it is of lines that were read
+abbrev pub wentTo : List ℕ → List ℕ → ℕ → List ℕ → List ℕ → ℕ → List ℕ → Put → Type 0
+wentTo l w q es m at m′ (To r) = Went l w q es m at m′ r
+wentTo l w q es m at m′ Bad = ⊥
+
 -- If `read` reads v here, and there are the n v ends that it needs, then its bytes are laid, and n v ends are used up. What
 -- is not read promises nothing.
-pub record Puts {A : Type 0} (read : Reader A) (n : A → ℕ) (w : A → List ℕ → List ℕ) (t l : List ℕ) (h : Here) (m m′ : List ℕ) (r : Here) : Type 0 where
+pub record Puts {A : Type 0} (read : Reader A) (n : A → ℕ) (w : A → List ℕ → List ℕ) (t l : List ℕ) (h : Here) (m m′ : List ℕ) (r : Put) : Type 0 where
   pub went :
       (v : A) (q : ℕ) → read t (h .next .at) ≡ got v q → n v ≤ length (left l (h .ends))
-      → Went l (w v (left l (h .ends))) q (drop (n v) (left l (h .ends))) m (h .at) m′ r
+      → wentTo l (w v (left l (h .ends))) q (drop (n v) (left l (h .ends))) m (h .at) m′ r
 
 -- ── so many: what is left to lay from here gives the whole ──
 
@@ -59,13 +66,24 @@ module _ {A : Type 0} (read : Reader A) (n : A → ℕ) (w : A → List ℕ → 
       }
 
 module _ {A : Type 0} {read : Reader A} {n : A → ℕ} {w : A → List ℕ → List ℕ} {t l : List ℕ} {count : ℕ} {h₀ : Here} {m₀ : List ℕ} {rest : ℕ} {h : Here} {m : List ℕ} (g : Going read n w t l count h₀ m₀ rest h m) where
-  remains-on :
-      (k : ℕ) (vs : List A) (q : ℕ) → Remains read n w t l h₀ m₀ vs q (suc k) h m → {m₂ : List ℕ} {h₂ : Here} → Puts read n w t l h m m₂ h₂ → Remains read n w t l h₀ m₀ vs q k h₂ m₂
-  unfolding needed written
-  remains-on k vs q B {m₂} {h₂} one =
+  -- the first of them
+  first-went :
+      (k : ℕ) (vs : List A) (q : ℕ) (B : Remains read n w t l h₀ m₀ vs q (suc k) h m) {m₂ : List ℕ} {b : Put} → Puts read n w t l h m m₂ b
+      → (let F = repeat-first read k t (h .next .at) (B .more) q (B .reads) in wentTo l (w (F .value) (left l (h .ends))) (F .next) (drop (n (F .value)) (left l (h .ends))) m (h .at) m₂ b)
+  unfolding needed
+  first-went k vs q B one =
       let F = repeat-first read k t (h .next .at) (B .more) q (B .reads) in
       let all : n (F .value) + needed n (F .more) ≤ length (left l (h .ends)) = rw (F .is) at (B .enough) in
-      let W = one .went (F .value) (F .next) (F .first) (omega (arith, all)) in
+      one .went (F .value) (F .next) (F .first) (omega (arith, all))
+
+  remains-on :
+      (k : ℕ) (vs : List A) (q : ℕ) → Remains read n w t l h₀ m₀ vs q (suc k) h m → {m₂ : List ℕ} {b : Put} → Puts read n w t l h m m₂ b
+      → {h₂ : Here} → b ≡ To h₂ → Remains read n w t l h₀ m₀ vs q k h₂ m₂
+  unfolding needed written
+  remains-on k vs q B {m₂} {b} one {h₂} to =
+      let F = repeat-first read k t (h .next .at) (B .more) q (B .reads) in
+      let all : n (F .value) + needed n (F .more) ≤ length (left l (h .ends)) = rw (F .is) at (B .enough) in
+      let W : Went l (w (F .value) (left l (h .ends))) (F .next) (drop (n (F .value)) (left l (h .ends))) m (h .at) m₂ h₂ = rw to at (first-went k vs q B one) in
       let next : written n w (B .more) (left l (h .ends)) ≡ w (F .value) (left l (h .ends)) ++ written n w (F .more) (left l (h₂ .ends)) =
       ap (λ (vs : List A). written n w vs (left l (h .ends))) (F .is) ∙ ap (λ (es : List ℕ). w (F .value) (left l (h .ends)) ++ written n w (F .more) es) (sym (W .ends)) in
       record {
@@ -76,15 +94,22 @@ module _ {A : Type 0} {read : Reader A} {n : A → ℕ} {w : A → List ℕ → 
         leads = leads-on (B .leads) next (W .laid);
       }
 
-  pub going-on : 0 < rest → {m₂ : List ℕ} {h₂ : Here} → length m₂ ≡ length m → Puts read n w t l h m m₂ h₂ → Going read n w t l count h₀ m₀ (rest - 1) h₂ m₂
-  going-on due {m₂} {h₂} kept one =
+  pub going-on : 0 < rest → {m₂ : List ℕ} {b : Put} → length m₂ ≡ length m → Puts read n w t l h m m₂ b → {h₂ : Here} → b ≡ To h₂ → Going read n w t l count h₀ m₀ (rest - 1) h₂ m₂
+  going-on due kept one to =
       let less : suc (rest - 1) ≡ rest = omega arith in
       record {
         long = kept ∙ g .long;
-        remains = λ vs q r enough. remains-on (rest - 1) vs q (rw less (g .remains vs q r enough)) one;
+        remains = λ vs q r enough. remains-on (rest - 1) vs q (rw less (g .remains vs q r enough)) one to;
       }
 
-  pub going-done : rest ≤ 0 → Puts (repeat count read) (needed n) (written n w) t l h₀ m₀ m h
+  pub going-no : 0 < rest → {m₂ : List ℕ} {b : Put} → Puts read n w t l h m m₂ b → b ≡ Bad → {m′ : List ℕ} {b′ : Put} → Puts (repeat count read) (needed n) (written n w) t l h₀ m₀ m′ b′
+  going-no due one bad =
+      let less : suc (rest - 1) ≡ rest = omega arith in
+      record {
+        went = λ vs q r enough. let S = first-went (rest - 1) vs q (rw less (g .remains vs q r enough)) one in absurd (rw bad at S);
+      }
+
+  pub going-done : rest ≤ 0 → Puts (repeat count read) (needed n) (written n w) t l h₀ m₀ m (To h)
   unfolding needed written
   going-done le =
       record {
@@ -102,7 +127,7 @@ module _ {A : Type 0} {read : Reader A} {n : A → ℕ} {w : A → List ℕ → 
 -- ── a field ──
 
 -- nothing is promised where nothing is read
-puts-none : {A : Type 0} {read : Reader A} {n : A → ℕ} {w : A → List ℕ → List ℕ} {t l : List ℕ} {h : Here} {m m′ : List ℕ} {r : Here} → ((v : A) (q : ℕ) → read t (h .next .at) ≡ got v q → ⊥) → Puts read n w t l h m m′ r
+puts-none : {A : Type 0} {read : Reader A} {n : A → ℕ} {w : A → List ℕ → List ℕ} {t l : List ℕ} {h : Here} {m m′ : List ℕ} {r : Put} → ((v : A) (q : ℕ) → read t (h .next .at) ≡ got v q → ⊥) → Puts read n w t l h m m′ r
 puts-none never = record { went = λ v q s enough. absurd (never v q s) }
 
 -- where there is an end, it is the next one
@@ -127,7 +152,7 @@ module _ (l : List ℕ) (h : Here) {e : Ends} (N : NextEnd l (h .ends) e) {m m�
   -- of the field that is read here
   field-put :
       (t : List ℕ) (f : Listed) (w : ℕ → List ℕ) → ((x : ℕ) (xs : List ℕ) → w x ≡ fieldBytes f (x ∷ xs)) → fieldLine t (h .next .at) ≡ got f (c .at)
-      → Laid m (h .at) (w (e .end)) m′ p → Puts fieldLine oneEnd fieldBytes t l h m m′ (record { next = c; ends = e; at = p })
+      → Laid m (h .at) (w (e .end)) m′ p → Puts fieldLine oneEnd fieldBytes t l h m m′ (To (record { next = c; ends = e; at = p }))
   field-put t f w is read L =
       record {
         went = λ v q r enough.
@@ -138,31 +163,36 @@ module _ (l : List ℕ) (h : Here) {e : Ends} (N : NextEnd l (h .ends) e) {m m�
             (field-went f w is L q last enough);
       }
 
-  pub old-put : (t : List ℕ) → got tt (c .at) ≡ literal oldLine t (h .next .at) → Laid m (h .at) (put (e .end)) m′ p → Puts fieldLine oneEnd fieldBytes t l h m m′ (record { next = c; ends = e; at = p })
+  pub old-put : (t : List ℕ) → got tt (c .at) ≡ literal oldLine t (h .next .at) → Laid m (h .at) (put (e .end)) m′ p → Puts fieldLine oneEnd fieldBytes t l h m m′ (To (record { next = c; ends = e; at = p }))
   unfolding fieldLine oldOr fieldBytes
   old-put t read L = field-put t none put (λ x xs. refl) (rw (← read)) L
 
   pub new-put :
       (t : List ℕ) → no 20 0 ≡ literal oldLine t (h .next .at) → {g : New} → got g (c .at) ≡ keptNew t (h .next .at)
-      → Laid m (h .at) (putNew (g, e .end)) m′ p → Puts fieldLine oneEnd fieldBytes t l h m m′ (record { next = c; ends = e; at = p })
+      → Laid m (h .at) (putNew (g, e .end)) m′ p → Puts fieldLine oneEnd fieldBytes t l h m m′ (To (record { next = c; ends = e; at = p }))
   unfolding fieldLine oldOr fieldBytes
   new-put t not-old {g} read L = field-put t (some g) (λ x. putNew (g, x)) (λ x xs. refl) (rw (← not-old, ← read)) L
 
 pub no-put :
-    {t l : List ℕ} {h : Here} {m m′ : List ℕ} {r : Here} → no 20 0 ≡ literal oldLine t (h .next .at) → no 20 0 ≡ keptNew t (h .next .at)
+    {t l : List ℕ} {h : Here} {m m′ : List ℕ} {r : Put} → no 20 0 ≡ literal oldLine t (h .next .at) → no 20 0 ≡ keptNew t (h .next .at)
     → Puts fieldLine oneEnd fieldBytes t l h m m′ r
 unfolding fieldLine oldOr
 no-put not-old read = puts-none (λ f q r. not-got (rw (← not-old, ← read) at r))
 
 -- ── an entry ──
 
+behind-head :
+    (l w m₃ : List ℕ) {v m m₂ : List ℕ} {at p d q : ℕ} {es fs : List ℕ} → Laid m at v m₂ p → d ≡ q → es ≡ fs → (r : Put) → wentTo l w d es m₂ p m₃ r → wentTo l (v ++ w) q fs m at m₃ r
+behind-head l w m₃ L last same (To r) W = record { laid = laid-then L (W .laid); place = W .place ∙ last; ends = W .ends ∙ same }
+behind-head l w m₃ L last same Bad W = W
+
 module _ {t l : List ℕ} {h : Here} {m : List ℕ} where
-  pub entry-not : no 20 0 ≡ readType t (h .next .at) → {m′ : List ℕ} {r : Here} → Puts entryLines endsOfEntry entryBytes t l h m m′ r
+  pub entry-not : no 20 0 ≡ readType t (h .next .at) → {m′ : List ℕ} {r : Put} → Puts entryLines endsOfEntry entryBytes t l h m m′ r
   unfolding entryLines
   entry-not read = puts-none (λ e q r. not-got (read ∙ bind-inv readType _ t (h .next .at) e q r .first))
 
   pub entry-put :
-      {head : Head} {n : ℕ} {c : Place} {m₁ m₂ m₃ : List ℕ} {p₁ p₂ : ℕ} {r : Here} → got (head, n) (c .at) ≡ readType t (h .next .at)
+      {head : Head} {n : ℕ} {c : Place} {m₁ m₂ m₃ : List ℕ} {p₁ p₂ : ℕ} {r : Put} → got (head, n) (c .at) ≡ readType t (h .next .at)
       → Laid m (h .at) (putHead head) m₁ p₁ → Laid m₁ p₁ (put n) m₂ p₂
       → Puts (repeat n fieldLine) (needed oneEnd) (written oneEnd fieldBytes) t l (record { next = c; ends = h .ends; at = p₂ }) m₂ m₃ r
       → Puts entryLines endsOfEntry entryBytes t l h m m₃ r
@@ -177,18 +207,13 @@ module _ {t l : List ℕ} {h : Here} {m : List ℕ} where
     where
       fields :
           (fs : List Listed) (d : ℕ) → repeat n fieldLine t (c .at) ≡ got fs d → (e : Lines) (q : ℕ) → (head, fs) ≡ e → d ≡ q
-          → length (e .1) ≤ length (left l (h .ends)) → Went l (entryBytes e (left l (h .ends))) q (drop (length (e .1)) (left l (h .ends))) m (h .at) m₃ r
+          → length (e .1) ≤ length (left l (h .ends)) → wentTo l (entryBytes e (left l (h .ends))) q (drop (length (e .1)) (left l (h .ends))) m (h .at) m₃ r
       fields fs d reads e q is last enough =
           let long : length fs ≡ n = repeat-length fieldLine t n (c .at) fs d reads in
           let each : needed oneEnd fs ≡ length fs = one-each fs in
           let same : fs ≡ e .1 = ap (λ (x : Lines). x .1) is in
-          let W = F .went fs d reads (rw (each, same) enough) in
-          subst (λ (x : Lines). Went l (entryBytes x (left l (h .ends))) q (drop (length (x .1)) (left l (h .ends))) m (h .at) m₃ r) is
-          (record {
-            laid = laid-then (laid-then L₁ (laid-as L₂ (ap put (sym long)))) (W .laid);
-            place = W .place ∙ last;
-            ends = W .ends ∙ ap (λ (k : ℕ). drop k (left l (h .ends))) each;
-          })
+          subst (λ (x : Lines). wentTo l (entryBytes x (left l (h .ends))) q (drop (length (x .1)) (left l (h .ends))) m (h .at) m₃ r) is
+          (behind-head l (written oneEnd fieldBytes fs (left l (h .ends))) m₃ (laid-then L₁ (laid-as L₂ (ap put (sym long)))) last (ap (λ (k : ℕ). drop k (left l (h .ends))) each) r (F .went fs d reads (rw (each, same) enough)))
 
 -- ── all entries ──
 
@@ -204,13 +229,23 @@ unfolding endsOf
 ends-long from [] = refl
 ends-long from (n ∷ ns) = ap suc (ends-long (from + n) ns)
 
+enough-ends : (l : List ℕ) (s : State) (es : List Entry) → length (duesOf l) ≡ length (dues s es) → sum (sizes (duesOf l)) < 2 ^ 64 → needed endsOfEntry (allLines s es) ≤ length (left l (record { row = 0; end = 0 }))
+enough-ends l s es count small =
+    let long : length (left l (record { row = 0; end = 0 })) ≡ length (duesOf l) = ap length (left-all l small) ∙ ends-long 0 (sizes (duesOf l)) ∙ length-map (duesOf l) (λ d. d .1) in
+    omega (arith, long, count, ends-due s es)
+
 pub entries-put :
     {t l : List ℕ} (n : ℕ) {c : Place} {at : ℕ} {m m′ : List ℕ} {r : Here}
-    → Puts (repeat n entryLines) (needed endsOfEntry) (written endsOfEntry entryBytes) t l (front c at) m m′ r
+    → Puts (repeat n entryLines) (needed endsOfEntry) (written endsOfEntry entryBytes) t l (front c at) m m′ (To r)
     → (s : State) (es : List Entry) (next : ℕ) → times n entryText afterEntry s t (c .at) ≡ got es next → length (duesOf l) ≡ length (dues s es)
     → sum (sizes (duesOf l)) < 2 ^ 64 → Laid m at (putEntries s es (endsOf 0 (sizes (duesOf l)))) m′ (r .at)
 entries-put {t} {l} n {c} {at} {m} {m′} {r} P s es next reads count small =
-    let all = left-all l small in
-    let long : length (left l (record { row = 0; end = 0 })) ≡ length (duesOf l) = ap length all ∙ ends-long 0 (sizes (duesOf l)) ∙ length-map (duesOf l) (λ d. d .1) in
-    let W = P .went (allLines s es) next (entries-read t n s (c .at) es next reads) (omega (arith, long, count, ends-due s es)) in
-    laid-as (W .laid) (ap (written endsOfEntry entryBytes (allLines s es)) all ∙ sym (entries-same s es (endsOf 0 (sizes (duesOf l)))))
+    let W = P .went (allLines s es) next (entries-read t n s (c .at) es next reads) (enough-ends l s es count small) in
+    laid-as (W .laid) (ap (written endsOfEntry entryBytes (allLines s es)) (left-all l small) ∙ sym (entries-same s es (endsOf 0 (sizes (duesOf l)))))
+
+-- no text that is read is cut off
+pub entries-cut :
+    {t l : List ℕ} (n : ℕ) {c : Place} {at : ℕ} {m m′ : List ℕ} → Puts (repeat n entryLines) (needed endsOfEntry) (written endsOfEntry entryBytes) t l (front c at) m m′ Bad
+    → (k : ℕ) (s : State) (es : List Entry) (next : ℕ) → times n entryText afterEntry s t (c .at) ≡ got es next → length (duesOf l) ≡ length (dues s es)
+    → sum (sizes (duesOf l)) < 2 ^ 64 → Laid m at (putEntries s es (endsOf 0 (sizes (duesOf l)))) m′ k
+entries-cut {t} {l} n {c} P k s es next reads count small = absurd (P .went (allLines s es) next (entries-read t n s (c .at) es next reads) (enough-ends l s es count small))

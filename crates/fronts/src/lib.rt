@@ -1,6 +1,6 @@
 // The entries of a listed pair as bytes. Their lines stand in a text that was read and judged before, and the sizes of their
 // chunks in the table: the lines are gone through again, and with each field the end of its chunk is laid. A line that cannot be
-// read leaves all as it is, and then nothing is said of the bytes: no text that was read has one.
+// read ends the entry at once, and then nothing is said of the bytes: no text that was read has one.
 ghost use mathlib.Core.Path.{_≡_};
 ghost use mathlib.Core.List.{List, map};
 ghost use Prim.Native.Nat.{ℕ, _^_, _<_};
@@ -12,12 +12,9 @@ ghost use Rattle.paper.specs.Scan.{entryText};
 ghost use Rattle.paper.specs.Encode.{putEntries};
 ghost use Rattle.lay.specs.Laid.{Laid};
 ghost use Rattle.table.specs.View.{duesOf, Ok};
-ghost use Rattle.words.specs.Answers.{option};
-ghost use Rattle.lines.specs.Lines.{orDashOf};
 ghost use Rattle.fronts.specs.Ends.{sum, endsOf, NextEnd};
 ghost use Rattle.fronts.specs.Lines.{needed, written, fieldLine, oneEnd, fieldBytes, entryLines, endsOfEntry, entryBytes};
 ghost use Rattle.fronts.specs.Puts.{Puts};
-use lines::OrDash;
 use numbers::write::put_v64;
 use parse::NewRead;
 use parse::TypeRead;
@@ -27,7 +24,6 @@ use puts::put_head;
 use puts::put_new;
 use table::rows::due_at;
 use table::rows::dues;
-use words::read::Maybe;
 use words::read::Place;
 use words::read::Step;
 
@@ -45,6 +41,12 @@ pub struct Here {
     pub next: Place,
     pub ends: Ends,
     pub at: usize,
+}
+
+// Behind lines that were read and laid; or they cannot be read.
+pub enum Put {
+    To(Here),
+    Bad,
 }
 
 // Behind one chunk more. The end stands still at the most that 64 bits hold, and behind the last row.
@@ -68,7 +70,7 @@ fn next_end(work: &[u32], e: Ends) -> Ends
 }
 
 // The field whose line comes next, with its chunk's end: of a known field the end is all.
-fn put_field(text: &[u8], work: &[u32], h: Here, out: &mut [u8]) -> Here
+fn put_field(text: &[u8], work: &[u32], h: Here, out: &mut [u8]) -> Put
     requires { ⌜ Ok (now work) ⌝ }
     ensures { λ r. ⌜ Puts fieldLine oneEnd fieldBytes (now (text .entry)) (now (work .entry)) h (now (out .entry)) (now (out .exit)) r ⌝ }
 {
@@ -77,51 +79,43 @@ fn put_field(text: &[u8], work: &[u32], h: Here, out: &mut [u8]) -> Here
     let old = p.literal(text, b"old\n");
     if let Step::To(next) = old {
         let at = put_v64(out, h.at, ends.end);
-        return Here { next, ends, at };
+        return Put::To(Here { next, ends, at });
     }
     let NewRead::Got(line, next) = new_line(text, p) else {
-        return h;
+        return Put::Bad;
     };
     let at = put_new(out, h.at, line.k, line.a, line.e, line.name, ends.end);
-    Here { next, ends, at }
+    Put::To(Here { next, ends, at })
 }
 
 // The next n fields.
-fn put_fields(text: &[u8], n: u64, work: &[u32], h: Here, out: &mut [u8]) -> Here
+fn put_fields(text: &[u8], n: u64, work: &[u32], h: Here, out: &mut [u8]) -> Put
     requires { ⌜ Ok (now work) ⌝ }
     ensures { λ r. ⌜ Puts (repeat n fieldLine) (needed oneEnd) (written oneEnd fieldBytes) (now (text .entry)) (now (work .entry)) h (now (out .entry)) (now (out .exit)) r ⌝ }
 {
     let mut here = h;
     let mut rest = n;
     while 0 < rest {
-        here = put_field(text, work, here, out);
+        let one = put_field(text, work, here, out);
+        let Put::To(next) = one else {
+            return one;
+        };
+        here = next;
         rest -= 1;
     }
-    here
-}
-
-// What a line may leave out is what an entry may.
-fn or_dash(x: Maybe) -> OrDash
-    ensures { λ r. ⌜ orDashOf r ≡ option x ⌝ }
-{
-    match x {
-        Maybe::Dash => OrDash::Dash,
-        Maybe::Some(n) => OrDash::Number(n),
-    }
+    Put::To(here)
 }
 
 // The entry whose lines come next.
-fn put_entry(text: &[u8], work: &[u32], h: Here, out: &mut [u8]) -> Here
+fn put_entry(text: &[u8], work: &[u32], h: Here, out: &mut [u8]) -> Put
     requires { ⌜ Ok (now work) ⌝ }
     ensures { λ r. ⌜ Puts entryLines endsOfEntry entryBytes (now (text .entry)) (now (work .entry)) h (now (out .entry)) (now (out .exit)) r ⌝ }
 {
     let TypeRead::Got(line, next) = type_line(text, h.next) else {
-        return h;
+        return Put::Bad;
     };
-    let above = line.sup;
-    let sup = or_dash(above);
-    let from = line.start;
-    let start = or_dash(from);
+    let sup = line.sup;
+    let start = line.start;
     let ends = h.ends;
     let behind_head = put_head(out, h.at, line.name, sup, start, line.count);
     let at = put_v64(out, behind_head, line.fields);
@@ -140,7 +134,11 @@ pub fn put_entries(text: &[u8], p: Place, n: u64, work: &[u32], out: &mut [u8], 
     };
     let mut rest = n;
     while 0 < rest {
-        here = put_entry(text, work, here, out);
+        let one = put_entry(text, work, here, out);
+        let Put::To(next) = one else {
+            return here.at;
+        };
+        here = next;
         rest -= 1;
     }
     here.at

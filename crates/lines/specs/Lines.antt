@@ -1,7 +1,6 @@
 -- Lines as code lays them, a word with the byte that ends it at a time. Assumes nothing.
 use mathlib.Core.Path.{_≡_, refl}
 use mathlib.Core.List.{List, [], _∷_, _++_, append-assoc}
-use mathlib.Core.Option.{Option, none, some}
 use Prim.Native.Nat.{ℕ, zero, suc, _-_, _≤_, _<_}
 use native.Mathlib.Omega.{arith}
 use native.Mathlib.Numerals.{sub-one}
@@ -9,12 +8,6 @@ use lib.ListN.{replicate}
 use Rattle.lay.specs.Laid.{Laid, laid-then, laid-as}
 use Rattle.paper.specs.Lists.{flat}
 use Rattle.paper.specs.Listing.{tab, newline, comma, line, joined, oldLine}
-use Rattle.lines.specs.declared.OrDash.{OrDash}
-use Rattle.lines.specs.declared.OrDash.the-variants.{Dash, Number}
-
-abbrev pub orDashOf : OrDash → Option ℕ
-orDashOf Dash = none
-orDashOf (Number x) = some x
 
 -- ── words one behind the other ──
 

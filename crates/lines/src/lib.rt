@@ -7,17 +7,12 @@ ghost use Rattle.paper.specs.Ledger.{constant, array, many};
 ghost use Rattle.paper.specs.Lists.{flat};
 ghost use Rattle.paper.specs.Listing.{tab, decimal, orDash, kindWord, pairLine, stringLine, typeLine, oldLine, newLine};
 ghost use Rattle.table.specs.View.{kindFrom};
-ghost use Rattle.lines.specs.Lines.{orDashOf};
+ghost use Rattle.words.specs.Answers.{option};
 use values::constants::constant_of;
+use words::read::Maybe;
 use words::write::put_decimal;
 use words::write::put_hex_bytes;
 use words::write::put_signed;
-
-// What an entry may leave out: a dash stands for none.
-pub enum OrDash {
-    Dash,
-    Number(u64),
-}
 
 // A number and the byte that ends it.
 fn put_ended(out: &mut [u8], at: usize, x: u64, end: u8) -> usize
@@ -44,12 +39,12 @@ pub fn put_string(out: &mut [u8], at: usize, s: &[u8]) -> usize
 }
 
 // A number or a dash, and a tab.
-fn put_or_dash(out: &mut [u8], at: usize, x: OrDash) -> usize
-    ensures { λ r. ⌜ Laid (now (out .entry)) at (orDash (orDashOf x) ++ tab ∷ []) (now (out .exit)) r ⌝ }
+fn put_or_dash(out: &mut [u8], at: usize, x: Maybe) -> usize
+    ensures { λ r. ⌜ Laid (now (out .entry)) at (orDash (option x) ++ tab ∷ []) (now (out .exit)) r ⌝ }
 {
     match x {
-        OrDash::Dash => lay::put_bytes(out, at, b"-\t"),
-        OrDash::Number(n) => put_ended(out, at, n, b'\t'),
+        Maybe::Dash => lay::put_bytes(out, at, b"-\t"),
+        Maybe::Some(n) => put_ended(out, at, n, b'\t'),
     }
 }
 
@@ -57,12 +52,12 @@ pub fn put_type(
     out: &mut [u8],
     at: usize,
     name: u64,
-    sup: OrDash,
-    start: OrDash,
+    sup: Maybe,
+    start: Maybe,
     count: u64,
     fields: u64,
 ) -> usize
-    ensures { λ r. ⌜ Laid (now (out .entry)) at (typeLine (record { name = name; super = orDashOf sup; start = orDashOf start; count = count }) fields) (now (out .exit)) r ⌝ }
+    ensures { λ r. ⌜ Laid (now (out .entry)) at (typeLine (record { name = name; super = option sup; start = option start; count = count }) fields) (now (out .exit)) r ⌝ }
 {
     let second = lay::put_bytes(out, at, b"type\t");
     let third = put_ended(out, second, name, b'\t');

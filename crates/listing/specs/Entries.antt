@@ -1,7 +1,7 @@
 -- The lines of an entry, and of all entries of a block. Assumes nothing.
 use mathlib.Core.Path.{_≡_, refl, sym, ap, _∙_, subst}
 use mathlib.Core.Bool.{Bool, true, false}
-use mathlib.Core.List.{List, [], _∷_, _++_, map}
+use mathlib.Core.List.{List, [], _∷_, _++_, map, append-assoc}
 use mathlib.Core.Option.{Option, none, some}
 use Prim.Native.Nat.{ℕ, zero, suc, _+_, _-_, _≤_, _<_}
 use native.Mathlib.Omega.{arith}
@@ -37,10 +37,11 @@ use Rattle.reader.specs.Entries.{entryGo, entriesGo}
 use Rattle.reader.specs.EntryLaws.{Passed, EntriesGoing, entries-begin, entries-done, entries-no, entries-next}
 use Rattle.reader.specs.Heads.{due, headOf, outTop, TopRead}
 use Rattle.reader.specs.Runs.{times-many}
-use Rattle.show.specs.declared.Behind.{Behind}
+use Rattle.listing.specs.declared.fields.Listed.{Listed}
+use Rattle.listing.specs.declared.fields.Listed.the-variants as listed
 use Rattle.listing.specs.declared.entries.Printed.{Printed}
-use Rattle.listing.specs.Prints.{Prints, give-got, number-got, FirstOf, times-first, times-none}
-use Rattle.listing.specs.Fields.{PastAll, newWords}
+use Rattle.listing.specs.Prints.{stands, give-got, number-got, FirstOf, times-first, times-none}
+use Rattle.listing.specs.Fields.{newWords, oldWords, FieldsPrinted}
 
 -- the entry at a place stands as its lines
 pub record EntryPrinted (f l : List ℕ) (at : ℕ) (out : List ℕ) (o : ℕ) (m : List ℕ) (r : ℕ) : Type 0 where
@@ -179,27 +180,37 @@ module _ (f l : List ℕ) {at : ℕ} {a : Topped} (T : TopRead (view f l) f at a
                 absurd (omega (arith, counted P .1, known-is P));
           }
 
-      module _ {out m₁ m₂ : List ℕ} {o o₁ o₂ : ℕ} (L₁ : Laid out o (typeLine (headOf top) n) m₁ o₁) (L₂ : Laid m₁ o₁ (flat (λ (u : Unit {0}). oldLine) (replicate known tt)) m₂ o₂) {c₃ : Cursor} (past : PastAll known f (c₂ .at) (c₃ .at)) {m₃ : List ℕ} {h : Behind} (news : (t : ℕ) (u : Upto) → Prints (times (n - known) (newField anyType t) (uptoNew t) u) newWords f (c₃ .at) m₂ o₂ m₃ h) where
-        pub entry-printed : EntryPrinted f l at out o m₃ (h .at)
+      module _ {out m₁ m₂ : List ℕ} {o o₁ : ℕ} (L : Laid out o (typeLine (headOf top) n) m₁ o₁) {h : Listed} (F : FieldsPrinted known (n - known) f (c₂ .at) m₁ o₁ m₂ h) where
+        -- the fields, as the definitions read them
+        news-are : {end : ℕ} {e : Entry × List ℕ} {q : ℕ} (P : EntryParts (view f l) end f at e q) → times (n - known) (newField anyType (typeOf (view f l) (P .top .name))) (uptoNew (typeOf (view f l) (P .top .name))) (P .upto) f (P .after-olds) ≡ got (P .news) q
+        news-are P =
+            let n-is : n ≡ P .count = cc (count-is P) in
+            rw (← known-is P, n-is) (P .news-read)
+
+        fields-there : {end : ℕ} {e : Entry × List ℕ} {q : ℕ} (P : EntryParts (view f l) end f at e q) → stands m₁ o₁ (oldWords known ++ newWords (P .news)) m₂ q h
+        fields-there {end} {e} {q} P =
+            let c-is : c₂ .at ≡ P .after-count = cc (count-is P) in
+            F .there end (P .olds) (P .after-olds) (rw (← known-is P, c-is) (P .olds-read)) _ (P .upto) (P .news) q (news-are P)
+
+        pub entry-cut : {u : Refusal} → h ≡ listed.No u → {r : ℕ} → EntryPrinted f l at out o m₂ r
+        entry-cut is = record { text = λ end e q r. absurd (rw is at (fields-there (entry-parts (view f l) end f at e q r))) }
+
+        pub entry-printed : {c₃ : Cursor} {p : ℕ} → h ≡ listed.Got c₃ p → EntryPrinted f l at out o m₂ p
         unfolding printEntry
-        entry-printed =
+        entry-printed {c₃} {p} is =
             record {
               text = λ end e q r.
                   let P = entry-parts (view f l) end f at e q r in
                   let t = typeOf (view f l) (P .top .name) in
                   let head-is : headOf top ≡ P .top = cc (there P) in
                   let n-is : n ≡ P .count = cc (count-is P) in
-                  let c-is : c₂ .at ≡ P .after-count = cc (count-is P) in
                   let k-is = known-is P in
-                  let olds-there = past .there end (P .olds) (P .after-olds) (rw (← k-is, c-is) (P .olds-read)) in
-                  let reads : times (n - known) (newField anyType t) (uptoNew t) (P .upto) f (c₃ .at) ≡ got (P .news) q = rw (← k-is, n-is, olds-there) (P .news-read) in
-                  let L₃ = news t (P .upto) .text (P .news) q reads in
-                  let many : length (map what (P .news)) ≡ n - known = length-map (P .news) what ∙ times-many (n - known) (newField anyType t) (uptoNew t) (P .upto) f (c₃ .at) reads in
+                  let S : Laid m₁ o₁ (oldWords known ++ newWords (P .news)) m₂ p × (c₃ .at ≡ q) = rw is at (fields-there P) in
+                  let many : length (map what (P .news)) ≡ n - known = length-map (P .news) what ∙ times-many (n - known) (newField anyType t) (uptoNew t) (P .upto) f (P .after-olds) (news-are P) in
                   let all : n ≡ known + length (map what (P .news)) = omega (arith, counted P .1) in
                   let whole : Entry = record { head = P .top; news = map what (P .news) } in
-                  let text-is : typeLine (headOf top) n ++ flat (λ (u : Unit {0}). oldLine) (replicate known tt) ++ newWords (P .news) ≡ printEntry known whole =
-                  rw (head-is, ← all) in
-                  laid-as (laid-then (laid-then L₁ L₂) L₃) (text-is ∙ ap (λ (k : ℕ). printEntry k whole) (sym k-is) ∙ ap (λ (x : Entry). printEntry (length (knownDue (view f l) (x .head))) x) (sym (P .is)));
+                  let text-is : typeLine (headOf top) n ++ (oldWords known ++ newWords (P .news)) ≡ printEntry known whole = sym (append-assoc (typeLine (headOf top) n) (oldWords known) (newWords (P .news))) ∙ rw (head-is, ← all) in
+                  laid-as (laid-then L (S .0)) (text-is ∙ ap (λ (k : ℕ). printEntry k whole) (sym k-is) ∙ ap (λ (x : Entry). printEntry (length (knownDue (view f l) (x .head))) x) (sym (P .is)));
             }
 
 -- ── all entries of a block ──

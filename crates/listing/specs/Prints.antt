@@ -10,17 +10,22 @@ use Rattle.paper.specs.Numbers.{v64, number}
 use Rattle.paper.specs.Keeps.{hold?}
 use Rattle.laws.specs.Laws.{not-got, each-inv}
 use Rattle.lay.specs.Laid.{Laid}
-use Rattle.show.specs.declared.Behind.{Behind}
+use Rattle.listing.specs.declared.fields.Listed.{Listed}
+use Rattle.listing.specs.declared.fields.Listed.the-variants.{Got, No}
 
-pub record Prints {A : Type 0} (r : Reader A) (w : A → List ℕ) (f : List ℕ) (from : ℕ) (l : List ℕ) (at : ℕ) (m : List ℕ) (o : Behind) : Type 0 where
-  pub text : (v : A) (q : ℕ) → r f from ≡ got v q → Laid l at (w v) m (o .at)
-  pub next : (v : A) (q : ℕ) → r f from ≡ got v q → o .next .at ≡ q
+-- the words w are laid, and the cursor is at q
+abbrev pub stands : List ℕ → ℕ → List ℕ → List ℕ → ℕ → Listed → Type 0
+stands l at w m q (Got c p) = Laid l at w m p × (c .at ≡ q)
+stands l at w m q (No e) = ⊥
+
+pub record Prints {A : Type 0} (r : Reader A) (w : A → List ℕ) (f : List ℕ) (from : ℕ) (l : List ℕ) (at : ℕ) (m : List ℕ) (o : Listed) : Type 0 where
+  pub there : (v : A) (q : ℕ) → r f from ≡ got v q → stands l at (w v) m q o
 
 -- nothing is promised where nothing is read
 pub prints-none :
-    {A : Type 0} {r : Reader A} {w : A → List ℕ} {f : List ℕ} {from : ℕ} {l : List ℕ} {at : ℕ} {m : List ℕ} {o : Behind}
+    {A : Type 0} {r : Reader A} {w : A → List ℕ} {f : List ℕ} {from : ℕ} {l : List ℕ} {at : ℕ} {m : List ℕ} {o : Listed}
     → ((v : A) (q : ℕ) → r f from ≡ got v q → ⊥) → Prints r w f from l at m o
-prints-none never = record { text = λ v q h. absurd (never v q h); next = λ v q h. absurd (never v q h) }
+prints-none never = record { there = λ v q h. absurd (never v q h) }
 
 -- what is given is read where the reading stands
 pub give-got : {A : Type 0} (a : A) (f : List ℕ) (at : ℕ) (v : A) (e : ℕ) → give a f at ≡ got v e → (a ≡ v) × (at ≡ e)

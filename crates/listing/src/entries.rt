@@ -1,7 +1,7 @@
 // The lines of an entry, and of all entries of a block.
 ghost use mathlib.Core.Path.{_≡_};
 ghost use Rattle.lay.specs.Laid.{Laid};
-ghost use Rattle.lines.specs.Lines.{orDashOf};
+ghost use Rattle.words.specs.Answers.{option};
 ghost use Rattle.table.specs.View.{Holds};
 ghost use Rattle.paper.specs.Listing.{typeLine};
 ghost use Rattle.paper.specs.Lists.{given?};
@@ -10,10 +10,8 @@ ghost use Rattle.reader.specs.Heads.{due, headOf};
 ghost use Rattle.table.specs.View.{said};
 ghost use Rattle.reader.specs.Sound.{Sound};
 ghost use Rattle.listing.specs.Entries.{EntryPrinted, EntriesDone};
-use crate::fields::past_ends;
-use crate::fields::print_news;
-use lines::OrDash;
-use lines::put_olds;
+use crate::fields::Listed;
+use crate::fields::print_fields;
 use lines::put_type;
 use numbers::Cursor;
 use numbers::Number;
@@ -23,6 +21,7 @@ use reader::heads::Top;
 use reader::heads::Topped;
 use reader::heads::read_head;
 use reader::kinds::Named;
+use words::read::Maybe;
 
 // What a reading answered, and the place behind what was printed meanwhile.
 pub struct Printed {
@@ -31,26 +30,26 @@ pub struct Printed {
 }
 
 // A known type's super type is known too, and left out.
-fn super_word(top: Top) -> OrDash
-    ensures { λ r. ⌜ orDashOf r ≡ due (top .name .fresh) (top .above .number) ⌝ }
+fn super_word(top: Top) -> Maybe
+    ensures { λ r. ⌜ option r ≡ due (top .name .fresh) (top .above .number) ⌝ }
 {
     let name = top.name;
     if name.fresh {
         let above = top.above;
-        return OrDash::Number(above.number);
+        return Maybe::Some(above.number);
     }
-    OrDash::Dash
+    Maybe::Dash
 }
 
 // A base type has no local start.
-fn start_word(top: Top) -> OrDash
-    ensures { λ r. ⌜ orDashOf r ≡ due (given? (maybe (top .above .up))) (top .start) ⌝ }
+fn start_word(top: Top) -> Maybe
+    ensures { λ r. ⌜ option r ≡ due (given? (maybe (top .above .up))) (top .start) ⌝ }
 {
     let above = top.above;
     if above.up == 0 {
-        return OrDash::Dash;
+        return Maybe::Dash;
     }
-    OrDash::Number(top.start as u64)
+    Maybe::Some(top.start as u64)
 }
 
 // The `type` line.
@@ -63,7 +62,8 @@ fn put_head(out: &mut [u8], at: usize, top: Top, n: u64) -> usize
     put_type(out, at, name.number, sup, start, top.count as u64, n)
 }
 
-// The lines of the entry at c, of which the table says what is known before it.
+// The lines of the entry at c, of which the table says what is known before it. A read that fails ends the entry at once: the
+// refusal is given by `entry`, which reads the same bytes next and holds them to their rules.
 fn print_entry(file: &[u8], c: Cursor, work: &[u32], out: &mut [u8], at: usize) -> usize
     requires { ⌜ Holds (now file) (now work) ⌝ }
     ensures { λ r. ⌜ EntryPrinted (now (file .entry)) (now (work .entry)) (c .at) (now (out .entry)) at (now (out .exit)) r ⌝ }
@@ -82,10 +82,11 @@ fn print_entry(file: &[u8], c: Cursor, work: &[u32], out: &mut [u8], at: usize) 
         return at;
     }
     let behind_head = put_head(out, at, top, n);
-    let behind_olds = put_olds(out, behind_head, known);
-    let c3 = past_ends(file, c2, known);
-    let all = print_news(file, c3, n - known, out, behind_olds);
-    all.at
+    let all = print_fields(file, c2, known, n - known, out, behind_head);
+    let Listed::Got(_, end) = all else {
+        return at;
+    };
+    end
 }
 
 // The lines of so many entries. Each is printed from what the table says before it, and then read into the table: the answer

@@ -1,79 +1,117 @@
-// The lines of an entry's new fields. It is known that they were accepted: where that were not so, a read that fails is passed
-// over, and nothing is said of the text.
-ghost use mathlib.Core.List.{map};
+// The lines of an entry's fields. A read that fails ends them at once with its refusal. It is known that none does, for the
+// entry was accepted: so nothing is said of the text that stands there then.
 ghost use Prim.Native.Nat.{ℕ};
 ghost use Rattle.paper.specs.Reader.{times};
-ghost use Rattle.paper.specs.Lists.{flat};
 ghost use Rattle.paper.specs.Rules.{anyType};
-ghost use Rattle.paper.specs.File.{Upto, newField, uptoNew, what};
-ghost use Rattle.paper.specs.Listing.{newLine};
+ghost use Rattle.paper.specs.File.{Upto, newField, uptoNew};
 ghost use Rattle.listing.specs.Prints.{Prints};
-ghost use Rattle.listing.specs.Fields.{Past, PastAll, newWord, newWords};
+ghost use Rattle.listing.specs.Fields.{PastAll, NewKind, newWord, newWords, FieldsPrinted};
 use lines::put_new;
+use lines::put_olds;
 use numbers::Cursor;
 use numbers::Number;
+use numbers::Refusal;
+use numbers::refused;
 use reader::kinds::KindRead;
 use reader::kinds::Named;
 use reader::kinds::read_kind;
-use show::Behind;
+use reader::kinds::refused_kind;
+use reader::ruled::no_restrictions;
+use reader::strings::Step;
+use reader::strings::refused_step;
 
-// Behind a number of which nothing is shown.
-pub fn past(file: &[u8], c: Cursor) -> Cursor
-    ensures { λ r. ⌜ Past (now (file .entry)) (c .at) (r .at) ⌝ }
-{
-    let a = c.v64(file);
-    let Number::Got(_, next) = a else {
-        return c;
-    };
-    next
+// Behind what was read and behind what was printed, or the refusal of the read that failed.
+pub enum Listed {
+    Got(Cursor, usize),
+    No(Refusal),
 }
 
-// Behind the end offsets of n known fields.
-pub fn past_ends(file: &[u8], c: Cursor, n: u64) -> Cursor
-    ensures { λ r. ⌜ PastAll n (now (file .entry)) (c .at) (r .at) ⌝ }
+// Behind the end offsets of n known fields, of which nothing is shown.
+fn past_ends(file: &[u8], c: Cursor, n: u64) -> Step
+    ensures { λ r. ⌜ PastAll n (now (file .entry)) (c .at) r ⌝ }
 {
     let mut here = c;
     let mut rest = n;
     while 0 < rest {
-        here = past(file, here);
+        let a = here.v64(file);
+        let Number::Got(_, next) = a else {
+            return Step::No(refused(a));
+        };
+        here = next;
         rest -= 1;
     }
-    here
+    Step::Got(here)
 }
 
-// The line of a new field.
-fn print_new(file: &[u8], c: Cursor, out: &mut [u8], at: usize) -> Behind
-    ensures { λ r. ⌜ ((t : ℕ) (u : Upto) → Prints (newField anyType t u) newWord (now (file .entry)) (c .at) (now (out .entry)) at (now (out .exit)) r) ⌝ }
+// The kind of a new field. Before it stands the number of restrictions, of which nothing is shown.
+fn new_kind(file: &[u8], c: Cursor) -> KindRead
+    ensures { λ r. ⌜ NewKind (now (file .entry)) (c .at) r ⌝ }
 {
-    let c1 = past(file, c);
+    let a = no_restrictions(file, c);
+    let Number::Got(_, next) = a else {
+        return KindRead::No(refused(a));
+    };
     let any = Named {
         strict: false,
         types: 0,
     };
-    let k = read_kind(file, c1, any);
-    let KindRead::Got(kind, c2) = k else {
-        return Behind { next: c, at };
+    read_kind(file, next, any)
+}
+
+// The line of a new field. Nothing is shown of its end offset.
+fn print_new(file: &[u8], c: Cursor, out: &mut [u8], at: usize) -> Listed
+    ensures { λ r. ⌜ ((t : ℕ) (u : Upto) → Prints (newField anyType t u) newWord (now (file .entry)) (c .at) (now (out .entry)) at (now (out .exit)) r) ⌝ }
+{
+    let k = new_kind(file, c);
+    let KindRead::Got(kind, c1) = k else {
+        return Listed::No(refused_kind(k));
+    };
+    let a = c1.v64(file);
+    let Number::Got(name, c2) = a else {
+        return Listed::No(refused(a));
     };
     let b = c2.v64(file);
-    let Number::Got(name, c3) = b else {
-        return Behind { next: c, at };
+    let Number::Got(_, next) = b else {
+        return Listed::No(refused(b));
     };
     let end = put_new(out, at, kind.first, kind.bits, kind.last, name);
-    Behind {
-        next: past(file, c3),
-        at: end,
-    }
+    Listed::Got(next, end)
 }
 
 // The lines of so many new fields.
-pub fn print_news(file: &[u8], c: Cursor, count: u64, out: &mut [u8], at: usize) -> Behind
+fn print_news(file: &[u8], c: Cursor, count: u64, out: &mut [u8], at: usize) -> Listed
     ensures { λ r. ⌜ ((t : ℕ) (u : Upto) → Prints (times count (newField anyType t) (uptoNew t) u) newWords (now (file .entry)) (c .at) (now (out .entry)) at (now (out .exit)) r) ⌝ }
 {
-    let mut here = Behind { next: c, at };
+    let mut here = c;
+    let mut p = at;
     let mut rest = count;
     while 0 < rest {
-        here = print_new(file, here.next, out, here.at);
+        let one = print_new(file, here, out, p);
+        let Listed::Got(next, end) = one else {
+            return one;
+        };
+        here = next;
+        p = end;
         rest -= 1;
     }
-    here
+    Listed::Got(here, p)
+}
+
+// The lines of so many known fields and of so many new ones.
+pub fn print_fields(
+    file: &[u8],
+    c: Cursor,
+    known: u64,
+    count: u64,
+    out: &mut [u8],
+    at: usize,
+) -> Listed
+    ensures { λ r. ⌜ FieldsPrinted known count (now (file .entry)) (c .at) (now (out .entry)) at (now (out .exit)) r ⌝ }
+{
+    let a = past_ends(file, c, known);
+    let Step::Got(news) = a else {
+        return Listed::No(refused_step(a));
+    };
+    let behind_olds = put_olds(out, at, known);
+    print_news(file, news, count, out, behind_olds)
 }

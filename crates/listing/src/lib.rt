@@ -1,8 +1,8 @@
 // A file as text, as a listing sets it out: the call, and the lines from the pair down to a field.
-pub mod entries;
-pub mod fields;
-pub mod fronts;
-pub mod pairs;
+mod entries;
+mod fields;
+mod fronts;
+mod pairs;
 
 ghost use mathlib.Core.Path.{_≡_};
 ghost use lib.ListN.{length};

@@ -1,23 +1,23 @@
 -- The ways out of the readers of kinds, on plain values. Assumes nothing.
 use mathlib.Core.Path.{_≡_, refl, sym, ap, _∙_}
-use mathlib.Core.Bool.{Bool, true, false, _&&_}
+use mathlib.Core.Bool.{Bool, true, false, _&&_, not}
 use mathlib.Core.List.{List}
+use mathlib.Core.Logic.{_⊎_, inl, inr}
 use Prim.Native.Nat.{ℕ, _+_, _-_, _^_, _/_, _≤_, _<_}
 use native.Mathlib.Omega.{arith}
 use native.Mathlib.Nat.{lt-of-not-le}
 use native.Mathlib.Decide.{decLe}
-use lib.Dec.{ltb}
+use lib.Dec.{leb, ltb}
 use lib.IntN.{pos, negsuc}
-use borrow.Author.Tests.{le-leb, lt-leb, lt-ltb, le-ltb, eq-eqb, ne-eqb, leb-false, ltb-true, ltb-false, eqb-false}
+use borrow.Author.Tests.{le-leb, lt-leb, lt-ltb, le-ltb, eq-eqb, ne-eqb, ltb-true, ltb-false, not-true, not-false}
 use Rattle.paper.specs.Reader.{if_then_else_, Reader, got, no as bad, _>>=_, _>>_, give}
 use Rattle.paper.specs.Numbers.{signed}
+use Rattle.paper.specs.Bounds.{mostObjects}
 use Rattle.paper.specs.Ledger.{Kind, constant, plain, array, many}
 use Rattle.paper.specs.Rules.{smallRules, elementKind?, elementKindRules, anyType}
 use Rattle.paper.specs.Listing.{comma}
 use Rattle.paper.specs.Keeps.{hold?, number?, signed?, whole?, kindKept?}
 use Rattle.paper.specs.Scan.{heed, byteIs, ended, natural, integer, readKind}
-use Rattle.laws.specs.Bools.{number-split}
-use Rattle.laws.specs.Heads.{apart}
 use Rattle.table.specs.View.{kindFrom}
 use Rattle.values.specs.Chunks.{kind-array, kind-many, kind-plain}
 use Rattle.parse.specs.declared.kinds.Kind.{Kind as Numbers}
@@ -48,13 +48,21 @@ module _ (k : ℕ) (fits : k < 2 ^ 64) where
   unfolding elementKind?
   element-gap lo hi = rw (element-is, le-leb 6 k (omega arith), lt-leb k 14 (omega arith), lt-leb 32 k hi)
 
-  small-kept : k ≤ 65535 → number? smallRules k ≡ true
+  small-is : number? smallRules k ≡ (leb k mostObjects && true)
   unfolding number? hold? smallRules
-  small-kept h = rw (lt-ltb k (256 ^ 8) fits, le-leb k 65535 h)
+  small-is = rw (lt-ltb k (256 ^ 8) fits)
 
-  small-broken : 65535 < k → number? smallRules k ≡ false
-  unfolding number? hold? smallRules
-  small-broken h = rw (lt-ltb k (256 ^ 8) fits, lt-leb k 65535 h)
+  -- 5 and 16 stand alone
+  pub single-gap : (k ≡ 5) ⊎ (k ≡ 16) → false ≡ number? (elementKindRules anyType) k
+  single-gap (inl is) = element-under (omega arith)
+  single-gap (inr is) = element-gap (omega arith) (omega arith)
+
+-- in neither of them
+pub past-gaps : (k : ℕ) → ((k ≡ 5) ⊎ (k ≡ 16) → ⊥) → (5 ≤ k → 6 ≤ k) × (16 ≤ k → 17 ≤ k)
+past-gaps k out =
+    let not-five : k ≡ 5 → ⊥ = λ e. out (inl e) in
+    let not-sixteen : k ≡ 16 → ⊥ = λ e. out (inr e) in
+    (λ le. omega arith, λ le. omega arith)
 
 -- ── a value of 64 bits, in fewer bytes ──
 
@@ -184,18 +192,18 @@ module _ (t : List ℕ) (at : ℕ) where
         unfolding arrayOf _>>=_ _>>_ give
         array-is = rw (← sep, ← long, ← element)
 
-        pub array-long : 65535 < n → KindReads arrayOf t at kinds.Bad
+        pub array-long : {b : Bool} → b ≡ leb n mostObjects → not b ≡ true → KindReads arrayOf t at kinds.Bad
         unfolding kindKept?
-        array-long h = kind-broken array-is (rw (small-broken n fits h))
+        array-long {b} is h = kind-broken array-is (rw (small-is n fits, ← is, not-true b h))
 
-        module _ (h : n ≤ 65535) where
+        module _ {b : Bool} (is : b ≡ leb n mostObjects) (h : not b ≡ false) where
           pub array-got : true ≡ number? (elementKindRules anyType) e → KindReads arrayOf t at (kinds.Got (record { k = 15; a = n; e = e }) (record { at = d }))
           unfolding kindKept?
-          array-got s = kind-kept array-is (rw (small-kept n fits h, ← s)) _ (kind-array 15 n e refl) (told-last 15 e (omega arith) (omega arith))
+          array-got s = kind-kept array-is (rw (small-is n fits, ← is, not-false b h, ← s)) _ (kind-array 15 n e refl) (told-last 15 e (omega arith) (omega arith))
 
           pub array-gap : false ≡ number? (elementKindRules anyType) e → KindReads arrayOf t at kinds.Bad
           unfolding kindKept?
-          array-gap s = kind-broken array-is (rw (small-kept n fits h, ← s))
+          array-gap s = kind-broken array-is (rw (small-is n fits, ← is, not-false b h, ← s))
 
 -- ── as many elements as a value says ──
 
@@ -229,24 +237,13 @@ module _ (k : ℕ) (t : List ℕ) (at : ℕ) where
   unfolding give
   alone-is = refl
 
-  pub alone-gap : false ≡ number? (elementKindRules anyType) k → KindReads (give (plain k)) t at kinds.Bad
+  alone-gap : false ≡ number? (elementKindRules anyType) k → KindReads (give (plain k)) t at kinds.Bad
   unfolding kindKept?
   alone-gap s = kind-broken alone-is (sym s)
 
-  module _ (s : true ≡ number? (elementKindRules anyType) k) where
-    alone-kept : (n : ℕ) → kindFrom n 0 k ≡ plain k → 4 < n → n ≤ 32 → KindReads (give (plain k)) t at (kinds.Got (record { k = n; a = 0; e = k }) (record { at = at }))
-    unfolding kindKept?
-    alone-kept n is lo hi = kind-kept alone-is (sym s) _ is (told-last n k lo hi)
-
-    pub alone-low : k ≤ 32 → KindReads (give (plain k)) t at (kinds.Got (record { k = k; a = 0; e = k }) (record { at = at }))
-    unfolding elementKindRules
-    alone-low l =
-        let A = apart k (number-split (elementKindRules anyType) k (sym s) .1 .0) in
-        let lo = leb-false k 4 (A .low) in
-        alone-kept k (kind-plain k 0 k lo (eqb-false k 15 (A .fixed?)) (λ le. leb-false k 19 (rw (le-leb 17 k le) at (A .listed)))) lo l
-
-    pub alone-type : KindReads (give (plain k)) t at (kinds.Got (record { k = 32; a = 0; e = k }) (record { at = at }))
-    alone-type = alone-kept 32 (kind-plain 32 0 k (omega arith) (λ e. omega arith) (λ e. omega arith)) (omega arith) (omega arith)
+  alone-kept : true ≡ number? (elementKindRules anyType) k → (n : ℕ) → kindFrom n 0 k ≡ plain k → 4 < n → n ≤ 32 → KindReads (give (plain k)) t at (kinds.Got (record { k = n; a = 0; e = k }) (record { at = at }))
+  unfolding kindKept?
+  alone-kept s n is lo hi = kind-kept alone-is (sym s) _ is (told-last n k lo hi)
 
 -- ── a kind ──
 
@@ -273,7 +270,7 @@ module _ {t : List ℕ} {at : ℕ} where
     unfolding readKind manyOf _>>=_ if_then_else_
     kind-is-many lo hi = goes-on (rw (← h, lt-leb k 4 (omega arith), ne-eqb k 15 (λ q. omega arith), le-leb 17 k lo, le-leb k 19 hi))
 
-    pub kind-is-alone : 4 < k → (k ≡ 15 → ⊥) → (17 ≤ k → 19 < k) → KindReads (give (plain k)) t e a → KindReads readKind t at a
+    kind-is-alone : 4 < k → (k ≡ 15 → ⊥) → (17 ≤ k → 19 < k) → KindReads (give (plain k)) t e a → KindReads readKind t at a
     unfolding readKind _>>=_ if_then_else_
     kind-is-alone l x y =
         goes-on
@@ -281,3 +278,24 @@ module _ {t : List ℕ} {at : ℕ} where
           | yes d ↦ rw (← h, lt-leb k 4 l, ne-eqb k 15 x, le-leb 17 k d, lt-leb k 19 (y d))
           | no d ↦ rw (← h, lt-leb k 4 l, ne-eqb k 15 x, lt-leb 17 k (lt-of-not-le d))
         ])
+
+  module _ {k e : ℕ} (h : got k e ≡ natural t at) (fits : k < 2 ^ 64) where
+    pub kind-is-low : 6 ≤ k → k ≤ 14 → KindReads readKind t at (kinds.Got (record { k = k; a = 0; e = k }) (record { at = e }))
+    kind-is-low lo hi =
+        kind-is-alone h (omega arith) (λ q. omega arith) (λ q. omega arith)
+        (alone-kept k t e (element-low k fits lo hi) k (kind-plain k 0 k (omega arith) (λ q. omega arith) (λ q. omega arith)) (omega arith) (omega arith))
+
+    pub kind-is-type : 32 ≤ k → KindReads readKind t at (kinds.Got (record { k = 32; a = 0; e = k }) (record { at = e }))
+    kind-is-type lo =
+        kind-is-alone h (omega arith) (λ q. omega arith) (λ q. omega arith)
+        (alone-kept k t e (element-type k fits lo) 32 (kind-plain 32 0 k (omega arith) (λ q. omega arith) (λ q. omega arith)) (omega arith) (omega arith))
+
+    kind-is-gap : 4 < k → (k ≡ 15 → ⊥) → (17 ≤ k → 19 < k) → false ≡ number? (elementKindRules anyType) k → KindReads readKind t at kinds.Bad
+    kind-is-gap l x y s = kind-is-alone h l x y (alone-gap k t e s)
+
+    pub kind-single-gap : (k ≡ 5) ⊎ (k ≡ 16) → KindReads readKind t at kinds.Bad
+    kind-single-gap (inl is) = kind-is-gap (omega arith) (λ q. omega arith) (λ q. omega arith) (single-gap k fits (inl is))
+    kind-single-gap (inr is) = kind-is-gap (omega arith) (λ q. omega arith) (λ q. omega arith) (single-gap k fits (inr is))
+
+    pub kind-long-gap : 20 ≤ k → k < 32 → KindReads readKind t at kinds.Bad
+    kind-long-gap lo hi = kind-is-gap (omega arith) (λ q. omega arith) (λ q. omega arith) (element-gap k fits (omega arith) hi)

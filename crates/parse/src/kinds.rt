@@ -1,9 +1,6 @@
 // A kind in a listing: its numbers joined by commas. A kind that breaks a rule of its own is `Bad` like one that cannot be read.
 ghost use mathlib.Core.Path.{_≡_};
-ghost use mathlib.Core.List.{List};
-ghost use Prim.Native.Nat.{ℕ, _≤_};
-ghost use Rattle.paper.specs.Ledger.{plain};
-ghost use Rattle.paper.specs.Reader.{give};
+ghost use Prim.Native.Nat.{_≤_};
 ghost use Rattle.paper.specs.Rules.{elementKindRules, anyType};
 ghost use Rattle.paper.specs.Keeps.{number?};
 ghost use Rattle.paper.specs.Scan.{readKind};
@@ -31,13 +28,15 @@ pub enum KindWord {
     Bad,
 }
 
-// An element kind: 6 to 14, or 32 upwards.
+// An element kind: 6 to 14, or 32 upwards. Constants and arrays are no elements, and the gaps are no kinds.
 fn is_element(k: u64) -> bool
     ensures { λ r. ⌜ r ≡ number? (elementKindRules anyType) k ⌝ }
 {
     match k {
-        0..=5 | 15..=31 => false,
-        _ => true,
+        6 | 7..=10 | 11..=14 => true,
+        32..=MOST => true,
+        0..=4 | 15 | 17..=19 => false,
+        5 | 16 | 20 | 21..=31 => false,
     }
 }
 
@@ -91,7 +90,7 @@ fn array(t: &[u8], p: Place) -> KindWord
     let Number::Got(e, next) = element.natural(t) else {
         return KindWord::Bad;
     };
-    if Ledger::OBJECTS < n {
+    if !Ledger::is_small(n) {
         return KindWord::Bad;
     }
     if is_element(e) {
@@ -117,20 +116,8 @@ fn many(t: &[u8], p: Place, k: u64) -> KindWord
     KindWord::Bad
 }
 
-// The number is all.
-fn alone(p: Place, k: u64) -> KindWord
-    ensures { λ r. ⌜ ((t : List ℕ) → KindReads (give (plain k)) t (p .at) r) ⌝ }
-{
-    if is_element(k) {
-        if 32 < k {
-            return KindWord::Got(Kind { k: 32, a: 0, e: k }, p);
-        }
-        return KindWord::Got(Kind { k, a: 0, e: k }, p);
-    }
-    KindWord::Bad
-}
-
-// A kind. Its number tells what follows.
+// A kind. Its number tells which, and what follows: the gaps at 5, 16 and 20 to 31 are none, and from 32 upwards it names a
+// type.
 pub fn kind_word(t: &[u8], p: Place) -> KindWord
     ensures { λ r. ⌜ KindReads readKind (now (t .entry)) (p .at) r ⌝ }
 {
@@ -139,8 +126,10 @@ pub fn kind_word(t: &[u8], p: Place) -> KindWord
     };
     match k {
         0..=4 => constant(t, next, k),
+        6 | 7..=10 | 11..=14 => KindWord::Got(Kind { k, a: 0, e: k }, next),
         15 => array(t, next),
         17..=19 => many(t, next, k),
-        _ => alone(next, k),
+        32..=MOST => KindWord::Got(Kind { k: 32, a: 0, e: k }, next),
+        5 | 16 | 20 | 21..=31 => KindWord::Bad,
     }
 }

@@ -9,46 +9,39 @@ ghost use Rattle.paper.specs.Lists.{given?};
 ghost use Rattle.paper.specs.Encode.{putOption, putHead, putWhole, putKind, putNew};
 ghost use Rattle.lay.specs.Laid.{Laid};
 ghost use Rattle.table.specs.View.{kindFrom};
-ghost use Rattle.lines.specs.Lines.{orDashOf};
+ghost use Rattle.words.specs.Answers.{option};
 ghost use Rattle.puts.specs.Kinds.{constantOf};
-use lines::OrDash;
 use numbers::write::put_be1;
 use numbers::write::put_be2;
 use numbers::write::put_be4;
 use numbers::write::put_be8;
 use numbers::write::put_v64;
 use values::constants::at_most;
+use words::read::Maybe;
 
 // What an entry may leave out.
-fn put_option(out: &mut [u8], at: usize, x: OrDash) -> usize
-    ensures { λ r. ⌜ Laid (now (out .entry)) at (putOption (orDashOf x)) (now (out .exit)) r ⌝ }
+fn put_option(out: &mut [u8], at: usize, x: Maybe) -> usize
+    ensures { λ r. ⌜ Laid (now (out .entry)) at (putOption (option x)) (now (out .exit)) r ⌝ }
 {
     match x {
-        OrDash::Dash => at,
-        OrDash::Number(n) => put_v64(out, at, n),
+        Maybe::Dash => at,
+        Maybe::Some(n) => put_v64(out, at, n),
     }
 }
 
 // The number of restrictions, 0. Only a new type has it, and only a new type says its super type.
-fn put_restrictions(out: &mut [u8], at: usize, sup: OrDash) -> usize
-    ensures { λ r. ⌜ Laid (now (out .entry)) at (if given? (orDashOf sup) then put 0 else []) (now (out .exit)) r ⌝ }
+fn put_restrictions(out: &mut [u8], at: usize, sup: Maybe) -> usize
+    ensures { λ r. ⌜ Laid (now (out .entry)) at (if given? (option sup) then put 0 else []) (now (out .exit)) r ⌝ }
 {
     match sup {
-        OrDash::Dash => at,
-        OrDash::Number(_) => put_v64(out, at, 0),
+        Maybe::Dash => at,
+        Maybe::Some(_) => put_v64(out, at, 0),
     }
 }
 
 // The head of an entry.
-pub fn put_head(
-    out: &mut [u8],
-    at: usize,
-    name: u64,
-    sup: OrDash,
-    start: OrDash,
-    count: u64,
-) -> usize
-    ensures { λ r. ⌜ Laid (now (out .entry)) at (putHead (record { name = name; super = orDashOf sup; start = orDashOf start; count = count })) (now (out .exit)) r ⌝ }
+pub fn put_head(out: &mut [u8], at: usize, name: u64, sup: Maybe, start: Maybe, count: u64) -> usize
+    ensures { λ r. ⌜ Laid (now (out .entry)) at (putHead (record { name = name; super = option sup; start = option start; count = count })) (now (out .exit)) r ⌝ }
 {
     let second = put_v64(out, at, name);
     let third = put_option(out, second, sup);

@@ -14,7 +14,5 @@ put-entry-spec =
     (λ c κs. search needs)
     (λ c κs. search needs)
     (λ c κs. search needs)
-    (λ c κs. search needs)
-    (λ c κs. search needs)
     (λ c. search needs)
-    (λ c. entry-put (rw (c .before .before .before .before .before .before .before .before .before .before .before .before .before .before .before .before .line .given .1) at (c .before .before .before .before .before .before .before .before .before .before .before .before .before .before .before .before .before .before .type-line .ensures)) (rw (c .before .before .before .before .before .before .before .before .before .before .before .before .before .before .or-dash .ensures, c .before .before .before .before .before .before .before .before .before .before .before .before .before .or-dash2 .ensures) at (c .before .before .before .before .before .before .before .before .before .before .put-head .ensures)) (c .before .before .before .before .before .before .put-v64 .ensures) (c .before .before .put-fields .ensures)))
+    (λ c. entry-put (rw (c .before .before .before .before .before .before .before .before .before .before .before .before .before .before .line .given .1) at (c .before .before .before .before .before .before .before .before .before .before .before .before .before .before .before .before .type-line .ensures)) (c .before .before .before .before .before .before .before .before .before .before .put-head .ensures) (c .before .before .before .before .before .before .put-v64 .ensures) (c .before .before .put-fields .ensures)))

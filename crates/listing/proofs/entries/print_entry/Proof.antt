@@ -1,5 +1,4 @@
-use native.Mathlib.Omega.{arith}
-use Rattle.listing.specs.Entries.{entry-no-head, entry-no-count, entry-few, entry-printed}
+use Rattle.listing.specs.Entries.{entry-no-head, entry-no-count, entry-few, entry-cut, entry-printed}
 use borrow.Author.Needs.{needs}
 use Rattle.listing.proofs.entries.print_entry.Statement.{statement}
 use Rattle.listing.proofs.entries.print_entry.Tie as tie
@@ -21,7 +20,9 @@ print-entry-spec =
     (λ c. entry-few _ _ (c .before .before .before .before .before .before .before .before .before .before .read-head .ensures) (c .before .before .before .before .before .before .before .before .a .given .1) (c .before .before .before .before .before .before .v64 .ensures) (c .before .before .before .before .b .given .1) (c .before .known-fields .ensures _) (c .if1 .taken))
     (λ c κs. search needs)
     (λ c κs. search needs)
-    (λ c κs. search needs)
-    (λ c κs. search needs)
     (λ c. search needs)
-    (λ c. entry-printed _ _ (c .before .before .before .before .before .before .before .before .before .before .before .before .before .before .before .before .before .before .before .before .before .before .before .read-head .ensures) (c .before .before .before .before .before .before .before .before .before .before .before .before .before .before .before .before .before .before .before .before .before .a .given .1) (c .before .before .before .before .before .before .before .before .before .before .before .before .before .before .before .before .before .before .before .v64 .ensures) (c .before .before .before .before .before .before .before .before .before .before .before .before .before .before .before .before .before .b .given .1) (c .before .before .before .before .before .before .before .before .before .before .before .before .before .before .known-fields .ensures _) (c .before .before .before .before .before .before .before .before .before .before .before .put-head .ensures) (c .before .before .before .before .before .before .before .put-olds .ensures) (c .before .before .before .before .past-ends .ensures) (c .before .before .print-news .ensures)))
+    (λ c. search needs)
+    (λ c. search needs)
+    (λ c. entry-cut _ _ (c .before .before .before .before .before .before .before .before .before .before .before .before .before .before .before .before .before .before .before .before .read-head .ensures) (c .before .before .before .before .before .before .before .before .before .before .before .before .before .before .before .before .before .before .a .given .1) (c .before .before .before .before .before .before .before .before .before .before .before .before .before .before .before .before .v64 .ensures) (c .before .before .before .before .before .before .before .before .before .before .before .before .before .before .b .given .1) (c .before .before .before .before .before .before .before .before .before .before .before .known-fields .ensures _) (c .before .before .before .before .before .before .before .before .put-head .ensures) (c .before .before .before .before .print-fields .ensures) (c .enum-told3 .given .1))
+    (λ c. search needs)
+    (λ c. entry-printed _ _ (c .before .before .before .before .before .before .before .before .before .before .before .before .before .before .before .before .before .before .before .before .before .read-head .ensures) (c .before .before .before .before .before .before .before .before .before .before .before .before .before .before .before .before .before .before .before .a .given .1) (c .before .before .before .before .before .before .before .before .before .before .before .before .before .before .before .before .before .v64 .ensures) (c .before .before .before .before .before .before .before .before .before .before .before .before .before .before .before .b .given .1) (c .before .before .before .before .before .before .before .before .before .before .before .before .known-fields .ensures _) (c .before .before .before .before .before .before .before .before .before .put-head .ensures) (c .before .before .before .before .before .print-fields .ensures) (c .before .all .given .1)))

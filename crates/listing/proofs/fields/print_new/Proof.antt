@@ -1,4 +1,4 @@
-use Rattle.listing.specs.Fields.{new-no-kind, new-no-name, new-printed}
+use Rattle.listing.specs.Fields.{new-no-kind, new-no-name, new-no-end, new-printed}
 use borrow.Author.Needs.{needs}
 use Rattle.listing.proofs.fields.print_new.Statement.{statement}
 use Rattle.listing.proofs.fields.print_new.Tie as tie
@@ -8,15 +8,20 @@ print-new-spec =
     tie.close
     (tie.spec
     (λ c κs. search needs)
+    (λ c. search needs)
+    (λ c. search needs)
+    (λ c κs. search needs)
+    (λ c. new-no-kind (c .before .before .before .new-kind .ensures) (c .before .enum-told .given .1))
     (λ c κs. search needs)
     (λ c. search needs)
     (λ c. search needs)
-    (λ c. new-no-kind (c .before .before .before .past .ensures) (c .before .before .read-kind .ensures) (c .enum-told .given .1))
+    (λ c κs. search needs)
+    (λ c. new-no-name (c .before .before .before .before .before .before .before .new-kind .ensures) (c .before .before .before .before .before .k .given .1) (c .before .before .before .v64 .ensures) (c .before .enum-told2 .given .1))
     (λ c κs. search needs)
     (λ c. search needs)
     (λ c. search needs)
-    (λ c. new-no-name (c .before .before .before .before .before .before .before .past .ensures) (c .before .before .before .before .before .before .read-kind .ensures) (c .before .before .before .before .k .given .1) (c .before .before .v64 .ensures) (c .enum-told2 .given .1))
     (λ c κs. search needs)
+    (λ c. new-no-end (c .before .before .before .before .before .before .before .before .before .before .before .new-kind .ensures) (c .before .before .before .before .before .before .before .before .before .k .given .1) (c .before .before .before .before .before .before .before .v64 .ensures) (c .before .before .before .before .before .a .given .1) (c .before .before .before .v642 .ensures) (c .before .enum-told3 .given .1))
     (λ c κs. search needs)
     (λ c. search needs)
-    (λ c. new-printed (c .before .before .before .before .before .before .before .before .before .before .before .before .before .past .ensures) (c .before .before .before .before .before .before .before .before .before .before .before .before .read-kind .ensures) (c .before .before .before .before .before .before .before .before .before .before .k .given .1) (c .before .before .before .before .before .before .before .before .v64 .ensures) (c .before .before .before .before .before .before .b .given .1) (c .past2 .ensures) (c .before .before .before .put-new .ensures)))
+    (λ c. new-printed (c .before .before .before .before .before .before .before .before .before .before .before .before .before .before .before .new-kind .ensures) (c .before .before .before .before .before .before .before .before .before .before .before .before .before .k .given .1) (c .before .before .before .before .before .before .before .before .before .before .before .v64 .ensures) (c .before .before .before .before .before .before .before .before .before .a .given .1) (c .before .before .before .before .before .before .before .v642 .ensures) (c .before .before .before .before .before .b .given .1) (c .before .before .put-new .ensures)))
