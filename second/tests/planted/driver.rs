@@ -314,8 +314,10 @@ impl Lent {
     }
 
     fn ask(&mut self, question: &Question<'_>) -> Answer {
-        self.table.clear();
         self.table.resize(question.table, LENT_TABLE);
+        for place in probes(self.table.len()) {
+            self.table[place] = LENT_TABLE;
+        }
         self.numbers.clear();
         self.bytes.clear();
         let said = panic::catch_unwind(AssertUnwindSafe(|| self.said(question)));
@@ -365,16 +367,33 @@ impl Lent {
     }
 }
 
+/// The numbers of a table that are looked at. To fill and to see all of them
+/// would take longer than most calls.
+fn probes(length: usize) -> impl Iterator<Item = usize> + Clone {
+    let places = [0, 1, TABLE / 2, TABLE - 2, TABLE - 1, TABLE];
+    places.into_iter().filter(move |&place| place < length)
+}
+
 fn state(table: &[u32]) -> State {
-    let (front, rest) = table.split_at(table.len().min(TABLE));
-    let has =
-        |part: &[u32], wanted: u32| part.iter().fold(0, |seen, &one| seen | (one ^ wanted)) == 0;
-    if front.len() == TABLE && has(front, 0) && has(rest, LENT_TABLE) {
+    let mut probes = probes(table.len()).map(|place| (place, table[place]));
+    if table.len() >= TABLE
+        && probes
+            .clone()
+            .all(|(place, number)| number == cleared(place))
+    {
         return State::Cleared;
     }
-    match has(table, LENT_TABLE) {
+    match probes.all(|(_, number)| number == LENT_TABLE) {
         true => State::Untouched,
         false => State::Other,
+    }
+}
+
+/// What a number of the table is after a call.
+fn cleared(place: usize) -> u32 {
+    match place {
+        ..TABLE => 0,
+        _ => LENT_TABLE,
     }
 }
 
