@@ -11,7 +11,7 @@ type Row = (&'static str, u8, &'static str);
 
 /// All of them.
 pub fn cases() -> Vec<Case> {
-    let rows = [NAMES, WIDE, SIBLINGS, RANGES, FIELDS, REFERENCES].concat();
+    let rows = [NAMES, WIDE, SIBLINGS, RANGES, FIELDS, LATE, REFERENCES].concat();
     let rows = rows.into_iter();
     let mut cases: Vec<Case> = rows
         .map(|(label, answer, text)| Case::ruled(label, answer, bytes(text)))
@@ -338,6 +338,40 @@ const FIELDS: &[Row] = &[
         "three fields of three names",
         0,
         "P 01 01 00 01 00 03 00 07 01 01 00 07 02 02 00 07 03 03 050607",
+    ),
+];
+
+/// Every reference kind of the block is tested, and every end.
+const LATE: &[Row] = &[
+    (
+        "no such type in the first field, one in the second",
+        10,
+        "P 01 01 00 01 00 02 00 21 01 01 00 20 02 02 00 00",
+    ),
+    (
+        "no such type in the middle one of three fields",
+        10,
+        "P 01 01 00 00 00 03 00 20 01 00 00 12 21 02 00 00 20 03 00",
+    ),
+    (
+        "a type in each of three fields",
+        0,
+        "P 01 01 00 00 00 03 00 20 01 00 00 12 20 02 00 00 20 03 00",
+    ),
+    (
+        "a new field's end falls behind a known field's",
+        4,
+        "D 01 00000001 78 01 01 01 02 02 00 07 02 01 09 050607",
+    ),
+    (
+        "a new type's end falls behind a known field's",
+        4,
+        "D 01 00000001 78 02 01 01 01 02 02 00 01 00 01 00 07 02 01 09 05 06",
+    ),
+    (
+        "a new type's end follows a known field's",
+        0,
+        "D 01 00000001 78 02 01 01 01 02 02 00 01 00 01 00 07 02 03 89 05 06",
     ),
 ];
 
