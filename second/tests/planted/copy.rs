@@ -35,8 +35,8 @@ pub fn write(folder: &Path, faults: &[Fault]) -> Result<(), String> {
     for (name, text) in &mut files {
         *text = planted(name, text, faults)?;
     }
-    let known = |edit: &&Edit| !files.contains_key(edit.file);
-    if let Some(edit) = faults.iter().flat_map(|fault| fault.edits).find(known) {
+    let unknown = |edit: &&Edit| !files.contains_key(edit.file);
+    if let Some(edit) = faults.iter().flat_map(|fault| fault.edits).find(unknown) {
         return Err(format!("no file {}", edit.file));
     }
     let library = files.entry("lib.rs".to_string()).or_default();

@@ -26,9 +26,11 @@ pub struct Edit {
     pub new: &'static str,
 }
 
+/// What is no fault, planted behind them, is not noticed.
 #[test]
 fn every_fault_is_noticed() {
-    let faults = faults::all();
+    let mut faults = faults::all();
+    faults.push(faults::NONE);
     let folder = Path::new(env!("CARGO_TARGET_TMPDIR")).join("planted");
     copy::write(&folder, &faults).unwrap_or_else(|text| panic!("{text}"));
     let driver = compiled(&folder);
@@ -36,8 +38,13 @@ fn every_fault_is_noticed() {
     fs::write(&cases, generated()).unwrap_or_else(|error| panic!("{error}"));
     let number = faults.len().to_string();
     let output = run(Command::new(driver).arg(cases).arg(number));
-    let missed = missed(&output, &faults);
+    let mut missed = missed(&output, &faults);
+    let none = missed.pop();
     assert!(missed.is_empty(), "not noticed:\n{}", missed.join("\n"));
+    assert_eq!(
+        none,
+        Some(format!("{}\t{}", faults.len(), faults::NONE.says))
+    );
 }
 
 /// All files and listings that chance has no part in, for the driver to read.

@@ -28,6 +28,10 @@ macro_rules! fault {
 }
 pub(crate) use fault;
 
+/// No fault: the copy answers as the program does.
+pub const NONE: Fault = fault!("nothing is wrong",
+    "reader.rs": "let first = «before + local.start + 1»;" => "local.start + 1 + before");
+
 /// All of them, in the order of the paper.
 pub fn all() -> Vec<Fault> {
     let groups = [
