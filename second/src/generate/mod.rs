@@ -10,6 +10,7 @@ mod good;
 pub mod notation;
 pub mod random;
 mod rules;
+mod sentences;
 mod small;
 mod texts;
 
@@ -68,6 +69,7 @@ pub fn files(seed: u64, count: usize) -> Vec<Case> {
 pub fn fixed_files() -> Vec<Case> {
     let mut cases = small();
     cases.extend(rules::cases());
+    cases.extend(sentences::cases());
     cases.extend(extremes::cases());
     cases.extend(thorough());
     cases

@@ -1,7 +1,7 @@
 //! Listings: good ones, and ones that no accepted file has.
 
 use super::random::Random;
-use super::{good, rules, Case};
+use super::{good, rules, sentences, Case};
 use crate::bounds;
 use crate::draft;
 use crate::listing;
@@ -27,6 +27,7 @@ pub fn fixed() -> Vec<Case> {
         Case::ruled("listing of E", GOOD, LISTING_E.into()),
     ];
     cases.extend(changed());
+    cases.extend(parted());
     cases.extend(values());
     cases.extend(constants());
     cases.extend(whole());
@@ -51,6 +52,27 @@ fn changed() -> Vec<Case> {
         let text = format!("{front}{to}{}", &rest[piece.len()..]);
         let label = format!("listing of E, {from:?} made {to:?}");
         cases.push(Case::ruled(&label, answer, text.into_bytes()));
+    }
+    cases
+}
+
+/// Every tab and newline of a listing doubled, left out, or another byte.
+fn parted() -> Vec<Case> {
+    let text = "pair\t2\t2\nstr\t61\nstr\t62\ntype\t1\t0\t-\t2\t2\nnew\t17,11\t1\nnew\t15,2,8\t2\n\
+        type\t2\t1\t1\t1\t1\nnew\t0,-5\t1\nval\t-1\t-2\nval\nval\t3\t4\nval\t5\t6\n\
+        pair\t0\t1\ntype\t1\t-\t-\t1\t2\nold\nold\nval\nval\t7\t8\n";
+    let mut cases = vec![Case::ruled("listing to be parted", GOOD, text.into())];
+    for (place, byte) in text.bytes().enumerate() {
+        let instead: &[&str] = match byte {
+            b'\t' => &["\t\t", "", " ", "\n", ",", " \t", "\t "],
+            b'\n' => &["\n\n", "", " ", "\r\n", "\r", "\t\n", " \n", "\0"],
+            _ => &[],
+        };
+        for new in instead {
+            let wrong = format!("{}{new}{}", &text[..place], &text[place + 1..]);
+            let label = format!("{:?} at {place} made {new:?}", char::from(byte));
+            cases.push(Case::ruled(&label, BAD, wrong.into_bytes()));
+        }
     }
     cases
 }
@@ -206,6 +228,10 @@ const CHANGES: &[(&str, &str, u8)] = &[
     ("new\t11\t1", "new\t15,1, 11\t1", BAD),
     ("new\t11\t1", "new\t15,65536,11\t1", BAD),
     ("new\t11\t1", "new\t17\t1", BAD),
+    ("new\t11\t1", "new\t16,11\t1", BAD),
+    ("new\t11\t1", "new\t20,11\t1", BAD),
+    ("new\t11\t1", "new\t21,11\t1", BAD),
+    ("new\t11\t1", "new\t14,11\t1", BAD),
     ("new\t11\t1", "new\t17,17\t1", BAD),
     ("new\t11\t1", "new\t17,5\t1", BAD),
     ("new\t11\t1", "new\t17,11,11\t1", BAD),
@@ -421,6 +447,30 @@ fn extremes() -> Vec<Case> {
         let head = format!("pair\t1\t1\nstr\t61\ntype\t1\t0\t-\t{count}\t1\nnew\t11\t1\n");
         (head + &"val\t-1\n".repeat(lines)).into_bytes()
     };
+    let types = |count: usize| {
+        let strings: String = (0..count)
+            .map(|name| format!("str\t{name:02x}\n"))
+            .collect();
+        let entries = (1..=count).map(|name| format!("type\t{name}\t0\t-\t1\t0\n"));
+        format!(
+            "pair\t{count}\t{count}\n{strings}{}",
+            entries.collect::<String>()
+        )
+        .into_bytes()
+    };
+    let fields = |first: usize, second: usize| {
+        let count = first.max(second);
+        let strings: String = (0..count)
+            .map(|name| format!("str\t{name:02x}\n"))
+            .collect();
+        let lines = |count| (1..=count).map(|name| format!("new\t0,5\t{name}\n"));
+        let [first_lines, second_lines] = [first, second].map(|n| lines(n).collect::<String>());
+        format!(
+            "pair\t{count}\t2\n{strings}type\t1\t0\t-\t1\t{first}\n{first_lines}\
+                type\t2\t0\t-\t1\t{second}\n{second_lines}"
+        )
+        .into_bytes()
+    };
     let array =
         |kind: &str, length: usize| one_object(kind, &format!("val{}\n", "\t1".repeat(length)));
     vec![
@@ -431,6 +481,12 @@ fn extremes() -> Vec<Case> {
         Case::ruled("file of 1048577 bytes", BAD, long_file(bounds::FILE + 1)),
         Case::ruled("1024 strings", GOOD, strings(1024).into()),
         Case::ruled("1025 strings", BAD, strings(1025).into()),
+        Case::ruled("32 types in one block", GOOD, types(32)),
+        Case::ruled("33 types in one block", BAD, types(33)),
+        Case::ruled("128 fields of one type", GOOD, fields(128, 0)),
+        Case::ruled("129 fields of one type", BAD, fields(129, 0)),
+        Case::ruled("128 fields of two types", GOOD, fields(64, 64)),
+        Case::ruled("129 fields of two types", BAD, fields(64, 65)),
         Case::ruled("65535 objects", GOOD, objects(65_535).into()),
         Case::ruled("65536 objects", BAD, objects(65_536).into()),
         Case::ruled("65535 values", GOOD, column(65_535, 65_535)),
@@ -457,7 +513,8 @@ fn extremes() -> Vec<Case> {
 
 /// The listings of the accepted files made for rules.
 fn of_rules() -> Vec<Case> {
-    let accepted = rules::cases().into_iter().filter_map(|case| {
+    let cases = rules::cases().into_iter().chain(sentences::cases());
+    let accepted = cases.filter_map(|case| {
         let text = listing_of(&case.bytes)?;
         Some(Case::ruled(
             &format!("listing of: {}", case.label),
