@@ -10,6 +10,7 @@ mod good;
 pub mod notation;
 pub mod random;
 mod rules;
+pub mod sentences;
 mod small;
 mod texts;
 
@@ -67,6 +68,11 @@ pub fn files(seed: u64, count: usize) -> Vec<Case> {
 /// The files that do not depend on the seed.
 pub fn fixed_files() -> Vec<Case> {
     let mut cases = small();
+    cases.extend(
+        sentences::sections()
+            .into_iter()
+            .flat_map(|section| section.cases),
+    );
     cases.extend(rules::cases());
     cases.extend(extremes::cases());
     cases.extend(thorough());
