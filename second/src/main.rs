@@ -21,14 +21,14 @@ usage: second check FILE
        second program-build
        second generate DIR [--seed N] [--count N]
        second counts [--seed N] [--count N]
-       second vectors
+       second vectors [PART]
        second example-wear
 
 FILE may be - for standard input. Status 0 is accepted, 1 refused or failed,
 2 wrong use. A refusal is printed as `refused`, its number and its place,
 parted by tabs. The two programs read standard input, write standard output
 and print no place. --count is how many files are made by chance; listings are
-half as many.
+half as many. vectors alone names the parts.
 ";
 
 /// What a command comes to.
@@ -98,7 +98,13 @@ fn run(arguments: &[OsString]) -> io::Result<Outcome> {
             Some(options) => write_cases(Path::new(folder), options),
             None => Ok(Outcome::WrongUse),
         },
-        ("vectors", []) => Ok(Outcome::Accepted(vectors::text().into_bytes())),
+        ("vectors", []) => Ok(Outcome::Accepted(lines(&vectors::parts()))),
+        ("vectors", [part]) => Ok(part
+            .to_str()
+            .and_then(vectors::text)
+            .map_or(Outcome::WrongUse, |text| {
+                Outcome::Accepted(text.into_bytes())
+            })),
         ("example-wear", []) => Ok(Outcome::Accepted(examples::wear())),
         ("counts", options) => match Options::read(options) {
             Some(options) => Ok(counts(options)),
@@ -207,6 +213,11 @@ impl Options {
         }
         Some(options)
     }
+}
+
+fn lines(words: &[&str]) -> Vec<u8> {
+    let lines = words.iter().map(|word| format!("{word}\n"));
+    lines.collect::<String>().into_bytes()
 }
 
 fn counts(options: Options) -> Outcome {

@@ -1,20 +1,24 @@
-//! The small files as statements for the project's checker.
+//! Files as statements for the project's checker.
 //!
 //! Each file is computed there with the definitions and must give this
-//! program's answer: the refusal and its place, or the listing, the file built
-//! back from it, and every column that can be asked for.
+//! program's answer: the refusal and its place, or the listing. Of the small
+//! files it is also built back from the listing, and every column that can be
+//! asked for is.
 
 use std::fmt::Write;
 
 use crate::bounds::{OBJECTS, TABLE};
-use crate::generate::{self, Case};
+use crate::generate::{self, notation, sentences, Case};
 use crate::reader;
+use crate::Refusal;
 
 const HEAD: &str = "\
--- Small files of the second program, computed with the definitions: the answers are that program's, and it writes this file.
+-- Files of the second program, computed with the definitions: the answers are that program's, and it writes this file.
 -- Assumes nothing.
 use mathlib.Core.Path.{_≡_, refl}
-use mathlib.Core.List.{List, [], _∷_}
+use mathlib.Core.List.{List, [], _∷_, _++_}
+use Prim.Native.Nat.{ℕ}
+use lib.ListN.{replicate}
 use lib.IntN.{ℤ, pos, negsuc}
 use Rattle.paper.specs.Reader.{Out, got, no}
 use Rattle.paper.specs.File.{file}
@@ -23,16 +27,49 @@ use Rattle.paper.specs.Calls.{Answer, done, refused, objects, column, listing, 
 use Rattle.paper.specs.Whole.{whole}
 ";
 
+/// The part that has the small files.
+const SMALL: &str = "Small";
+
+/// From how many equal bytes on they are written as a run.
+const SHORTEST_RUN: usize = 5;
+
 /// The kinds that a column can be asked with.
 const ASKED: [u64; 15] = [0, 1, 2, 3, 4, 6, 7, 8, 9, 10, 11, 12, 13, 14, 32];
 
-/// All statements.
-pub fn text() -> String {
+/// The names of the parts: the small files, and a part for each section of
+/// sentences.
+pub fn parts() -> Vec<&'static str> {
+    let sections = sentences::sections();
+    let names = sections.iter().map(|section| section.name);
+    std::iter::once(SMALL).chain(names).collect()
+}
+
+/// The statements of a part.
+pub fn text(part: &str) -> Option<String> {
+    if part == SMALL {
+        return Some(statements("file", &generate::small(), wholly));
+    }
+    let sections = sentences::sections();
+    let section = sections.iter().find(|section| section.name == part)?;
+    let name = part.to_lowercase();
+    Some(statements(&name, &section.cases, read))
+}
+
+/// A statement for each case, named by what they are and their number.
+fn statements(kind: &str, cases: &[Case], claims: fn(&Case) -> Vec<String>) -> String {
     let mut text = HEAD.to_string();
-    for (index, case) in generate::small().iter().enumerate() {
+    for (name, piece) in pieces() {
+        let listed: String = piece
+            .iter()
+            .map(|byte| format!("0x{byte:02X} ∷ "))
+            .collect();
+        write!(text, "\nabbrev {name} : List ℕ\n{name} = {listed}[]\n")
+            .expect("a string takes all");
+    }
+    for (index, case) in cases.iter().enumerate() {
         let claims = claims(case);
         let proof = vec!["refl"; claims.len()].join(", ");
-        let name = format!("file{index}");
+        let name = format!("{kind}{index}");
         let (open, close) = if claims.len() > 1 {
             ("(", ")")
         } else {
@@ -49,29 +86,44 @@ pub fn text() -> String {
     text
 }
 
-/// What is said of one file.
-fn claims(case: &Case) -> Vec<String> {
+/// What is said of a file: its refusal and the place, or its listing.
+fn read(case: &Case) -> Vec<String> {
     let file = numbers(&case.bytes);
-    let mut table = vec![0; TABLE];
-    let mut out = vec![0; 64 * case.bytes.len() + 64];
-    match crate::listing(&case.bytes, &mut table, &mut out) {
+    match listing(case) {
         Err(refusal) => vec![format!(
             "(file ({file}) ≡ no {} {})",
             refusal.number, refusal.place
         )],
-        Ok(length) => {
-            let listing = quoted(&out[..length]);
-            let mut claims = vec![
-                format!("(listing {length} {TABLE} ({file}) ≡ done (ascii {listing}))"),
-                format!(
-                    "(build {} {TABLE} (ascii {listing}) ≡ done ({file}))",
-                    case.bytes.len()
-                ),
-            ];
-            claims.extend(columns(case, &file));
-            claims
-        }
+        Ok(listing) => vec![format!(
+            "(listing {} {TABLE} ({file}) ≡ done (ascii {}))",
+            listing.len(),
+            quoted(&listing)
+        )],
     }
+}
+
+/// The same, and of an accepted file that it is built back, with every column.
+fn wholly(case: &Case) -> Vec<String> {
+    let mut claims = read(case);
+    if let Ok(listing) = listing(case) {
+        let file = numbers(&case.bytes);
+        claims.push(format!(
+            "(build {} {TABLE} (ascii {}) ≡ done ({file}))",
+            case.bytes.len(),
+            quoted(&listing)
+        ));
+        claims.extend(columns(case, &file));
+    }
+    claims
+}
+
+/// The listing of a file.
+fn listing(case: &Case) -> Result<Vec<u8>, Refusal> {
+    let mut table = vec![0; TABLE];
+    let mut out = vec![0; 64 * case.bytes.len() + 64];
+    let length = crate::listing(&case.bytes, &mut table, &mut out)?;
+    out.truncate(length);
+    Ok(out)
 }
 
 /// The objects of every type, and every column that can be asked for.
@@ -113,13 +165,34 @@ fn columns(case: &Case, file: &str) -> Vec<String> {
     claims
 }
 
-/// Bytes as a list of the checker's.
+/// Bytes as a list of the checker's: known pieces at the front by their names,
+/// and longer runs of one byte as such.
 fn numbers(bytes: &[u8]) -> String {
     let mut text = String::new();
-    for byte in bytes {
-        write!(text, "0x{byte:02X} ∷ ").expect("a string takes all");
+    let mut rest = bytes;
+    for (name, piece) in pieces() {
+        if let Some(behind) = rest.strip_prefix(&piece[..]) {
+            write!(text, "{name} ++ ").expect("a string takes all");
+            rest = behind;
+        }
+    }
+    while let Some(&byte) = rest.first() {
+        let run = rest.iter().take_while(|&&next| next == byte).count();
+        if run < SHORTEST_RUN {
+            write!(text, "0x{byte:02X} ∷ ").expect("a string takes all");
+            rest = &rest[1..];
+        } else {
+            write!(text, "replicate {run} 0x{byte:02X} ++ ").expect("a string takes all");
+            rest = &rest[run..];
+        }
     }
     text + "[]"
+}
+
+/// The pieces of the notation that stand at the front of most files.
+fn pieces() -> Vec<(&'static str, Vec<u8>)> {
+    let named = ["P", "Q", "D"];
+    named.map(|name| (name, notation::bytes(name))).to_vec()
 }
 
 /// Signed numbers as a list of the checker's: `negsuc n` is -1 - n.

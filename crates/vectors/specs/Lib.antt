@@ -1,1 +1,11 @@
 pub mod Small
+pub mod Numbers
+pub mod Strings
+pub mod Entries
+pub mod Ranges
+pub mod Objects
+pub mod Fields
+pub mod Kinds
+pub mod Values
+pub mod References
+pub mod Long

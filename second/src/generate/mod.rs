@@ -7,10 +7,11 @@
 mod damage;
 mod extremes;
 mod good;
+mod neighbours;
 pub mod notation;
 pub mod random;
 mod rules;
-mod sentences;
+pub mod sentences;
 mod small;
 mod texts;
 
@@ -68,8 +69,13 @@ pub fn files(seed: u64, count: usize) -> Vec<Case> {
 /// The files that do not depend on the seed.
 pub fn fixed_files() -> Vec<Case> {
     let mut cases = small();
+    cases.extend(
+        sentences::sections()
+            .into_iter()
+            .flat_map(|section| section.cases),
+    );
     cases.extend(rules::cases());
-    cases.extend(sentences::cases());
+    cases.extend(neighbours::cases());
     cases.extend(extremes::cases());
     cases.extend(thorough());
     cases

@@ -5,6 +5,7 @@
 //!
 //! - `P`: a string block of the strings a, b, c, d, e (numbers 1 to 5)
 //! - `Q`: a string block of the strings a, b (numbers 1, 2)
+//! - `S33`: a string block of 33 strings of one byte each, a and on
 //! - `D`, `E`: the paper's files of these names
 //! - `'word`: the bytes of the word itself
 
@@ -32,13 +33,21 @@ pub fn bytes(text: &str) -> Vec<u8> {
                 out.extend(bytes(FILE_D));
                 out.extend(bytes(BEHIND_D));
             }
-            _ => match word.strip_prefix('\'') {
-                Some(plain) => out.extend_from_slice(plain.as_bytes()),
-                None => repeated(word, &mut out),
+            _ => match (word.strip_prefix('\''), word.strip_prefix('S')) {
+                (Some(plain), _) => out.extend_from_slice(plain.as_bytes()),
+                (_, Some(count)) => singles(count.parse().expect("a number of strings"), &mut out),
+                _ => repeated(word, &mut out),
             },
         }
     }
     out
+}
+
+/// A string block of up to 127 strings of one byte each.
+fn singles(count: u8, out: &mut Vec<u8>) {
+    out.push(count);
+    out.extend((1..=count).flat_map(|end| [0, 0, 0, end]));
+    out.extend((0..count).map(|index| b'a' + index));
 }
 
 fn repeated(word: &str, out: &mut Vec<u8>) {

@@ -1,7 +1,7 @@
 //! Listings: good ones, and ones that no accepted file has.
 
 use super::random::Random;
-use super::{good, rules, sentences, Case};
+use super::{good, neighbours, rules, Case};
 use crate::bounds;
 use crate::draft;
 use crate::listing;
@@ -513,7 +513,7 @@ fn extremes() -> Vec<Case> {
 
 /// The listings of the accepted files made for rules.
 fn of_rules() -> Vec<Case> {
-    let cases = rules::cases().into_iter().chain(sentences::cases());
+    let cases = rules::cases().into_iter().chain(neighbours::cases());
     let accepted = cases.filter_map(|case| {
         let text = listing_of(&case.bytes)?;
         Some(Case::ruled(

@@ -1,0 +1,263 @@
+//! "Numbers", and where the file ends before or in one.
+
+use super::{ruled, Row};
+use crate::generate::Case;
+
+pub fn cases() -> Vec<Case> {
+    ruled(&[CODINGS, WIDTHS, PADDED, CUT])
+}
+
+const CODINGS: &[Row] = &[
+    ("v64: the smallest and the largest coding of one to nine bytes, the 64 bits signed in values", 0, "P 01 01 00 15 00 01 00 0B 01 75 00 7F 80 01 FF 7F 80*2 01 FF*2 7F 80*3 01 FF*3 7F 80*4 01 FF*4 7F 80*5 01 FF*5 7F 80*6 01 FF*6 7F 80*7 01 FF*7 7F 80*8 01 FF*8 7F 80*9 FF*9 81 82 83 84 85 86 87 88 09"),
+    ("v64: a count of two bytes, low seven bits first", 0, "Q 01 01 00 81 02 00 00"),
+    ("v64: the last byte of two is not 00", 2, "FF 00"),
+    ("v64: the last byte of three is not 00", 2, "80*2 00"),
+    ("v64: the last byte of four is not 00", 2, "81 82 83 00"),
+    ("v64: the last byte of seven is not 00", 2, "FF*6 00"),
+    ("v64: the last byte of eight is not 00", 2, "80*7 00"),
+    ("v64: the last byte of nine is not 00", 2, "FF*8 00"),
+    ("v64: 00 alone is the shortest coding", 1, "00 01"),
+    ("v64: unsigned in counts, the ninth byte is the last whatever its top bit", 3, "80*9 00"),
+    ("v64: unsigned in counts, 2^64 - 1", 3, "FF*9"),
+    ("v64: a tenth byte is left over", 12, "P 01 01 00 01 00 01 00 0B 01 0A 80*9 01"),
+    ("v64: cut behind its first byte, at its first byte", 1, "00 80"),
+    ("v64: cut behind two bytes, at its first byte", 1, "00 FF FF"),
+    ("v64: cut behind eight bytes, at its first byte", 1, "00 80*8"),
+    ("v64: padded further on, at its first byte", 2, "00 80 80 00"),
+];
+
+const WIDTHS: &[Row] = &[
+    ("i8 is two's complement", 0, "P 01 01 00 05 00 01 00 07 01 05 00 01 7F 80 FF"),
+    ("i16 is two's complement, highest byte first", 0, "P 01 01 00 05 00 01 00 08 01 0A 0000 0102 7FFF 8000 FFFE"),
+    ("i32 is two's complement, highest byte first", 0, "P 01 01 00 05 00 01 00 09 01 14 00000000 01020304 7FFFFFFF 80000000 FFFFFFFE"),
+    ("i64 is two's complement, highest byte first", 0, "P 01 01 00 04 00 01 00 0A 01 20 0102030405060708 7FFFFFFFFFFFFFFF 8000000000000000 FFFFFFFFFFFFFFFE"),
+    ("f32 is four bytes, highest first", 0, "P 01 01 00 03 00 01 00 0C 01 0C 01020304 7FC00001 FF800000"),
+    ("f64 is eight bytes, highest first", 0, "P 01 01 00 03 00 01 00 0D 01 18 0102030405060708 7FF0000000000001 FFF0000000000000"),
+    ("constants i8 are two's complement", 0, "P 01 01 00 01 00 03 00 00 7F 01 00 00 00 80 02 00 00 00 FF 03 00"),
+    ("constants i16 are two's complement", 0, "P 01 01 00 01 00 04 00 01 7FFF 01 00 00 01 8000 02 00 00 01 FFFF 03 00 00 01 0102 04 00"),
+    ("constants i32 are two's complement", 0, "P 01 01 00 01 00 04 00 02 7FFFFFFF 01 00 00 02 80000000 02 00 00 02 FFFFFFFF 03 00 00 02 01020304 04 00"),
+    ("constants i64 are two's complement", 0, "P 01 01 00 01 00 04 00 03 7F FF*7 01 00 00 03 80 00*7 02 00 00 03 FF*8 03 00 00 03 0102030405060708 04 00"),
+    ("constants v64 are signed", 0, "P 01 01 00 01 00 05 00 04 FF*8 7F 01 00 00 04 80*9 02 00 00 04 FF*9 03 00 00 04 80 01 04 00 00 04 00 05 00"),
+];
+
+/// A padded number has no value: 2 comes before what its value would break.
+const PADDED: &[Row] = &[
+    (
+        "padded number of strings: 2 before the bound",
+        2,
+        "FF FF 80 00",
+    ),
+    (
+        "padded number of entries: 2 before the bound",
+        2,
+        "P FF FF FF 00",
+    ),
+    ("padded name: 2 before 5, of 0", 2, "P 01 80 00"),
+    ("padded name: 2 before 5, too large", 2, "P 01 FF 00"),
+    ("padded name: 2 before 6", 2, "P 02 01 00 00 00 00 81 00"),
+    ("padded super name: 2 before 5", 2, "P 01 01 FF 00"),
+    ("padded super name: 2 before 7", 2, "P 01 01 82 00"),
+    ("padded super name that would be 0", 2, "P 01 01 80 00"),
+    (
+        "padded local start: 2 before 3",
+        2,
+        "P 02 01 00 01 00 00 02 01 FF FF FF 00",
+    ),
+    ("padded count: 2 before 3", 2, "P 01 01 00 FF FF FF 00"),
+    (
+        "padded count: 2 before 21",
+        2,
+        "P 02 01 00 01 00 00 02 01 00 85 00",
+    ),
+    (
+        "padded restrictions of a type that would be 0",
+        2,
+        "P 01 01 00 01 80 00",
+    ),
+    (
+        "padded restrictions of a type: 2 before 9",
+        2,
+        "P 01 01 00 01 81 00",
+    ),
+    (
+        "padded number of fields: 2 before 3",
+        2,
+        "P 01 01 00 01 00 FF FF 00",
+    ),
+    (
+        "padded number of fields: 2 before 11",
+        2,
+        "D 00 01 01 01 80 00",
+    ),
+    (
+        "padded end of a known field: 2 before 1",
+        2,
+        "D 00 01 01 01 01 81 00",
+    ),
+    (
+        "padded restrictions of a field: 2 before 9",
+        2,
+        "P 01 01 00 01 00 01 81 00",
+    ),
+    (
+        "padded kind: 2 before 10",
+        2,
+        "P 01 01 00 01 00 01 00 85 00",
+    ),
+    (
+        "padded kind that is listed",
+        2,
+        "P 01 01 00 01 00 01 00 8B 00 01 01 00",
+    ),
+    (
+        "padded constant",
+        2,
+        "P 01 01 00 01 00 01 00 04 80 00 01 00",
+    ),
+    (
+        "padded length in a kind: 2 before 3",
+        2,
+        "P 01 01 00 01 00 01 00 0F FF FF FF 00",
+    ),
+    (
+        "padded element kind: 2 before 10",
+        2,
+        "P 01 01 00 01 00 01 00 11 85 00",
+    ),
+    (
+        "padded element kind of a fixed array: 2 before 10",
+        2,
+        "P 01 01 00 01 00 01 00 0F 02 85 00",
+    ),
+    (
+        "padded field name: 2 before 5",
+        2,
+        "P 01 01 00 01 00 01 00 0B 80 00",
+    ),
+    (
+        "padded field name: 2 before 6",
+        2,
+        "P 01 01 00 01 00 02 00 0B 01 01 00 0B 81 00",
+    ),
+    (
+        "padded end: 2 before 4",
+        2,
+        "P 01 01 00 01 00 02 00 0B 01 01 00 0B 02 80 00",
+    ),
+];
+
+/// The file ends before (a) or in (b) a number that is due.
+const CUT: &[Row] = &[
+    ("a number of strings is due, b", 1, "0000 80"),
+    ("the number of entries is due, a", 1, "Q"),
+    ("the number of entries is due, b", 1, "Q 80"),
+    ("a name is due, a", 1, "Q 01"),
+    ("a name is due, b", 1, "Q 01 80"),
+    ("a second entry's name is due", 1, "Q 02 01 00 00 00 00"),
+    ("a super name is due, a", 1, "Q 01 01"),
+    ("a super name is due, b", 1, "Q 01 01 80"),
+    ("a local start is due, a", 1, "Q 02 01 00 00 00 00 02 01"),
+    ("a local start is due, b", 1, "Q 02 01 00 00 00 00 02 01 80"),
+    (
+        "a known type's local start is due",
+        1,
+        "Q 02 01 00 00 00 00 02 01 00 00 00 00 00 01 02",
+    ),
+    ("a count is due, a", 1, "Q 01 01 00"),
+    ("a count is due, b", 1, "Q 01 01 00 80"),
+    (
+        "a subtype's count is due",
+        1,
+        "Q 02 01 00 00 00 00 02 01 00",
+    ),
+    (
+        "a known type's count is due",
+        1,
+        "Q 01 01 00 00 00 00 00 01 01",
+    ),
+    ("restrictions are due, a", 1, "Q 01 01 00 01"),
+    ("restrictions are due, b", 1, "Q 01 01 00 01 80"),
+    ("the number of fields is due, a", 1, "Q 01 01 00 01 00"),
+    ("the number of fields is due, b", 1, "Q 01 01 00 01 00 80"),
+    (
+        "a known type's number of fields is due",
+        1,
+        "Q 01 01 00 01 00 00 00 01 01 01",
+    ),
+    ("a known field's end is due, a", 1, "D 00 01 01 01 01"),
+    ("a known field's end is due, b", 1, "D 00 01 01 01 01 80"),
+    (
+        "restrictions of a field are due, a",
+        1,
+        "Q 01 01 00 01 00 01",
+    ),
+    (
+        "restrictions of a field are due, b",
+        1,
+        "Q 01 01 00 01 00 01 80",
+    ),
+    ("a kind is due, a", 1, "Q 01 01 00 01 00 01 00"),
+    ("a kind is due, b", 1, "Q 01 01 00 01 00 01 00 8B"),
+    ("a constant i8 is due", 1, "Q 01 01 00 01 00 01 00 00"),
+    (
+        "a constant i16 is due, b",
+        1,
+        "Q 01 01 00 01 00 01 00 01 FF",
+    ),
+    (
+        "a constant i32 is due, b",
+        1,
+        "Q 01 01 00 01 00 01 00 02 FF FF FF",
+    ),
+    (
+        "a constant i64 is due, b",
+        1,
+        "Q 01 01 00 01 00 01 00 03 FF*7",
+    ),
+    ("a constant v64 is due, a", 1, "Q 01 01 00 01 00 01 00 04"),
+    (
+        "a constant v64 is due, b",
+        1,
+        "Q 01 01 00 01 00 01 00 04 FF*8",
+    ),
+    ("a length in a kind is due", 1, "Q 01 01 00 01 00 01 00 0F"),
+    (
+        "a fixed array's element kind is due",
+        1,
+        "Q 01 01 00 01 00 01 00 0F 02",
+    ),
+    (
+        "an array's element kind is due",
+        1,
+        "Q 01 01 00 01 00 01 00 11",
+    ),
+    (
+        "a list's element kind is due",
+        1,
+        "Q 01 01 00 01 00 01 00 12",
+    ),
+    (
+        "a set's element kind is due",
+        1,
+        "Q 01 01 00 01 00 01 00 13",
+    ),
+    ("a field name is due, a", 1, "Q 01 01 00 01 00 01 00 0B"),
+    ("a field name is due, b", 1, "Q 01 01 00 01 00 01 00 0B 80"),
+    (
+        "a field name is due behind a constant",
+        1,
+        "Q 01 01 00 01 00 01 00 01 FF FF",
+    ),
+    (
+        "a field name is due behind an element kind",
+        1,
+        "Q 01 01 00 01 00 01 00 0F 02 0B",
+    ),
+    ("an end is due, a", 1, "Q 01 01 00 01 00 01 00 0B 01"),
+    ("an end is due, b", 1, "Q 01 01 00 01 00 01 00 0B 01 80"),
+    (
+        "a second field is due",
+        1,
+        "Q 01 01 00 01 00 02 00 0B 01 01",
+    ),
+];
