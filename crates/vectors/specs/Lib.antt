@@ -1,2 +1,4 @@
 pub mod Small
 pub mod Questions
+pub mod Ledgers
+pub mod Pieces

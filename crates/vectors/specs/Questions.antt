@@ -329,6 +329,13 @@ abbrev constants : List ℕ
 constants =
     0x07 ∷ 0x00 ∷ 0x00 ∷ 0x00 ∷ 0x01 ∷ 0x00 ∷ 0x00 ∷ 0x00 ∷ 0x02 ∷ 0x00 ∷ 0x00 ∷ 0x00 ∷ 0x03 ∷ 0x00 ∷ 0x00 ∷ 0x00 ∷ 0x04 ∷ 0x00 ∷ 0x00 ∷ 0x00 ∷ 0x05 ∷ 0x00 ∷ 0x00 ∷ 0x00 ∷ 0x06 ∷ 0x00 ∷ 0x00 ∷ 0x00 ∷ 0x07 ∷ 0x61 ∷ 0x62 ∷ 0x63 ∷ 0x64 ∷ 0x65 ∷ 0x66 ∷ 0x67 ∷ 0x01 ∷ 0x01 ∷ 0x00 ∷ 0x01 ∷ 0x00 ∷ 0x04 ∷ 0x00 ∷ 0x00 ∷ 0x80 ∷ 0x02 ∷ 0x00 ∷ 0x00 ∷ 0x01 ∷ 0x7F ∷ 0xFF ∷ 0x03 ∷ 0x00 ∷ 0x00 ∷ 0x07 ∷ 0x04 ∷ 0x01 ∷ 0x00 ∷ 0x02 ∷ 0x80 ∷ 0x00 ∷ 0x00 ∷ 0x00 ∷ 0x05 ∷ 0x01 ∷ 0x09 ∷ 0x00 ∷ 0x01 ∷ 0x01 ∷ 0x02 ∷ 0x05 ∷ 0x00 ∷ 0x00 ∷ 0x02 ∷ 0x02 ∷ 0x00 ∷ 0x03 ∷ 0x7F ∷ 0xFF ∷ 0xFF ∷ 0xFF ∷ 0xFF ∷ 0xFF ∷ 0xFF ∷ 0xFF ∷ 0x06 ∷ 0x02 ∷ 0x08 ∷ 0x07 ∷ 0x00 ∷ 0x01 ∷ 0x01 ∷ 0x00 ∷ 0x01 ∷ 0x00 ∷ 0x04 ∷ 0xFF ∷ 0xFF ∷ 0xFF ∷ 0xFF ∷ 0xFF ∷ 0xFF ∷ 0xFF ∷ 0xFF ∷ 0xFF ∷ 0x07 ∷ 0x00 ∷ []
 
+-- its listing, and the file built back from it
+constants-listed :
+    (listing 249 16384 constants ≡ done (ascii "pair\t7\t1\nstr\t61\nstr\t62\nstr\t63\nstr\t64\nstr\t65\nstr\t66\nstr\t67\ntype\t1\t0\t-\t1\t4\nnew\t0,-128\t2\nnew\t1,32767\t3\nnew\t7\t4\nnew\t2,-2147483648\t5\nval\t9\npair\t0\t1\ntype\t1\t-\t-\t2\t5\nold\nold\nold\nold\nnew\t3,9223372036854775807\t6\nval\t8\nval\t7\npair\t0\t1\ntype\t1\t-\t-\t0\t1\nnew\t4,-1\t7\n")) ×
+    (build 107 16384 (ascii "pair\t7\t1\nstr\t61\nstr\t62\nstr\t63\nstr\t64\nstr\t65\nstr\t66\nstr\t67\ntype\t1\t0\t-\t1\t4\nnew\t0,-128\t2\nnew\t1,32767\t3\nnew\t7\t4\nnew\t2,-2147483648\t5\nval\t9\npair\t0\t1\ntype\t1\t-\t-\t2\t5\nold\nold\nold\nold\nnew\t3,9223372036854775807\t6\nval\t8\nval\t7\npair\t0\t1\ntype\t1\t-\t-\t0\t1\nnew\t4,-1\t7\n") ≡ done (0x07 ∷ 0x00 ∷ 0x00 ∷ 0x00 ∷ 0x01 ∷ 0x00 ∷ 0x00 ∷ 0x00 ∷ 0x02 ∷ 0x00 ∷ 0x00 ∷ 0x00 ∷ 0x03 ∷ 0x00 ∷ 0x00 ∷ 0x00 ∷ 0x04 ∷ 0x00 ∷ 0x00 ∷ 0x00 ∷ 0x05 ∷ 0x00 ∷ 0x00 ∷ 0x00 ∷ 0x06 ∷ 0x00 ∷ 0x00 ∷ 0x00 ∷ 0x07 ∷ 0x61 ∷ 0x62 ∷ 0x63 ∷ 0x64 ∷ 0x65 ∷ 0x66 ∷ 0x67 ∷ 0x01 ∷ 0x01 ∷ 0x00 ∷ 0x01 ∷ 0x00 ∷ 0x04 ∷ 0x00 ∷ 0x00 ∷ 0x80 ∷ 0x02 ∷ 0x00 ∷ 0x00 ∷ 0x01 ∷ 0x7F ∷ 0xFF ∷ 0x03 ∷ 0x00 ∷ 0x00 ∷ 0x07 ∷ 0x04 ∷ 0x01 ∷ 0x00 ∷ 0x02 ∷ 0x80 ∷ 0x00 ∷ 0x00 ∷ 0x00 ∷ 0x05 ∷ 0x01 ∷ 0x09 ∷ 0x00 ∷ 0x01 ∷ 0x01 ∷ 0x02 ∷ 0x05 ∷ 0x00 ∷ 0x00 ∷ 0x02 ∷ 0x02 ∷ 0x00 ∷ 0x03 ∷ 0x7F ∷ 0xFF ∷ 0xFF ∷ 0xFF ∷ 0xFF ∷ 0xFF ∷ 0xFF ∷ 0xFF ∷ 0x06 ∷ 0x02 ∷ 0x08 ∷ 0x07 ∷ 0x00 ∷ 0x01 ∷ 0x01 ∷ 0x00 ∷ 0x01 ∷ 0x00 ∷ 0x04 ∷ 0xFF ∷ 0xFF ∷ 0xFF ∷ 0xFF ∷ 0xFF ∷ 0xFF ∷ 0xFF ∷ 0xFF ∷ 0xFF ∷ 0x07 ∷ 0x00 ∷ []))
+unfolding whole
+constants-listed = (refl, refl)
+
 -- a constant stands once for each object, over all blocks
 column-constants :
     (column (ascii "a") (ascii "b") 0 3 16384 constants ≡ done (negsuc 127 ∷ negsuc 127 ∷ negsuc 127 ∷ [])) ×
@@ -393,6 +400,13 @@ abbrev references : List ℕ
 references =
     0x06 ∷ 0x00 ∷ 0x00 ∷ 0x00 ∷ 0x01 ∷ 0x00 ∷ 0x00 ∷ 0x00 ∷ 0x02 ∷ 0x00 ∷ 0x00 ∷ 0x00 ∷ 0x03 ∷ 0x00 ∷ 0x00 ∷ 0x00 ∷ 0x04 ∷ 0x00 ∷ 0x00 ∷ 0x00 ∷ 0x05 ∷ 0x00 ∷ 0x00 ∷ 0x00 ∷ 0x06 ∷ 0x61 ∷ 0x62 ∷ 0x63 ∷ 0x64 ∷ 0x65 ∷ 0x66 ∷ 0x03 ∷ 0x01 ∷ 0x00 ∷ 0x02 ∷ 0x00 ∷ 0x03 ∷ 0x00 ∷ 0x20 ∷ 0x04 ∷ 0x02 ∷ 0x00 ∷ 0x21 ∷ 0x05 ∷ 0x04 ∷ 0x00 ∷ 0x22 ∷ 0x06 ∷ 0x06 ∷ 0x02 ∷ 0x00 ∷ 0x01 ∷ 0x00 ∷ 0x00 ∷ 0x03 ∷ 0x00 ∷ 0x03 ∷ 0x00 ∷ 0x00 ∷ 0x02 ∷ 0x01 ∷ 0x01 ∷ 0x00 ∷ 0x03 ∷ 0x02 ∷ []
 
+-- its listing, and the file built back from it
+references-listed :
+    (listing 159 16384 references ≡ done (ascii "pair\t6\t3\nstr\t61\nstr\t62\nstr\t63\nstr\t64\nstr\t65\nstr\t66\ntype\t1\t0\t-\t2\t3\nnew\t32\t4\nnew\t33\t5\nnew\t34\t6\ntype\t2\t0\t-\t1\t0\ntype\t3\t0\t-\t3\t0\nval\t2\nval\t1\nval\t1\nval\t0\nval\t3\nval\t2\n")) ×
+    (build 65 16384 (ascii "pair\t6\t3\nstr\t61\nstr\t62\nstr\t63\nstr\t64\nstr\t65\nstr\t66\ntype\t1\t0\t-\t2\t3\nnew\t32\t4\nnew\t33\t5\nnew\t34\t6\ntype\t2\t0\t-\t1\t0\ntype\t3\t0\t-\t3\t0\nval\t2\nval\t1\nval\t1\nval\t0\nval\t3\nval\t2\n") ≡ done (0x06 ∷ 0x00 ∷ 0x00 ∷ 0x00 ∷ 0x01 ∷ 0x00 ∷ 0x00 ∷ 0x00 ∷ 0x02 ∷ 0x00 ∷ 0x00 ∷ 0x00 ∷ 0x03 ∷ 0x00 ∷ 0x00 ∷ 0x00 ∷ 0x04 ∷ 0x00 ∷ 0x00 ∷ 0x00 ∷ 0x05 ∷ 0x00 ∷ 0x00 ∷ 0x00 ∷ 0x06 ∷ 0x61 ∷ 0x62 ∷ 0x63 ∷ 0x64 ∷ 0x65 ∷ 0x66 ∷ 0x03 ∷ 0x01 ∷ 0x00 ∷ 0x02 ∷ 0x00 ∷ 0x03 ∷ 0x00 ∷ 0x20 ∷ 0x04 ∷ 0x02 ∷ 0x00 ∷ 0x21 ∷ 0x05 ∷ 0x04 ∷ 0x00 ∷ 0x22 ∷ 0x06 ∷ 0x06 ∷ 0x02 ∷ 0x00 ∷ 0x01 ∷ 0x00 ∷ 0x00 ∷ 0x03 ∷ 0x00 ∷ 0x03 ∷ 0x00 ∷ 0x00 ∷ 0x02 ∷ 0x01 ∷ 0x01 ∷ 0x00 ∷ 0x03 ∷ 0x02 ∷ []))
+unfolding whole
+references-listed = (refl, refl)
+
 -- 32 asks for a reference to any type
 column-references :
     (column (ascii "a") (ascii "d") 32 2 16384 references ≡ done (pos 2 ∷ pos 1 ∷ [])) ×
@@ -423,6 +437,13 @@ objects-of-types = (refl, refl, refl, refl)
 abbrev tree : List ℕ
 tree =
     0x07 ∷ 0x00 ∷ 0x00 ∷ 0x00 ∷ 0x02 ∷ 0x00 ∷ 0x00 ∷ 0x00 ∷ 0x04 ∷ 0x00 ∷ 0x00 ∷ 0x00 ∷ 0x06 ∷ 0x00 ∷ 0x00 ∷ 0x00 ∷ 0x08 ∷ 0x00 ∷ 0x00 ∷ 0x00 ∷ 0x09 ∷ 0x00 ∷ 0x00 ∷ 0x00 ∷ 0x0A ∷ 0x00 ∷ 0x00 ∷ 0x00 ∷ 0x0B ∷ 0x61 ∷ 0x62 ∷ 0x63 ∷ 0x64 ∷ 0x65 ∷ 0x66 ∷ 0x78 ∷ 0x79 ∷ 0x7A ∷ 0x76 ∷ 0x77 ∷ 0x02 ∷ 0x01 ∷ 0x00 ∷ 0x03 ∷ 0x00 ∷ 0x01 ∷ 0x00 ∷ 0x07 ∷ 0x04 ∷ 0x03 ∷ 0x02 ∷ 0x01 ∷ 0x01 ∷ 0x02 ∷ 0x00 ∷ 0x02 ∷ 0x00 ∷ 0x07 ∷ 0x04 ∷ 0x05 ∷ 0x00 ∷ 0x08 ∷ 0x05 ∷ 0x09 ∷ 0x01 ∷ 0x02 ∷ 0x03 ∷ 0x04 ∷ 0x05 ∷ 0x02 ∷ 0x58 ∷ 0x02 ∷ 0xBC ∷ 0x02 ∷ 0x00 ∷ 0x00 ∷ 0x00 ∷ 0x02 ∷ 0x00 ∷ 0x00 ∷ 0x00 ∷ 0x03 ∷ 0x61 ∷ 0x62 ∷ 0x75 ∷ 0x04 ∷ 0x08 ∷ 0x04 ∷ 0x02 ∷ 0x04 ∷ 0x00 ∷ 0x07 ∷ 0x06 ∷ 0x0B ∷ 0x03 ∷ 0x01 ∷ 0x00 ∷ 0x01 ∷ 0x00 ∷ 0x01 ∷ 0x00 ∷ 0x07 ∷ 0x07 ∷ 0x0C ∷ 0x02 ∷ 0x02 ∷ 0x02 ∷ 0x03 ∷ 0x0E ∷ 0x12 ∷ 0x00 ∷ 0x00 ∷ 0xFD ∷ 0x09 ∷ 0x12 ∷ 0x09 ∷ 0x02 ∷ 0x03 ∷ 0x01 ∷ 0x00 ∷ 0x01 ∷ 0x00 ∷ 0x07 ∷ 0x07 ∷ 0x13 ∷ 0x08 ∷ 0x09 ∷ 0x0A ∷ 0x0B ∷ 0x15 ∷ 0x16 ∷ 0x17 ∷ 0x18 ∷ 0x19 ∷ 0x1A ∷ 0x1B ∷ 0x1F ∷ 0x0C ∷ 0x0D ∷ 0x03 ∷ 0x20 ∷ 0x03 ∷ 0x84 ∷ 0x29 ∷ 0x00 ∷ 0x03 ∷ 0x01 ∷ 0x01 ∷ 0x02 ∷ 0x01 ∷ 0x02 ∷ 0x02 ∷ 0x00 ∷ 0x00 ∷ 0x01 ∷ 0x00 ∷ 0x0B ∷ 0x01 ∷ 0x26 ∷ 0x03 ∷ 0x00 ∷ 0x01 ∷ 0x01 ∷ 0x27 ∷ 0x0E ∷ 0x1C ∷ 0xFF ∷ 0xFF ∷ 0xFF ∷ 0xFF ∷ 0xFF ∷ 0xFF ∷ 0xFF ∷ 0xFF ∷ 0xFF ∷ 0xFE ∷ 0xFF ∷ 0xFF ∷ 0xFF ∷ 0xFF ∷ 0xFF ∷ 0xFF ∷ 0xFF ∷ 0xFF ∷ 0xFD ∷ 0xFF ∷ 0xFF ∷ 0xFF ∷ 0xFF ∷ 0xFF ∷ 0xFF ∷ 0xFF ∷ 0xFF ∷ 0xFC ∷ 0xFF ∷ 0xFF ∷ 0xFF ∷ 0xFF ∷ 0xFF ∷ 0xFF ∷ 0xFF ∷ 0xFF ∷ 0x20 ∷ []
+
+-- its listing, and the file built back from it
+tree-listed :
+    (listing 541 16384 tree ≡ done (ascii "pair\t7\t2\nstr\t6162\nstr\t6364\nstr\t6566\nstr\t7879\nstr\t7a\nstr\t76\nstr\t77\ntype\t1\t0\t-\t3\t1\nnew\t7\t4\ntype\t2\t1\t1\t2\t2\nnew\t7\t4\nnew\t8\t5\nval\t1\nval\t2\nval\t3\nval\t4\nval\t5\nval\t600\nval\t700\npair\t2\t4\nstr\t6162\nstr\t75\ntype\t8\t-\t-\t4\t2\nold\nnew\t7\t6\ntype\t3\t1\t0\t1\t1\nnew\t7\t7\ntype\t2\t-\t2\t2\t3\nold\nold\nnew\t0,-3\t9\ntype\t9\t2\t3\t1\t1\nnew\t7\t7\nval\t8\nval\t9\nval\t10\nval\t11\nval\t21\nval\t22\nval\t23\nval\t24\nval\t25\nval\t26\nval\t27\nval\t31\nval\t12\nval\t13\nval\t800\nval\t900\nval\t41\npair\t0\t3\ntype\t1\t-\t-\t1\t2\nold\nold\ntype\t2\t-\t0\t0\t1\nnew\t11\t1\ntype\t3\t-\t0\t1\t1\nold\nval\t14\nval\t28\nval\t-1\nval\t-2\nval\t-3\nval\t-4\nval\t32\n")) ×
+    (build 203 16384 (ascii "pair\t7\t2\nstr\t6162\nstr\t6364\nstr\t6566\nstr\t7879\nstr\t7a\nstr\t76\nstr\t77\ntype\t1\t0\t-\t3\t1\nnew\t7\t4\ntype\t2\t1\t1\t2\t2\nnew\t7\t4\nnew\t8\t5\nval\t1\nval\t2\nval\t3\nval\t4\nval\t5\nval\t600\nval\t700\npair\t2\t4\nstr\t6162\nstr\t75\ntype\t8\t-\t-\t4\t2\nold\nnew\t7\t6\ntype\t3\t1\t0\t1\t1\nnew\t7\t7\ntype\t2\t-\t2\t2\t3\nold\nold\nnew\t0,-3\t9\ntype\t9\t2\t3\t1\t1\nnew\t7\t7\nval\t8\nval\t9\nval\t10\nval\t11\nval\t21\nval\t22\nval\t23\nval\t24\nval\t25\nval\t26\nval\t27\nval\t31\nval\t12\nval\t13\nval\t800\nval\t900\nval\t41\npair\t0\t3\ntype\t1\t-\t-\t1\t2\nold\nold\ntype\t2\t-\t0\t0\t1\nnew\t11\t1\ntype\t3\t-\t0\t1\t1\nold\nval\t14\nval\t28\nval\t-1\nval\t-2\nval\t-3\nval\t-4\nval\t32\n") ≡ done (0x07 ∷ 0x00 ∷ 0x00 ∷ 0x00 ∷ 0x02 ∷ 0x00 ∷ 0x00 ∷ 0x00 ∷ 0x04 ∷ 0x00 ∷ 0x00 ∷ 0x00 ∷ 0x06 ∷ 0x00 ∷ 0x00 ∷ 0x00 ∷ 0x08 ∷ 0x00 ∷ 0x00 ∷ 0x00 ∷ 0x09 ∷ 0x00 ∷ 0x00 ∷ 0x00 ∷ 0x0A ∷ 0x00 ∷ 0x00 ∷ 0x00 ∷ 0x0B ∷ 0x61 ∷ 0x62 ∷ 0x63 ∷ 0x64 ∷ 0x65 ∷ 0x66 ∷ 0x78 ∷ 0x79 ∷ 0x7A ∷ 0x76 ∷ 0x77 ∷ 0x02 ∷ 0x01 ∷ 0x00 ∷ 0x03 ∷ 0x00 ∷ 0x01 ∷ 0x00 ∷ 0x07 ∷ 0x04 ∷ 0x03 ∷ 0x02 ∷ 0x01 ∷ 0x01 ∷ 0x02 ∷ 0x00 ∷ 0x02 ∷ 0x00 ∷ 0x07 ∷ 0x04 ∷ 0x05 ∷ 0x00 ∷ 0x08 ∷ 0x05 ∷ 0x09 ∷ 0x01 ∷ 0x02 ∷ 0x03 ∷ 0x04 ∷ 0x05 ∷ 0x02 ∷ 0x58 ∷ 0x02 ∷ 0xBC ∷ 0x02 ∷ 0x00 ∷ 0x00 ∷ 0x00 ∷ 0x02 ∷ 0x00 ∷ 0x00 ∷ 0x00 ∷ 0x03 ∷ 0x61 ∷ 0x62 ∷ 0x75 ∷ 0x04 ∷ 0x08 ∷ 0x04 ∷ 0x02 ∷ 0x04 ∷ 0x00 ∷ 0x07 ∷ 0x06 ∷ 0x0B ∷ 0x03 ∷ 0x01 ∷ 0x00 ∷ 0x01 ∷ 0x00 ∷ 0x01 ∷ 0x00 ∷ 0x07 ∷ 0x07 ∷ 0x0C ∷ 0x02 ∷ 0x02 ∷ 0x02 ∷ 0x03 ∷ 0x0E ∷ 0x12 ∷ 0x00 ∷ 0x00 ∷ 0xFD ∷ 0x09 ∷ 0x12 ∷ 0x09 ∷ 0x02 ∷ 0x03 ∷ 0x01 ∷ 0x00 ∷ 0x01 ∷ 0x00 ∷ 0x07 ∷ 0x07 ∷ 0x13 ∷ 0x08 ∷ 0x09 ∷ 0x0A ∷ 0x0B ∷ 0x15 ∷ 0x16 ∷ 0x17 ∷ 0x18 ∷ 0x19 ∷ 0x1A ∷ 0x1B ∷ 0x1F ∷ 0x0C ∷ 0x0D ∷ 0x03 ∷ 0x20 ∷ 0x03 ∷ 0x84 ∷ 0x29 ∷ 0x00 ∷ 0x03 ∷ 0x01 ∷ 0x01 ∷ 0x02 ∷ 0x01 ∷ 0x02 ∷ 0x02 ∷ 0x00 ∷ 0x00 ∷ 0x01 ∷ 0x00 ∷ 0x0B ∷ 0x01 ∷ 0x26 ∷ 0x03 ∷ 0x00 ∷ 0x01 ∷ 0x01 ∷ 0x27 ∷ 0x0E ∷ 0x1C ∷ 0xFF ∷ 0xFF ∷ 0xFF ∷ 0xFF ∷ 0xFF ∷ 0xFF ∷ 0xFF ∷ 0xFF ∷ 0xFF ∷ 0xFE ∷ 0xFF ∷ 0xFF ∷ 0xFF ∷ 0xFF ∷ 0xFF ∷ 0xFF ∷ 0xFF ∷ 0xFF ∷ 0xFD ∷ 0xFF ∷ 0xFF ∷ 0xFF ∷ 0xFF ∷ 0xFF ∷ 0xFF ∷ 0xFF ∷ 0xFF ∷ 0xFC ∷ 0xFF ∷ 0xFF ∷ 0xFF ∷ 0xFF ∷ 0xFF ∷ 0xFF ∷ 0xFF ∷ 0xFF ∷ 0x20 ∷ []))
+unfolding whole
+tree-listed = (refl, refl)
 
 -- a type's objects are those below it as well, in all blocks
 tree-objects :
@@ -517,7 +538,7 @@ abbrev hexes : List ℕ
 hexes =
     0x04 ∷ 0x00 ∷ 0x00 ∷ 0x00 ∷ 0x08 ∷ 0x00 ∷ 0x00 ∷ 0x00 ∷ 0x08 ∷ 0x00 ∷ 0x00 ∷ 0x00 ∷ 0x10 ∷ 0x00 ∷ 0x00 ∷ 0x00 ∷ 0x10 ∷ 0x01 ∷ 0x23 ∷ 0x45 ∷ 0x67 ∷ 0x89 ∷ 0xAB ∷ 0xCD ∷ 0xEF ∷ 0xFE ∷ 0xDC ∷ 0xBA ∷ 0x98 ∷ 0x76 ∷ 0x54 ∷ 0x32 ∷ 0x10 ∷ 0x00 ∷ 0x01 ∷ 0x00 ∷ 0x00 ∷ 0x00 ∷ 0x04 ∷ 0x09 ∷ 0xAF ∷ 0x90 ∷ 0xFA ∷ 0x00 ∷ []
 
--- every hex digit on both sides, an empty string, strings again
+-- its listing, and the file built back from it
 hexes-listed :
     (listing 83 16384 hexes ≡ done (ascii "pair\t4\t0\nstr\t0123456789abcdef\nstr\t\nstr\tfedcba9876543210\nstr\t\npair\t1\t0\nstr\t09af90fa\n")) ×
     (build 44 16384 (ascii "pair\t4\t0\nstr\t0123456789abcdef\nstr\t\nstr\tfedcba9876543210\nstr\t\npair\t1\t0\nstr\t09af90fa\n") ≡ done (0x04 ∷ 0x00 ∷ 0x00 ∷ 0x00 ∷ 0x08 ∷ 0x00 ∷ 0x00 ∷ 0x00 ∷ 0x08 ∷ 0x00 ∷ 0x00 ∷ 0x00 ∷ 0x10 ∷ 0x00 ∷ 0x00 ∷ 0x00 ∷ 0x10 ∷ 0x01 ∷ 0x23 ∷ 0x45 ∷ 0x67 ∷ 0x89 ∷ 0xAB ∷ 0xCD ∷ 0xEF ∷ 0xFE ∷ 0xDC ∷ 0xBA ∷ 0x98 ∷ 0x76 ∷ 0x54 ∷ 0x32 ∷ 0x10 ∷ 0x00 ∷ 0x01 ∷ 0x00 ∷ 0x00 ∷ 0x00 ∷ 0x04 ∷ 0x09 ∷ 0xAF ∷ 0x90 ∷ 0xFA ∷ 0x00 ∷ []))
@@ -529,7 +550,7 @@ abbrev floats : List ℕ
 floats =
     0x02 ∷ 0x00 ∷ 0x00 ∷ 0x00 ∷ 0x01 ∷ 0x00 ∷ 0x00 ∷ 0x00 ∷ 0x02 ∷ 0x61 ∷ 0x62 ∷ 0x01 ∷ 0x01 ∷ 0x00 ∷ 0x02 ∷ 0x00 ∷ 0x02 ∷ 0x00 ∷ 0x0C ∷ 0x01 ∷ 0x08 ∷ 0x00 ∷ 0x0D ∷ 0x02 ∷ 0x18 ∷ 0x00 ∷ 0x00 ∷ 0x00 ∷ 0x00 ∷ 0x01 ∷ 0x23 ∷ 0xAB ∷ 0xCD ∷ 0x00 ∷ 0x00 ∷ 0x00 ∷ 0x00 ∷ 0x00 ∷ 0x00 ∷ 0x00 ∷ 0x0F ∷ 0xF9 ∷ 0xA0 ∷ 0x12 ∷ 0x34 ∷ 0x56 ∷ 0x78 ∷ 0x9B ∷ 0xCE ∷ []
 
--- 8 and 16 digits with leading noughts
+-- its listing, and the file built back from it
 floats-listed :
     (listing 124 16384 floats ≡ done (ascii "pair\t2\t1\nstr\t61\nstr\t62\ntype\t1\t0\t-\t2\t2\nnew\t12\t1\nnew\t13\t2\nval\t00000000\nval\t0123abcd\nval\t000000000000000f\nval\tf9a0123456789bce\n")) ×
     (build 49 16384 (ascii "pair\t2\t1\nstr\t61\nstr\t62\ntype\t1\t0\t-\t2\t2\nnew\t12\t1\nnew\t13\t2\nval\t00000000\nval\t0123abcd\nval\t000000000000000f\nval\tf9a0123456789bce\n") ≡ done (0x02 ∷ 0x00 ∷ 0x00 ∷ 0x00 ∷ 0x01 ∷ 0x00 ∷ 0x00 ∷ 0x00 ∷ 0x02 ∷ 0x61 ∷ 0x62 ∷ 0x01 ∷ 0x01 ∷ 0x00 ∷ 0x02 ∷ 0x00 ∷ 0x02 ∷ 0x00 ∷ 0x0C ∷ 0x01 ∷ 0x08 ∷ 0x00 ∷ 0x0D ∷ 0x02 ∷ 0x18 ∷ 0x00 ∷ 0x00 ∷ 0x00 ∷ 0x00 ∷ 0x01 ∷ 0x23 ∷ 0xAB ∷ 0xCD ∷ 0x00 ∷ 0x00 ∷ 0x00 ∷ 0x00 ∷ 0x00 ∷ 0x00 ∷ 0x00 ∷ 0x0F ∷ 0xF9 ∷ 0xA0 ∷ 0x12 ∷ 0x34 ∷ 0x56 ∷ 0x78 ∷ 0x9B ∷ 0xCE ∷ []))
@@ -541,7 +562,7 @@ abbrev decimals : List ℕ
 decimals =
     0x01 ∷ 0x00 ∷ 0x00 ∷ 0x00 ∷ 0x01 ∷ 0x61 ∷ 0x01 ∷ 0x01 ∷ 0x00 ∷ 0x0A ∷ 0x00 ∷ 0x01 ∷ 0x00 ∷ 0x0B ∷ 0x01 ∷ 0x32 ∷ 0x00 ∷ 0x09 ∷ 0x0A ∷ 0x63 ∷ 0x64 ∷ 0xFF ∷ 0xFF ∷ 0xFF ∷ 0xFF ∷ 0xFF ∷ 0xFF ∷ 0xFF ∷ 0xFF ∷ 0xFF ∷ 0xF7 ∷ 0xFF ∷ 0xFF ∷ 0xFF ∷ 0xFF ∷ 0xFF ∷ 0xFF ∷ 0xFF ∷ 0xFF ∷ 0xF6 ∷ 0xFF ∷ 0xFF ∷ 0xFF ∷ 0xFF ∷ 0xFF ∷ 0xFF ∷ 0xFF ∷ 0xFF ∷ 0x95 ∷ 0x82 ∷ 0xA6 ∷ 0xEF ∷ 0xC7 ∷ 0x9E ∷ 0x84 ∷ 0x91 ∷ 0x11 ∷ 0x80 ∷ 0x80 ∷ 0x80 ∷ 0x80 ∷ 0x80 ∷ 0x80 ∷ 0x80 ∷ 0x80 ∷ 0x80 ∷ []
 
--- decimals of one digit up to nineteen
+-- its listing, and the file built back from it
 decimals-listed :
     (listing 146 16384 decimals ≡ done (ascii "pair\t1\t1\nstr\t61\ntype\t1\t0\t-\t10\t1\nnew\t11\t1\nval\t0\nval\t9\nval\t10\nval\t99\nval\t100\nval\t-1\nval\t-9\nval\t-10\nval\t1234567890123456789\nval\t-9223372036854775808\n")) ×
     (build 66 16384 (ascii "pair\t1\t1\nstr\t61\ntype\t1\t0\t-\t10\t1\nnew\t11\t1\nval\t0\nval\t9\nval\t10\nval\t99\nval\t100\nval\t-1\nval\t-9\nval\t-10\nval\t1234567890123456789\nval\t-9223372036854775808\n") ≡ done (0x01 ∷ 0x00 ∷ 0x00 ∷ 0x00 ∷ 0x01 ∷ 0x61 ∷ 0x01 ∷ 0x01 ∷ 0x00 ∷ 0x0A ∷ 0x00 ∷ 0x01 ∷ 0x00 ∷ 0x0B ∷ 0x01 ∷ 0x32 ∷ 0x00 ∷ 0x09 ∷ 0x0A ∷ 0x63 ∷ 0x64 ∷ 0xFF ∷ 0xFF ∷ 0xFF ∷ 0xFF ∷ 0xFF ∷ 0xFF ∷ 0xFF ∷ 0xFF ∷ 0xFF ∷ 0xF7 ∷ 0xFF ∷ 0xFF ∷ 0xFF ∷ 0xFF ∷ 0xFF ∷ 0xFF ∷ 0xFF ∷ 0xFF ∷ 0xF6 ∷ 0xFF ∷ 0xFF ∷ 0xFF ∷ 0xFF ∷ 0xFF ∷ 0xFF ∷ 0xFF ∷ 0xFF ∷ 0x95 ∷ 0x82 ∷ 0xA6 ∷ 0xEF ∷ 0xC7 ∷ 0x9E ∷ 0x84 ∷ 0x91 ∷ 0x11 ∷ 0x80 ∷ 0x80 ∷ 0x80 ∷ 0x80 ∷ 0x80 ∷ 0x80 ∷ 0x80 ∷ 0x80 ∷ 0x80 ∷ []))
@@ -553,7 +574,7 @@ abbrev entries : List ℕ
 entries =
     0x04 ∷ 0x00 ∷ 0x00 ∷ 0x00 ∷ 0x01 ∷ 0x00 ∷ 0x00 ∷ 0x00 ∷ 0x02 ∷ 0x00 ∷ 0x00 ∷ 0x00 ∷ 0x03 ∷ 0x00 ∷ 0x00 ∷ 0x00 ∷ 0x04 ∷ 0x61 ∷ 0x62 ∷ 0x63 ∷ 0x64 ∷ 0x04 ∷ 0x01 ∷ 0x00 ∷ 0x03 ∷ 0x00 ∷ 0x01 ∷ 0x00 ∷ 0x07 ∷ 0x04 ∷ 0x03 ∷ 0x02 ∷ 0x01 ∷ 0x01 ∷ 0x02 ∷ 0x00 ∷ 0x01 ∷ 0x00 ∷ 0x07 ∷ 0x04 ∷ 0x05 ∷ 0x03 ∷ 0x02 ∷ 0x00 ∷ 0x00 ∷ 0x00 ∷ 0x01 ∷ 0x00 ∷ 0x07 ∷ 0x03 ∷ 0x05 ∷ 0x04 ∷ 0x00 ∷ 0x00 ∷ 0x00 ∷ 0x00 ∷ 0x01 ∷ 0x02 ∷ 0x03 ∷ 0x04 ∷ 0x05 ∷ 0x01 ∷ 0x00 ∷ 0x00 ∷ 0x00 ∷ 0x01 ∷ 0x65 ∷ 0x04 ∷ 0x04 ∷ 0x0C ∷ 0x02 ∷ 0x00 ∷ 0x06 ∷ 0x04 ∷ 0x0C ∷ 0x00 ∷ 0x06 ∷ 0x01 ∷ 0x18 ∷ 0x01 ∷ 0x01 ∷ 0x01 ∷ 0x19 ∷ 0x03 ∷ 0x00 ∷ 0x00 ∷ 0x01 ∷ 0x00 ∷ 0x08 ∷ 0x04 ∷ 0x19 ∷ 0x02 ∷ 0x00 ∷ 0x01 ∷ 0x02 ∷ 0x1A ∷ 0x00 ∷ 0x0A ∷ 0x05 ∷ 0x32 ∷ 0xFF ∷ 0x00 ∷ 0xFF ∷ 0x00 ∷ 0xFF ∷ 0x00 ∷ 0xFF ∷ 0x00 ∷ 0xFF ∷ 0x00 ∷ 0xFF ∷ 0x00 ∷ 0x00 ∷ 0x00 ∷ 0x00 ∷ 0x00 ∷ 0x00 ∷ 0x00 ∷ 0x00 ∷ 0x00 ∷ 0x00 ∷ 0x00 ∷ 0x00 ∷ 0xFF ∷ 0x06 ∷ 0x07 ∷ 0x00 ∷ 0x00 ∷ 0x00 ∷ 0x00 ∷ 0x00 ∷ 0x00 ∷ 0x00 ∷ 0x0B ∷ 0x00 ∷ 0x00 ∷ 0x00 ∷ 0x00 ∷ 0x00 ∷ 0x00 ∷ 0x00 ∷ 0x0C ∷ 0x00 ∷ 0x00 ∷ 0x00 ∷ 0x00 ∷ 0x00 ∷ 0x00 ∷ 0x00 ∷ 0x0D ∷ []
 
--- an entry of each form: with no super type, with one, known, with and without start and objects
+-- its listing, and the file built back from it
 entries-listed :
     (listing 446 16384 entries ≡ done (ascii "pair\t4\t4\nstr\t61\nstr\t62\nstr\t63\nstr\t64\ntype\t1\t0\t-\t3\t1\nnew\t7\t4\ntype\t2\t1\t1\t2\t1\nnew\t7\t4\ntype\t3\t2\t0\t0\t1\nnew\t7\t3\ntype\t4\t0\t-\t0\t0\nval\t1\nval\t2\nval\t3\nval\t4\nval\t5\npair\t1\t4\nstr\t65\ntype\t4\t-\t-\t12\t2\nnew\t6\t4\nnew\t6\t1\ntype\t1\t-\t-\t1\t1\nold\ntype\t3\t-\t0\t0\t1\nnew\t8\t4\ntype\t2\t-\t0\t1\t2\nold\nnew\t10\t5\nval\t1\nval\t0\nval\t1\nval\t0\nval\t1\nval\t0\nval\t1\nval\t0\nval\t1\nval\t0\nval\t1\nval\t0\nval\t0\nval\t0\nval\t0\nval\t0\nval\t0\nval\t0\nval\t0\nval\t0\nval\t0\nval\t0\nval\t0\nval\t1\nval\t6\nval\t7\nval\t11\nval\t12\nval\t13\n")) ×
     (build 150 16384 (ascii "pair\t4\t4\nstr\t61\nstr\t62\nstr\t63\nstr\t64\ntype\t1\t0\t-\t3\t1\nnew\t7\t4\ntype\t2\t1\t1\t2\t1\nnew\t7\t4\ntype\t3\t2\t0\t0\t1\nnew\t7\t3\ntype\t4\t0\t-\t0\t0\nval\t1\nval\t2\nval\t3\nval\t4\nval\t5\npair\t1\t4\nstr\t65\ntype\t4\t-\t-\t12\t2\nnew\t6\t4\nnew\t6\t1\ntype\t1\t-\t-\t1\t1\nold\ntype\t3\t-\t0\t0\t1\nnew\t8\t4\ntype\t2\t-\t0\t1\t2\nold\nnew\t10\t5\nval\t1\nval\t0\nval\t1\nval\t0\nval\t1\nval\t0\nval\t1\nval\t0\nval\t1\nval\t0\nval\t1\nval\t0\nval\t0\nval\t0\nval\t0\nval\t0\nval\t0\nval\t0\nval\t0\nval\t0\nval\t0\nval\t0\nval\t0\nval\t1\nval\t6\nval\t7\nval\t11\nval\t12\nval\t13\n") ≡ done (0x04 ∷ 0x00 ∷ 0x00 ∷ 0x00 ∷ 0x01 ∷ 0x00 ∷ 0x00 ∷ 0x00 ∷ 0x02 ∷ 0x00 ∷ 0x00 ∷ 0x00 ∷ 0x03 ∷ 0x00 ∷ 0x00 ∷ 0x00 ∷ 0x04 ∷ 0x61 ∷ 0x62 ∷ 0x63 ∷ 0x64 ∷ 0x04 ∷ 0x01 ∷ 0x00 ∷ 0x03 ∷ 0x00 ∷ 0x01 ∷ 0x00 ∷ 0x07 ∷ 0x04 ∷ 0x03 ∷ 0x02 ∷ 0x01 ∷ 0x01 ∷ 0x02 ∷ 0x00 ∷ 0x01 ∷ 0x00 ∷ 0x07 ∷ 0x04 ∷ 0x05 ∷ 0x03 ∷ 0x02 ∷ 0x00 ∷ 0x00 ∷ 0x00 ∷ 0x01 ∷ 0x00 ∷ 0x07 ∷ 0x03 ∷ 0x05 ∷ 0x04 ∷ 0x00 ∷ 0x00 ∷ 0x00 ∷ 0x00 ∷ 0x01 ∷ 0x02 ∷ 0x03 ∷ 0x04 ∷ 0x05 ∷ 0x01 ∷ 0x00 ∷ 0x00 ∷ 0x00 ∷ 0x01 ∷ 0x65 ∷ 0x04 ∷ 0x04 ∷ 0x0C ∷ 0x02 ∷ 0x00 ∷ 0x06 ∷ 0x04 ∷ 0x0C ∷ 0x00 ∷ 0x06 ∷ 0x01 ∷ 0x18 ∷ 0x01 ∷ 0x01 ∷ 0x01 ∷ 0x19 ∷ 0x03 ∷ 0x00 ∷ 0x00 ∷ 0x01 ∷ 0x00 ∷ 0x08 ∷ 0x04 ∷ 0x19 ∷ 0x02 ∷ 0x00 ∷ 0x01 ∷ 0x02 ∷ 0x1A ∷ 0x00 ∷ 0x0A ∷ 0x05 ∷ 0x32 ∷ 0xFF ∷ 0x00 ∷ 0xFF ∷ 0x00 ∷ 0xFF ∷ 0x00 ∷ 0xFF ∷ 0x00 ∷ 0xFF ∷ 0x00 ∷ 0xFF ∷ 0x00 ∷ 0x00 ∷ 0x00 ∷ 0x00 ∷ 0x00 ∷ 0x00 ∷ 0x00 ∷ 0x00 ∷ 0x00 ∷ 0x00 ∷ 0x00 ∷ 0x00 ∷ 0xFF ∷ 0x06 ∷ 0x07 ∷ 0x00 ∷ 0x00 ∷ 0x00 ∷ 0x00 ∷ 0x00 ∷ 0x00 ∷ 0x00 ∷ 0x0B ∷ 0x00 ∷ 0x00 ∷ 0x00 ∷ 0x00 ∷ 0x00 ∷ 0x00 ∷ 0x00 ∷ 0x0C ∷ 0x00 ∷ 0x00 ∷ 0x00 ∷ 0x00 ∷ 0x00 ∷ 0x00 ∷ 0x00 ∷ 0x0D ∷ []))
@@ -565,7 +586,7 @@ abbrev count0 : List ℕ
 count0 =
     0x02 ∷ 0x00 ∷ 0x00 ∷ 0x00 ∷ 0x01 ∷ 0x00 ∷ 0x00 ∷ 0x00 ∷ 0x02 ∷ 0x61 ∷ 0x62 ∷ 0x01 ∷ 0x01 ∷ 0x00 ∷ 0x01 ∷ 0x00 ∷ 0x02 ∷ 0x00 ∷ 0x07 ∷ 0x01 ∷ 0x01 ∷ 0x00 ∷ 0x04 ∷ 0xAC ∷ 0x02 ∷ 0x02 ∷ 0x01 ∷ 0x05 ∷ 0x01 ∷ 0x00 ∷ 0x00 ∷ 0x00 ∷ 0x01 ∷ 0x63 ∷ 0x01 ∷ 0x01 ∷ 0x00 ∷ 0x01 ∷ 0x00 ∷ 0x08 ∷ 0x03 ∷ 0x02 ∷ 0xFE ∷ 0xD4 ∷ 0x00 ∷ 0x01 ∷ 0x01 ∷ 0x00 ∷ 0x00 ∷ 0x00 ∷ 0x01 ∷ 0x01 ∷ 0x02 ∷ 0x03 ∷ 0x02 ∷ 0x02 ∷ 0x06 ∷ 0x06 ∷ 0x07 ∷ 0x00 ∷ 0x08 ∷ 0x00 ∷ 0x09 ∷ []
 
--- count 0 of a known type has no old lines
+-- its listing, and the file built back from it
 count0-listed :
     (listing 196 16384 count0 ≡ done (ascii "pair\t2\t1\nstr\t61\nstr\t62\ntype\t1\t0\t-\t1\t2\nnew\t7\t1\nnew\t4,300\t2\nval\t5\npair\t1\t1\nstr\t63\ntype\t1\t-\t-\t0\t1\nnew\t8\t3\nval\t-300\npair\t0\t1\ntype\t1\t-\t-\t0\t0\npair\t0\t1\ntype\t1\t-\t-\t2\t3\nold\nold\nold\nval\t6\nval\t7\nval\t8\nval\t9\n")) ×
     (build 63 16384 (ascii "pair\t2\t1\nstr\t61\nstr\t62\ntype\t1\t0\t-\t1\t2\nnew\t7\t1\nnew\t4,300\t2\nval\t5\npair\t1\t1\nstr\t63\ntype\t1\t-\t-\t0\t1\nnew\t8\t3\nval\t-300\npair\t0\t1\ntype\t1\t-\t-\t0\t0\npair\t0\t1\ntype\t1\t-\t-\t2\t3\nold\nold\nold\nval\t6\nval\t7\nval\t8\nval\t9\n") ≡ done (0x02 ∷ 0x00 ∷ 0x00 ∷ 0x00 ∷ 0x01 ∷ 0x00 ∷ 0x00 ∷ 0x00 ∷ 0x02 ∷ 0x61 ∷ 0x62 ∷ 0x01 ∷ 0x01 ∷ 0x00 ∷ 0x01 ∷ 0x00 ∷ 0x02 ∷ 0x00 ∷ 0x07 ∷ 0x01 ∷ 0x01 ∷ 0x00 ∷ 0x04 ∷ 0xAC ∷ 0x02 ∷ 0x02 ∷ 0x01 ∷ 0x05 ∷ 0x01 ∷ 0x00 ∷ 0x00 ∷ 0x00 ∷ 0x01 ∷ 0x63 ∷ 0x01 ∷ 0x01 ∷ 0x00 ∷ 0x01 ∷ 0x00 ∷ 0x08 ∷ 0x03 ∷ 0x02 ∷ 0xFE ∷ 0xD4 ∷ 0x00 ∷ 0x01 ∷ 0x01 ∷ 0x00 ∷ 0x00 ∷ 0x00 ∷ 0x01 ∷ 0x01 ∷ 0x02 ∷ 0x03 ∷ 0x02 ∷ 0x02 ∷ 0x06 ∷ 0x06 ∷ 0x07 ∷ 0x00 ∷ 0x08 ∷ 0x00 ∷ 0x09 ∷ []))
@@ -577,7 +598,7 @@ abbrev kinds : List ℕ
 kinds =
     0x0C ∷ 0x00 ∷ 0x00 ∷ 0x00 ∷ 0x01 ∷ 0x00 ∷ 0x00 ∷ 0x00 ∷ 0x02 ∷ 0x00 ∷ 0x00 ∷ 0x00 ∷ 0x03 ∷ 0x00 ∷ 0x00 ∷ 0x00 ∷ 0x04 ∷ 0x00 ∷ 0x00 ∷ 0x00 ∷ 0x05 ∷ 0x00 ∷ 0x00 ∷ 0x00 ∷ 0x06 ∷ 0x00 ∷ 0x00 ∷ 0x00 ∷ 0x07 ∷ 0x00 ∷ 0x00 ∷ 0x00 ∷ 0x08 ∷ 0x00 ∷ 0x00 ∷ 0x00 ∷ 0x09 ∷ 0x00 ∷ 0x00 ∷ 0x00 ∷ 0x0A ∷ 0x00 ∷ 0x00 ∷ 0x00 ∷ 0x0B ∷ 0x00 ∷ 0x00 ∷ 0x00 ∷ 0x0C ∷ 0x61 ∷ 0x62 ∷ 0x63 ∷ 0x64 ∷ 0x65 ∷ 0x66 ∷ 0x67 ∷ 0x68 ∷ 0x69 ∷ 0x6A ∷ 0x6B ∷ 0x6C ∷ 0x01 ∷ 0x0C ∷ 0x00 ∷ 0x01 ∷ 0x00 ∷ 0x0C ∷ 0x00 ∷ 0x00 ∷ 0x00 ∷ 0x01 ∷ 0x00 ∷ 0x00 ∷ 0x01 ∷ 0xFE ∷ 0xD4 ∷ 0x02 ∷ 0x00 ∷ 0x00 ∷ 0x02 ∷ 0x00 ∷ 0x01 ∷ 0x00 ∷ 0x00 ∷ 0x03 ∷ 0x00 ∷ 0x00 ∷ 0x03 ∷ 0xFF ∷ 0xFF ∷ 0xFF ∷ 0xFF ∷ 0x00 ∷ 0x00 ∷ 0x00 ∷ 0x00 ∷ 0x04 ∷ 0x00 ∷ 0x00 ∷ 0x04 ∷ 0xFF ∷ 0xFF ∷ 0xFF ∷ 0xFF ∷ 0xFF ∷ 0xFF ∷ 0xFF ∷ 0xFF ∷ 0x7F ∷ 0x05 ∷ 0x00 ∷ 0x00 ∷ 0x0F ∷ 0x00 ∷ 0x0E ∷ 0x06 ∷ 0x00 ∷ 0x00 ∷ 0x0F ∷ 0x02 ∷ 0x20 ∷ 0x07 ∷ 0x02 ∷ 0x00 ∷ 0x11 ∷ 0x0D ∷ 0x08 ∷ 0x13 ∷ 0x00 ∷ 0x12 ∷ 0x06 ∷ 0x09 ∷ 0x17 ∷ 0x00 ∷ 0x13 ∷ 0x0B ∷ 0x0A ∷ 0x18 ∷ 0x00 ∷ 0x0E ∷ 0x0B ∷ 0x19 ∷ 0x00 ∷ 0x20 ∷ 0x0C ∷ 0x1A ∷ 0x01 ∷ 0x00 ∷ 0x02 ∷ 0xFF ∷ 0xF0 ∷ 0x00 ∷ 0x00 ∷ 0x00 ∷ 0x00 ∷ 0x00 ∷ 0x00 ∷ 0x00 ∷ 0x00 ∷ 0x00 ∷ 0x00 ∷ 0x00 ∷ 0x00 ∷ 0x00 ∷ 0x00 ∷ 0x03 ∷ 0xFF ∷ 0x00 ∷ 0xFF ∷ 0x00 ∷ 0x0C ∷ 0x01 ∷ []
 
--- kinds of one number and of several
+-- its listing, and the file built back from it
 kinds-listed :
     (listing 357 16384 kinds ≡ done (ascii "pair\t12\t1\nstr\t61\nstr\t62\nstr\t63\nstr\t64\nstr\t65\nstr\t66\nstr\t67\nstr\t68\nstr\t69\nstr\t6a\nstr\t6b\nstr\t6c\ntype\t12\t0\t-\t1\t12\nnew\t0,0\t1\nnew\t1,-300\t2\nnew\t2,65536\t3\nnew\t3,-4294967296\t4\nnew\t4,9223372036854775807\t5\nnew\t15,0,14\t6\nnew\t15,2,32\t7\nnew\t17,13\t8\nnew\t18,6\t9\nnew\t19,11\t10\nnew\t14\t11\nnew\t32\t12\nval\nval\t1\t0\nval\tfff0000000000000\t0000000000000000\nval\t1\t0\t1\nval\nval\t12\nval\t1\n")) ×
     (build 172 16384 (ascii "pair\t12\t1\nstr\t61\nstr\t62\nstr\t63\nstr\t64\nstr\t65\nstr\t66\nstr\t67\nstr\t68\nstr\t69\nstr\t6a\nstr\t6b\nstr\t6c\ntype\t12\t0\t-\t1\t12\nnew\t0,0\t1\nnew\t1,-300\t2\nnew\t2,65536\t3\nnew\t3,-4294967296\t4\nnew\t4,9223372036854775807\t5\nnew\t15,0,14\t6\nnew\t15,2,32\t7\nnew\t17,13\t8\nnew\t18,6\t9\nnew\t19,11\t10\nnew\t14\t11\nnew\t32\t12\nval\nval\t1\t0\nval\tfff0000000000000\t0000000000000000\nval\t1\t0\t1\nval\nval\t12\nval\t1\n") ≡ done (0x0C ∷ 0x00 ∷ 0x00 ∷ 0x00 ∷ 0x01 ∷ 0x00 ∷ 0x00 ∷ 0x00 ∷ 0x02 ∷ 0x00 ∷ 0x00 ∷ 0x00 ∷ 0x03 ∷ 0x00 ∷ 0x00 ∷ 0x00 ∷ 0x04 ∷ 0x00 ∷ 0x00 ∷ 0x00 ∷ 0x05 ∷ 0x00 ∷ 0x00 ∷ 0x00 ∷ 0x06 ∷ 0x00 ∷ 0x00 ∷ 0x00 ∷ 0x07 ∷ 0x00 ∷ 0x00 ∷ 0x00 ∷ 0x08 ∷ 0x00 ∷ 0x00 ∷ 0x00 ∷ 0x09 ∷ 0x00 ∷ 0x00 ∷ 0x00 ∷ 0x0A ∷ 0x00 ∷ 0x00 ∷ 0x00 ∷ 0x0B ∷ 0x00 ∷ 0x00 ∷ 0x00 ∷ 0x0C ∷ 0x61 ∷ 0x62 ∷ 0x63 ∷ 0x64 ∷ 0x65 ∷ 0x66 ∷ 0x67 ∷ 0x68 ∷ 0x69 ∷ 0x6A ∷ 0x6B ∷ 0x6C ∷ 0x01 ∷ 0x0C ∷ 0x00 ∷ 0x01 ∷ 0x00 ∷ 0x0C ∷ 0x00 ∷ 0x00 ∷ 0x00 ∷ 0x01 ∷ 0x00 ∷ 0x00 ∷ 0x01 ∷ 0xFE ∷ 0xD4 ∷ 0x02 ∷ 0x00 ∷ 0x00 ∷ 0x02 ∷ 0x00 ∷ 0x01 ∷ 0x00 ∷ 0x00 ∷ 0x03 ∷ 0x00 ∷ 0x00 ∷ 0x03 ∷ 0xFF ∷ 0xFF ∷ 0xFF ∷ 0xFF ∷ 0x00 ∷ 0x00 ∷ 0x00 ∷ 0x00 ∷ 0x04 ∷ 0x00 ∷ 0x00 ∷ 0x04 ∷ 0xFF ∷ 0xFF ∷ 0xFF ∷ 0xFF ∷ 0xFF ∷ 0xFF ∷ 0xFF ∷ 0xFF ∷ 0x7F ∷ 0x05 ∷ 0x00 ∷ 0x00 ∷ 0x0F ∷ 0x00 ∷ 0x0E ∷ 0x06 ∷ 0x00 ∷ 0x00 ∷ 0x0F ∷ 0x02 ∷ 0x20 ∷ 0x07 ∷ 0x02 ∷ 0x00 ∷ 0x11 ∷ 0x0D ∷ 0x08 ∷ 0x13 ∷ 0x00 ∷ 0x12 ∷ 0x06 ∷ 0x09 ∷ 0x17 ∷ 0x00 ∷ 0x13 ∷ 0x0B ∷ 0x0A ∷ 0x18 ∷ 0x00 ∷ 0x0E ∷ 0x0B ∷ 0x19 ∷ 0x00 ∷ 0x20 ∷ 0x0C ∷ 0x1A ∷ 0x01 ∷ 0x00 ∷ 0x02 ∷ 0xFF ∷ 0xF0 ∷ 0x00 ∷ 0x00 ∷ 0x00 ∷ 0x00 ∷ 0x00 ∷ 0x00 ∷ 0x00 ∷ 0x00 ∷ 0x00 ∷ 0x00 ∷ 0x00 ∷ 0x00 ∷ 0x00 ∷ 0x00 ∷ 0x03 ∷ 0xFF ∷ 0x00 ∷ 0xFF ∷ 0x00 ∷ 0x0C ∷ 0x01 ∷ []))
@@ -589,7 +610,7 @@ abbrev lists : List ℕ
 lists =
     0x03 ∷ 0x00 ∷ 0x00 ∷ 0x00 ∷ 0x01 ∷ 0x00 ∷ 0x00 ∷ 0x00 ∷ 0x02 ∷ 0x00 ∷ 0x00 ∷ 0x00 ∷ 0x03 ∷ 0x61 ∷ 0x62 ∷ 0x63 ∷ 0x01 ∷ 0x01 ∷ 0x00 ∷ 0x03 ∷ 0x00 ∷ 0x03 ∷ 0x00 ∷ 0x11 ∷ 0x08 ∷ 0x01 ∷ 0x0B ∷ 0x00 ∷ 0x12 ∷ 0x0C ∷ 0x02 ∷ 0x1A ∷ 0x00 ∷ 0x13 ∷ 0x0E ∷ 0x03 ∷ 0x20 ∷ 0x03 ∷ 0xFF ∷ 0xFF ∷ 0x01 ∷ 0x00 ∷ 0x00 ∷ 0x00 ∷ 0x00 ∷ 0x01 ∷ 0x00 ∷ 0x07 ∷ 0x00 ∷ 0x02 ∷ 0x00 ∷ 0x00 ∷ 0x00 ∷ 0x0A ∷ 0xA0 ∷ 0x00 ∷ 0x00 ∷ 0x00 ∷ 0x01 ∷ 0xFF ∷ 0xFF ∷ 0xFF ∷ 0xFF ∷ 0x02 ∷ 0x03 ∷ 0x03 ∷ 0x01 ∷ 0x00 ∷ 0x00 ∷ []
 
--- values of several elements, of one and of none
+-- its listing, and the file built back from it
 lists-listed :
     (listing 160 16384 lists ≡ done (ascii "pair\t3\t1\nstr\t61\nstr\t62\nstr\t63\ntype\t1\t0\t-\t3\t3\nnew\t17,8\t1\nnew\t18,12\t2\nnew\t19,14\t3\nval\t-1\t256\t0\nval\nval\t7\nval\nval\t0000000a\ta0000000\nval\tffffffff\nval\t3\t3\nval\t0\nval\n")) ×
     (build 69 16384 (ascii "pair\t3\t1\nstr\t61\nstr\t62\nstr\t63\ntype\t1\t0\t-\t3\t3\nnew\t17,8\t1\nnew\t18,12\t2\nnew\t19,14\t3\nval\t-1\t256\t0\nval\nval\t7\nval\nval\t0000000a\ta0000000\nval\tffffffff\nval\t3\t3\nval\t0\nval\n") ≡ done (0x03 ∷ 0x00 ∷ 0x00 ∷ 0x00 ∷ 0x01 ∷ 0x00 ∷ 0x00 ∷ 0x00 ∷ 0x02 ∷ 0x00 ∷ 0x00 ∷ 0x00 ∷ 0x03 ∷ 0x61 ∷ 0x62 ∷ 0x63 ∷ 0x01 ∷ 0x01 ∷ 0x00 ∷ 0x03 ∷ 0x00 ∷ 0x03 ∷ 0x00 ∷ 0x11 ∷ 0x08 ∷ 0x01 ∷ 0x0B ∷ 0x00 ∷ 0x12 ∷ 0x0C ∷ 0x02 ∷ 0x1A ∷ 0x00 ∷ 0x13 ∷ 0x0E ∷ 0x03 ∷ 0x20 ∷ 0x03 ∷ 0xFF ∷ 0xFF ∷ 0x01 ∷ 0x00 ∷ 0x00 ∷ 0x00 ∷ 0x00 ∷ 0x01 ∷ 0x00 ∷ 0x07 ∷ 0x00 ∷ 0x02 ∷ 0x00 ∷ 0x00 ∷ 0x00 ∷ 0x0A ∷ 0xA0 ∷ 0x00 ∷ 0x00 ∷ 0x00 ∷ 0x01 ∷ 0xFF ∷ 0xFF ∷ 0xFF ∷ 0xFF ∷ 0x02 ∷ 0x03 ∷ 0x03 ∷ 0x01 ∷ 0x00 ∷ 0x00 ∷ []))
@@ -601,7 +622,7 @@ abbrev longest : List ℕ
 longest =
     0x01 ∷ 0x00 ∷ 0x00 ∷ 0x00 ∷ 0x01 ∷ 0x61 ∷ 0x01 ∷ 0x01 ∷ 0x00 ∷ 0x00 ∷ 0x00 ∷ 0x01 ∷ 0x00 ∷ 0x0F ∷ 0xFF ∷ 0xFF ∷ 0x03 ∷ 0x07 ∷ 0x01 ∷ 0x00 ∷ []
 
--- the largest length of a fixed array, of a type that has no objects
+-- its listing, and the file built back from it
 longest-listed :
     (listing 48 16384 longest ≡ done (ascii "pair\t1\t1\nstr\t61\ntype\t1\t0\t-\t0\t1\nnew\t15,65535,7\t1\n")) ×
     (build 20 16384 (ascii "pair\t1\t1\nstr\t61\ntype\t1\t0\t-\t0\t1\nnew\t15,65535,7\t1\n") ≡ done (0x01 ∷ 0x00 ∷ 0x00 ∷ 0x00 ∷ 0x01 ∷ 0x61 ∷ 0x01 ∷ 0x01 ∷ 0x00 ∷ 0x00 ∷ 0x00 ∷ 0x01 ∷ 0x00 ∷ 0x0F ∷ 0xFF ∷ 0xFF ∷ 0x03 ∷ 0x07 ∷ 0x01 ∷ 0x00 ∷ []))
@@ -1043,151 +1064,60 @@ separators-built = (refl, refl, refl, refl, refl, refl, refl, refl, refl, refl, 
 
 -- each byte of a listing left out in turn
 left-out-built :
-    (build 400 16384 (ascii "air\t3\t2\nstr\t6162\nstr\t63\nstr\t\ntype\t1\t0\t-\t1\t3\nnew\t15,2,8\t1\nnew\t4,-12\t2\nnew\t12\t3\ntype\t2\t1\t0\t1\t1\nnew\t17,11\t1\nval\t1\t-1\nval\t0a1b2c3d\nval\t10\t20\n") ≡ refused 20) ×
-    (build 400 16384 (ascii "pir\t3\t2\nstr\t6162\nstr\t63\nstr\t\ntype\t1\t0\t-\t1\t3\nnew\t15,2,8\t1\nnew\t4,-12\t2\nnew\t12\t3\ntype\t2\t1\t0\t1\t1\nnew\t17,11\t1\nval\t1\t-1\nval\t0a1b2c3d\nval\t10\t20\n") ≡ refused 20) ×
-    (build 400 16384 (ascii "par\t3\t2\nstr\t6162\nstr\t63\nstr\t\ntype\t1\t0\t-\t1\t3\nnew\t15,2,8\t1\nnew\t4,-12\t2\nnew\t12\t3\ntype\t2\t1\t0\t1\t1\nnew\t17,11\t1\nval\t1\t-1\nval\t0a1b2c3d\nval\t10\t20\n") ≡ refused 20) ×
-    (build 400 16384 (ascii "pai\t3\t2\nstr\t6162\nstr\t63\nstr\t\ntype\t1\t0\t-\t1\t3\nnew\t15,2,8\t1\nnew\t4,-12\t2\nnew\t12\t3\ntype\t2\t1\t0\t1\t1\nnew\t17,11\t1\nval\t1\t-1\nval\t0a1b2c3d\nval\t10\t20\n") ≡ refused 20) ×
-    (build 400 16384 (ascii "pair3\t2\nstr\t6162\nstr\t63\nstr\t\ntype\t1\t0\t-\t1\t3\nnew\t15,2,8\t1\nnew\t4,-12\t2\nnew\t12\t3\ntype\t2\t1\t0\t1\t1\nnew\t17,11\t1\nval\t1\t-1\nval\t0a1b2c3d\nval\t10\t20\n") ≡ refused 20) ×
-    (build 400 16384 (ascii "pair\t\t2\nstr\t6162\nstr\t63\nstr\t\ntype\t1\t0\t-\t1\t3\nnew\t15,2,8\t1\nnew\t4,-12\t2\nnew\t12\t3\ntype\t2\t1\t0\t1\t1\nnew\t17,11\t1\nval\t1\t-1\nval\t0a1b2c3d\nval\t10\t20\n") ≡ refused 20) ×
-    (build 400 16384 (ascii "pair\t32\nstr\t6162\nstr\t63\nstr\t\ntype\t1\t0\t-\t1\t3\nnew\t15,2,8\t1\nnew\t4,-12\t2\nnew\t12\t3\ntype\t2\t1\t0\t1\t1\nnew\t17,11\t1\nval\t1\t-1\nval\t0a1b2c3d\nval\t10\t20\n") ≡ refused 20) ×
-    (build 400 16384 (ascii "pair\t3\t\nstr\t6162\nstr\t63\nstr\t\ntype\t1\t0\t-\t1\t3\nnew\t15,2,8\t1\nnew\t4,-12\t2\nnew\t12\t3\ntype\t2\t1\t0\t1\t1\nnew\t17,11\t1\nval\t1\t-1\nval\t0a1b2c3d\nval\t10\t20\n") ≡ refused 20) ×
-    (build 400 16384 (ascii "pair\t3\t2str\t6162\nstr\t63\nstr\t\ntype\t1\t0\t-\t1\t3\nnew\t15,2,8\t1\nnew\t4,-12\t2\nnew\t12\t3\ntype\t2\t1\t0\t1\t1\nnew\t17,11\t1\nval\t1\t-1\nval\t0a1b2c3d\nval\t10\t20\n") ≡ refused 20) ×
-    (build 400 16384 (ascii "pair\t3\t2\ntr\t6162\nstr\t63\nstr\t\ntype\t1\t0\t-\t1\t3\nnew\t15,2,8\t1\nnew\t4,-12\t2\nnew\t12\t3\ntype\t2\t1\t0\t1\t1\nnew\t17,11\t1\nval\t1\t-1\nval\t0a1b2c3d\nval\t10\t20\n") ≡ refused 20) ×
-    (build 400 16384 (ascii "pair\t3\t2\nsr\t6162\nstr\t63\nstr\t\ntype\t1\t0\t-\t1\t3\nnew\t15,2,8\t1\nnew\t4,-12\t2\nnew\t12\t3\ntype\t2\t1\t0\t1\t1\nnew\t17,11\t1\nval\t1\t-1\nval\t0a1b2c3d\nval\t10\t20\n") ≡ refused 20) ×
-    (build 400 16384 (ascii "pair\t3\t2\nst\t6162\nstr\t63\nstr\t\ntype\t1\t0\t-\t1\t3\nnew\t15,2,8\t1\nnew\t4,-12\t2\nnew\t12\t3\ntype\t2\t1\t0\t1\t1\nnew\t17,11\t1\nval\t1\t-1\nval\t0a1b2c3d\nval\t10\t20\n") ≡ refused 20) ×
-    (build 400 16384 (ascii "pair\t3\t2\nstr6162\nstr\t63\nstr\t\ntype\t1\t0\t-\t1\t3\nnew\t15,2,8\t1\nnew\t4,-12\t2\nnew\t12\t3\ntype\t2\t1\t0\t1\t1\nnew\t17,11\t1\nval\t1\t-1\nval\t0a1b2c3d\nval\t10\t20\n") ≡ refused 20) ×
-    (build 400 16384 (ascii "pair\t3\t2\nstr\t162\nstr\t63\nstr\t\ntype\t1\t0\t-\t1\t3\nnew\t15,2,8\t1\nnew\t4,-12\t2\nnew\t12\t3\ntype\t2\t1\t0\t1\t1\nnew\t17,11\t1\nval\t1\t-1\nval\t0a1b2c3d\nval\t10\t20\n") ≡ refused 20) ×
-    (build 400 16384 (ascii "pair\t3\t2\nstr\t662\nstr\t63\nstr\t\ntype\t1\t0\t-\t1\t3\nnew\t15,2,8\t1\nnew\t4,-12\t2\nnew\t12\t3\ntype\t2\t1\t0\t1\t1\nnew\t17,11\t1\nval\t1\t-1\nval\t0a1b2c3d\nval\t10\t20\n") ≡ refused 20) ×
-    (build 400 16384 (ascii "pair\t3\t2\nstr\t612\nstr\t63\nstr\t\ntype\t1\t0\t-\t1\t3\nnew\t15,2,8\t1\nnew\t4,-12\t2\nnew\t12\t3\ntype\t2\t1\t0\t1\t1\nnew\t17,11\t1\nval\t1\t-1\nval\t0a1b2c3d\nval\t10\t20\n") ≡ refused 20) ×
-    (build 400 16384 (ascii "pair\t3\t2\nstr\t616\nstr\t63\nstr\t\ntype\t1\t0\t-\t1\t3\nnew\t15,2,8\t1\nnew\t4,-12\t2\nnew\t12\t3\ntype\t2\t1\t0\t1\t1\nnew\t17,11\t1\nval\t1\t-1\nval\t0a1b2c3d\nval\t10\t20\n") ≡ refused 20) ×
-    (build 400 16384 (ascii "pair\t3\t2\nstr\t6162str\t63\nstr\t\ntype\t1\t0\t-\t1\t3\nnew\t15,2,8\t1\nnew\t4,-12\t2\nnew\t12\t3\ntype\t2\t1\t0\t1\t1\nnew\t17,11\t1\nval\t1\t-1\nval\t0a1b2c3d\nval\t10\t20\n") ≡ refused 20) ×
-    (build 400 16384 (ascii "pair\t3\t2\nstr\t6162\ntr\t63\nstr\t\ntype\t1\t0\t-\t1\t3\nnew\t15,2,8\t1\nnew\t4,-12\t2\nnew\t12\t3\ntype\t2\t1\t0\t1\t1\nnew\t17,11\t1\nval\t1\t-1\nval\t0a1b2c3d\nval\t10\t20\n") ≡ refused 20) ×
-    (build 400 16384 (ascii "pair\t3\t2\nstr\t6162\nsr\t63\nstr\t\ntype\t1\t0\t-\t1\t3\nnew\t15,2,8\t1\nnew\t4,-12\t2\nnew\t12\t3\ntype\t2\t1\t0\t1\t1\nnew\t17,11\t1\nval\t1\t-1\nval\t0a1b2c3d\nval\t10\t20\n") ≡ refused 20) ×
-    (build 400 16384 (ascii "pair\t3\t2\nstr\t6162\nst\t63\nstr\t\ntype\t1\t0\t-\t1\t3\nnew\t15,2,8\t1\nnew\t4,-12\t2\nnew\t12\t3\ntype\t2\t1\t0\t1\t1\nnew\t17,11\t1\nval\t1\t-1\nval\t0a1b2c3d\nval\t10\t20\n") ≡ refused 20) ×
-    (build 400 16384 (ascii "pair\t3\t2\nstr\t6162\nstr63\nstr\t\ntype\t1\t0\t-\t1\t3\nnew\t15,2,8\t1\nnew\t4,-12\t2\nnew\t12\t3\ntype\t2\t1\t0\t1\t1\nnew\t17,11\t1\nval\t1\t-1\nval\t0a1b2c3d\nval\t10\t20\n") ≡ refused 20) ×
-    (build 400 16384 (ascii "pair\t3\t2\nstr\t6162\nstr\t3\nstr\t\ntype\t1\t0\t-\t1\t3\nnew\t15,2,8\t1\nnew\t4,-12\t2\nnew\t12\t3\ntype\t2\t1\t0\t1\t1\nnew\t17,11\t1\nval\t1\t-1\nval\t0a1b2c3d\nval\t10\t20\n") ≡ refused 20) ×
-    (build 400 16384 (ascii "pair\t3\t2\nstr\t6162\nstr\t6\nstr\t\ntype\t1\t0\t-\t1\t3\nnew\t15,2,8\t1\nnew\t4,-12\t2\nnew\t12\t3\ntype\t2\t1\t0\t1\t1\nnew\t17,11\t1\nval\t1\t-1\nval\t0a1b2c3d\nval\t10\t20\n") ≡ refused 20) ×
-    (build 400 16384 (ascii "pair\t3\t2\nstr\t6162\nstr\t63str\t\ntype\t1\t0\t-\t1\t3\nnew\t15,2,8\t1\nnew\t4,-12\t2\nnew\t12\t3\ntype\t2\t1\t0\t1\t1\nnew\t17,11\t1\nval\t1\t-1\nval\t0a1b2c3d\nval\t10\t20\n") ≡ refused 20) ×
-    (build 400 16384 (ascii "pair\t3\t2\nstr\t6162\nstr\t63\ntr\t\ntype\t1\t0\t-\t1\t3\nnew\t15,2,8\t1\nnew\t4,-12\t2\nnew\t12\t3\ntype\t2\t1\t0\t1\t1\nnew\t17,11\t1\nval\t1\t-1\nval\t0a1b2c3d\nval\t10\t20\n") ≡ refused 20) ×
-    (build 400 16384 (ascii "pair\t3\t2\nstr\t6162\nstr\t63\nsr\t\ntype\t1\t0\t-\t1\t3\nnew\t15,2,8\t1\nnew\t4,-12\t2\nnew\t12\t3\ntype\t2\t1\t0\t1\t1\nnew\t17,11\t1\nval\t1\t-1\nval\t0a1b2c3d\nval\t10\t20\n") ≡ refused 20) ×
-    (build 400 16384 (ascii "pair\t3\t2\nstr\t6162\nstr\t63\nst\t\ntype\t1\t0\t-\t1\t3\nnew\t15,2,8\t1\nnew\t4,-12\t2\nnew\t12\t3\ntype\t2\t1\t0\t1\t1\nnew\t17,11\t1\nval\t1\t-1\nval\t0a1b2c3d\nval\t10\t20\n") ≡ refused 20) ×
-    (build 400 16384 (ascii "pair\t3\t2\nstr\t6162\nstr\t63\nstr\ntype\t1\t0\t-\t1\t3\nnew\t15,2,8\t1\nnew\t4,-12\t2\nnew\t12\t3\ntype\t2\t1\t0\t1\t1\nnew\t17,11\t1\nval\t1\t-1\nval\t0a1b2c3d\nval\t10\t20\n") ≡ refused 20) ×
-    (build 400 16384 (ascii "pair\t3\t2\nstr\t6162\nstr\t63\nstr\ttype\t1\t0\t-\t1\t3\nnew\t15,2,8\t1\nnew\t4,-12\t2\nnew\t12\t3\ntype\t2\t1\t0\t1\t1\nnew\t17,11\t1\nval\t1\t-1\nval\t0a1b2c3d\nval\t10\t20\n") ≡ refused 20) ×
-    (build 400 16384 (ascii "pair\t3\t2\nstr\t6162\nstr\t63\nstr\t\nype\t1\t0\t-\t1\t3\nnew\t15,2,8\t1\nnew\t4,-12\t2\nnew\t12\t3\ntype\t2\t1\t0\t1\t1\nnew\t17,11\t1\nval\t1\t-1\nval\t0a1b2c3d\nval\t10\t20\n") ≡ refused 20) ×
-    (build 400 16384 (ascii "pair\t3\t2\nstr\t6162\nstr\t63\nstr\t\ntpe\t1\t0\t-\t1\t3\nnew\t15,2,8\t1\nnew\t4,-12\t2\nnew\t12\t3\ntype\t2\t1\t0\t1\t1\nnew\t17,11\t1\nval\t1\t-1\nval\t0a1b2c3d\nval\t10\t20\n") ≡ refused 20) ×
-    (build 400 16384 (ascii "pair\t3\t2\nstr\t6162\nstr\t63\nstr\t\ntye\t1\t0\t-\t1\t3\nnew\t15,2,8\t1\nnew\t4,-12\t2\nnew\t12\t3\ntype\t2\t1\t0\t1\t1\nnew\t17,11\t1\nval\t1\t-1\nval\t0a1b2c3d\nval\t10\t20\n") ≡ refused 20) ×
-    (build 400 16384 (ascii "pair\t3\t2\nstr\t6162\nstr\t63\nstr\t\ntyp\t1\t0\t-\t1\t3\nnew\t15,2,8\t1\nnew\t4,-12\t2\nnew\t12\t3\ntype\t2\t1\t0\t1\t1\nnew\t17,11\t1\nval\t1\t-1\nval\t0a1b2c3d\nval\t10\t20\n") ≡ refused 20) ×
-    (build 400 16384 (ascii "pair\t3\t2\nstr\t6162\nstr\t63\nstr\t\ntype1\t0\t-\t1\t3\nnew\t15,2,8\t1\nnew\t4,-12\t2\nnew\t12\t3\ntype\t2\t1\t0\t1\t1\nnew\t17,11\t1\nval\t1\t-1\nval\t0a1b2c3d\nval\t10\t20\n") ≡ refused 20) ×
-    (build 400 16384 (ascii "pair\t3\t2\nstr\t6162\nstr\t63\nstr\t\ntype\t\t0\t-\t1\t3\nnew\t15,2,8\t1\nnew\t4,-12\t2\nnew\t12\t3\ntype\t2\t1\t0\t1\t1\nnew\t17,11\t1\nval\t1\t-1\nval\t0a1b2c3d\nval\t10\t20\n") ≡ refused 20) ×
-    (build 400 16384 (ascii "pair\t3\t2\nstr\t6162\nstr\t63\nstr\t\ntype\t10\t-\t1\t3\nnew\t15,2,8\t1\nnew\t4,-12\t2\nnew\t12\t3\ntype\t2\t1\t0\t1\t1\nnew\t17,11\t1\nval\t1\t-1\nval\t0a1b2c3d\nval\t10\t20\n") ≡ refused 20) ×
-    (build 400 16384 (ascii "pair\t3\t2\nstr\t6162\nstr\t63\nstr\t\ntype\t1\t\t-\t1\t3\nnew\t15,2,8\t1\nnew\t4,-12\t2\nnew\t12\t3\ntype\t2\t1\t0\t1\t1\nnew\t17,11\t1\nval\t1\t-1\nval\t0a1b2c3d\nval\t10\t20\n") ≡ refused 20) ×
-    (build 400 16384 (ascii "pair\t3\t2\nstr\t6162\nstr\t63\nstr\t\ntype\t1\t0-\t1\t3\nnew\t15,2,8\t1\nnew\t4,-12\t2\nnew\t12\t3\ntype\t2\t1\t0\t1\t1\nnew\t17,11\t1\nval\t1\t-1\nval\t0a1b2c3d\nval\t10\t20\n") ≡ refused 20) ×
-    (build 400 16384 (ascii "pair\t3\t2\nstr\t6162\nstr\t63\nstr\t\ntype\t1\t0\t\t1\t3\nnew\t15,2,8\t1\nnew\t4,-12\t2\nnew\t12\t3\ntype\t2\t1\t0\t1\t1\nnew\t17,11\t1\nval\t1\t-1\nval\t0a1b2c3d\nval\t10\t20\n") ≡ refused 20) ×
-    (build 400 16384 (ascii "pair\t3\t2\nstr\t6162\nstr\t63\nstr\t\ntype\t1\t0\t-1\t3\nnew\t15,2,8\t1\nnew\t4,-12\t2\nnew\t12\t3\ntype\t2\t1\t0\t1\t1\nnew\t17,11\t1\nval\t1\t-1\nval\t0a1b2c3d\nval\t10\t20\n") ≡ refused 20) ×
-    (build 400 16384 (ascii "pair\t3\t2\nstr\t6162\nstr\t63\nstr\t\ntype\t1\t0\t-\t\t3\nnew\t15,2,8\t1\nnew\t4,-12\t2\nnew\t12\t3\ntype\t2\t1\t0\t1\t1\nnew\t17,11\t1\nval\t1\t-1\nval\t0a1b2c3d\nval\t10\t20\n") ≡ refused 20) ×
-    (build 400 16384 (ascii "pair\t3\t2\nstr\t6162\nstr\t63\nstr\t\ntype\t1\t0\t-\t13\nnew\t15,2,8\t1\nnew\t4,-12\t2\nnew\t12\t3\ntype\t2\t1\t0\t1\t1\nnew\t17,11\t1\nval\t1\t-1\nval\t0a1b2c3d\nval\t10\t20\n") ≡ refused 20) ×
-    (build 400 16384 (ascii "pair\t3\t2\nstr\t6162\nstr\t63\nstr\t\ntype\t1\t0\t-\t1\t\nnew\t15,2,8\t1\nnew\t4,-12\t2\nnew\t12\t3\ntype\t2\t1\t0\t1\t1\nnew\t17,11\t1\nval\t1\t-1\nval\t0a1b2c3d\nval\t10\t20\n") ≡ refused 20) ×
-    (build 400 16384 (ascii "pair\t3\t2\nstr\t6162\nstr\t63\nstr\t\ntype\t1\t0\t-\t1\t3new\t15,2,8\t1\nnew\t4,-12\t2\nnew\t12\t3\ntype\t2\t1\t0\t1\t1\nnew\t17,11\t1\nval\t1\t-1\nval\t0a1b2c3d\nval\t10\t20\n") ≡ refused 20) ×
-    (build 400 16384 (ascii "pair\t3\t2\nstr\t6162\nstr\t63\nstr\t\ntype\t1\t0\t-\t1\t3\new\t15,2,8\t1\nnew\t4,-12\t2\nnew\t12\t3\ntype\t2\t1\t0\t1\t1\nnew\t17,11\t1\nval\t1\t-1\nval\t0a1b2c3d\nval\t10\t20\n") ≡ refused 20) ×
-    (build 400 16384 (ascii "pair\t3\t2\nstr\t6162\nstr\t63\nstr\t\ntype\t1\t0\t-\t1\t3\nnw\t15,2,8\t1\nnew\t4,-12\t2\nnew\t12\t3\ntype\t2\t1\t0\t1\t1\nnew\t17,11\t1\nval\t1\t-1\nval\t0a1b2c3d\nval\t10\t20\n") ≡ refused 20) ×
-    (build 400 16384 (ascii "pair\t3\t2\nstr\t6162\nstr\t63\nstr\t\ntype\t1\t0\t-\t1\t3\nne\t15,2,8\t1\nnew\t4,-12\t2\nnew\t12\t3\ntype\t2\t1\t0\t1\t1\nnew\t17,11\t1\nval\t1\t-1\nval\t0a1b2c3d\nval\t10\t20\n") ≡ refused 20) ×
-    (build 400 16384 (ascii "pair\t3\t2\nstr\t6162\nstr\t63\nstr\t\ntype\t1\t0\t-\t1\t3\nnew15,2,8\t1\nnew\t4,-12\t2\nnew\t12\t3\ntype\t2\t1\t0\t1\t1\nnew\t17,11\t1\nval\t1\t-1\nval\t0a1b2c3d\nval\t10\t20\n") ≡ refused 20) ×
-    (build 400 16384 (ascii "pair\t3\t2\nstr\t6162\nstr\t63\nstr\t\ntype\t1\t0\t-\t1\t3\nnew\t5,2,8\t1\nnew\t4,-12\t2\nnew\t12\t3\ntype\t2\t1\t0\t1\t1\nnew\t17,11\t1\nval\t1\t-1\nval\t0a1b2c3d\nval\t10\t20\n") ≡ refused 20) ×
-    (build 400 16384 (ascii "pair\t3\t2\nstr\t6162\nstr\t63\nstr\t\ntype\t1\t0\t-\t1\t3\nnew\t1,2,8\t1\nnew\t4,-12\t2\nnew\t12\t3\ntype\t2\t1\t0\t1\t1\nnew\t17,11\t1\nval\t1\t-1\nval\t0a1b2c3d\nval\t10\t20\n") ≡ refused 20) ×
-    (build 400 16384 (ascii "pair\t3\t2\nstr\t6162\nstr\t63\nstr\t\ntype\t1\t0\t-\t1\t3\nnew\t152,8\t1\nnew\t4,-12\t2\nnew\t12\t3\ntype\t2\t1\t0\t1\t1\nnew\t17,11\t1\nval\t1\t-1\nval\t0a1b2c3d\nval\t10\t20\n") ≡ refused 20) ×
-    (build 400 16384 (ascii "pair\t3\t2\nstr\t6162\nstr\t63\nstr\t\ntype\t1\t0\t-\t1\t3\nnew\t15,,8\t1\nnew\t4,-12\t2\nnew\t12\t3\ntype\t2\t1\t0\t1\t1\nnew\t17,11\t1\nval\t1\t-1\nval\t0a1b2c3d\nval\t10\t20\n") ≡ refused 20) ×
-    (build 400 16384 (ascii "pair\t3\t2\nstr\t6162\nstr\t63\nstr\t\ntype\t1\t0\t-\t1\t3\nnew\t15,28\t1\nnew\t4,-12\t2\nnew\t12\t3\ntype\t2\t1\t0\t1\t1\nnew\t17,11\t1\nval\t1\t-1\nval\t0a1b2c3d\nval\t10\t20\n") ≡ refused 20) ×
-    (build 400 16384 (ascii "pair\t3\t2\nstr\t6162\nstr\t63\nstr\t\ntype\t1\t0\t-\t1\t3\nnew\t15,2,\t1\nnew\t4,-12\t2\nnew\t12\t3\ntype\t2\t1\t0\t1\t1\nnew\t17,11\t1\nval\t1\t-1\nval\t0a1b2c3d\nval\t10\t20\n") ≡ refused 20) ×
-    (build 400 16384 (ascii "pair\t3\t2\nstr\t6162\nstr\t63\nstr\t\ntype\t1\t0\t-\t1\t3\nnew\t15,2,81\nnew\t4,-12\t2\nnew\t12\t3\ntype\t2\t1\t0\t1\t1\nnew\t17,11\t1\nval\t1\t-1\nval\t0a1b2c3d\nval\t10\t20\n") ≡ refused 20) ×
-    (build 400 16384 (ascii "pair\t3\t2\nstr\t6162\nstr\t63\nstr\t\ntype\t1\t0\t-\t1\t3\nnew\t15,2,8\t\nnew\t4,-12\t2\nnew\t12\t3\ntype\t2\t1\t0\t1\t1\nnew\t17,11\t1\nval\t1\t-1\nval\t0a1b2c3d\nval\t10\t20\n") ≡ refused 20) ×
-    (build 400 16384 (ascii "pair\t3\t2\nstr\t6162\nstr\t63\nstr\t\ntype\t1\t0\t-\t1\t3\nnew\t15,2,8\t1new\t4,-12\t2\nnew\t12\t3\ntype\t2\t1\t0\t1\t1\nnew\t17,11\t1\nval\t1\t-1\nval\t0a1b2c3d\nval\t10\t20\n") ≡ refused 20) ×
-    (build 400 16384 (ascii "pair\t3\t2\nstr\t6162\nstr\t63\nstr\t\ntype\t1\t0\t-\t1\t3\nnew\t15,2,8\t1\new\t4,-12\t2\nnew\t12\t3\ntype\t2\t1\t0\t1\t1\nnew\t17,11\t1\nval\t1\t-1\nval\t0a1b2c3d\nval\t10\t20\n") ≡ refused 20) ×
-    (build 400 16384 (ascii "pair\t3\t2\nstr\t6162\nstr\t63\nstr\t\ntype\t1\t0\t-\t1\t3\nnew\t15,2,8\t1\nnw\t4,-12\t2\nnew\t12\t3\ntype\t2\t1\t0\t1\t1\nnew\t17,11\t1\nval\t1\t-1\nval\t0a1b2c3d\nval\t10\t20\n") ≡ refused 20) ×
-    (build 400 16384 (ascii "pair\t3\t2\nstr\t6162\nstr\t63\nstr\t\ntype\t1\t0\t-\t1\t3\nnew\t15,2,8\t1\nne\t4,-12\t2\nnew\t12\t3\ntype\t2\t1\t0\t1\t1\nnew\t17,11\t1\nval\t1\t-1\nval\t0a1b2c3d\nval\t10\t20\n") ≡ refused 20) ×
-    (build 400 16384 (ascii "pair\t3\t2\nstr\t6162\nstr\t63\nstr\t\ntype\t1\t0\t-\t1\t3\nnew\t15,2,8\t1\nnew4,-12\t2\nnew\t12\t3\ntype\t2\t1\t0\t1\t1\nnew\t17,11\t1\nval\t1\t-1\nval\t0a1b2c3d\nval\t10\t20\n") ≡ refused 20) ×
-    (build 400 16384 (ascii "pair\t3\t2\nstr\t6162\nstr\t63\nstr\t\ntype\t1\t0\t-\t1\t3\nnew\t15,2,8\t1\nnew\t,-12\t2\nnew\t12\t3\ntype\t2\t1\t0\t1\t1\nnew\t17,11\t1\nval\t1\t-1\nval\t0a1b2c3d\nval\t10\t20\n") ≡ refused 20) ×
-    (build 400 16384 (ascii "pair\t3\t2\nstr\t6162\nstr\t63\nstr\t\ntype\t1\t0\t-\t1\t3\nnew\t15,2,8\t1\nnew\t4-12\t2\nnew\t12\t3\ntype\t2\t1\t0\t1\t1\nnew\t17,11\t1\nval\t1\t-1\nval\t0a1b2c3d\nval\t10\t20\n") ≡ refused 20) ×
-    (build 400 16384 (ascii "pair\t3\t2\nstr\t6162\nstr\t63\nstr\t\ntype\t1\t0\t-\t1\t3\nnew\t15,2,8\t1\nnew\t4,12\t2\nnew\t12\t3\ntype\t2\t1\t0\t1\t1\nnew\t17,11\t1\nval\t1\t-1\nval\t0a1b2c3d\nval\t10\t20\n") ≡ done (0x03 ∷ 0x00 ∷ 0x00 ∷ 0x00 ∷ 0x02 ∷ 0x00 ∷ 0x00 ∷ 0x00 ∷ 0x03 ∷ 0x00 ∷ 0x00 ∷ 0x00 ∷ 0x03 ∷ 0x61 ∷ 0x62 ∷ 0x63 ∷ 0x02 ∷ 0x01 ∷ 0x00 ∷ 0x01 ∷ 0x00 ∷ 0x03 ∷ 0x00 ∷ 0x0F ∷ 0x02 ∷ 0x08 ∷ 0x01 ∷ 0x04 ∷ 0x00 ∷ 0x04 ∷ 0x0C ∷ 0x02 ∷ 0x04 ∷ 0x00 ∷ 0x0C ∷ 0x03 ∷ 0x08 ∷ 0x02 ∷ 0x01 ∷ 0x00 ∷ 0x01 ∷ 0x00 ∷ 0x01 ∷ 0x00 ∷ 0x11 ∷ 0x0B ∷ 0x01 ∷ 0x0B ∷ 0x00 ∷ 0x01 ∷ 0xFF ∷ 0xFF ∷ 0x0A ∷ 0x1B ∷ 0x2C ∷ 0x3D ∷ 0x02 ∷ 0x0A ∷ 0x14 ∷ [])) ×
-    (build 400 16384 (ascii "pair\t3\t2\nstr\t6162\nstr\t63\nstr\t\ntype\t1\t0\t-\t1\t3\nnew\t15,2,8\t1\nnew\t4,-2\t2\nnew\t12\t3\ntype\t2\t1\t0\t1\t1\nnew\t17,11\t1\nval\t1\t-1\nval\t0a1b2c3d\nval\t10\t20\n") ≡ done (0x03 ∷ 0x00 ∷ 0x00 ∷ 0x00 ∷ 0x02 ∷ 0x00 ∷ 0x00 ∷ 0x00 ∷ 0x03 ∷ 0x00 ∷ 0x00 ∷ 0x00 ∷ 0x03 ∷ 0x61 ∷ 0x62 ∷ 0x63 ∷ 0x02 ∷ 0x01 ∷ 0x00 ∷ 0x01 ∷ 0x00 ∷ 0x03 ∷ 0x00 ∷ 0x0F ∷ 0x02 ∷ 0x08 ∷ 0x01 ∷ 0x04 ∷ 0x00 ∷ 0x04 ∷ 0xFE ∷ 0xFF ∷ 0xFF ∷ 0xFF ∷ 0xFF ∷ 0xFF ∷ 0xFF ∷ 0xFF ∷ 0xFF ∷ 0x02 ∷ 0x04 ∷ 0x00 ∷ 0x0C ∷ 0x03 ∷ 0x08 ∷ 0x02 ∷ 0x01 ∷ 0x00 ∷ 0x01 ∷ 0x00 ∷ 0x01 ∷ 0x00 ∷ 0x11 ∷ 0x0B ∷ 0x01 ∷ 0x0B ∷ 0x00 ∷ 0x01 ∷ 0xFF ∷ 0xFF ∷ 0x0A ∷ 0x1B ∷ 0x2C ∷ 0x3D ∷ 0x02 ∷ 0x0A ∷ 0x14 ∷ [])) ×
-    (build 400 16384 (ascii "pair\t3\t2\nstr\t6162\nstr\t63\nstr\t\ntype\t1\t0\t-\t1\t3\nnew\t15,2,8\t1\nnew\t4,-1\t2\nnew\t12\t3\ntype\t2\t1\t0\t1\t1\nnew\t17,11\t1\nval\t1\t-1\nval\t0a1b2c3d\nval\t10\t20\n") ≡ done (0x03 ∷ 0x00 ∷ 0x00 ∷ 0x00 ∷ 0x02 ∷ 0x00 ∷ 0x00 ∷ 0x00 ∷ 0x03 ∷ 0x00 ∷ 0x00 ∷ 0x00 ∷ 0x03 ∷ 0x61 ∷ 0x62 ∷ 0x63 ∷ 0x02 ∷ 0x01 ∷ 0x00 ∷ 0x01 ∷ 0x00 ∷ 0x03 ∷ 0x00 ∷ 0x0F ∷ 0x02 ∷ 0x08 ∷ 0x01 ∷ 0x04 ∷ 0x00 ∷ 0x04 ∷ 0xFF ∷ 0xFF ∷ 0xFF ∷ 0xFF ∷ 0xFF ∷ 0xFF ∷ 0xFF ∷ 0xFF ∷ 0xFF ∷ 0x02 ∷ 0x04 ∷ 0x00 ∷ 0x0C ∷ 0x03 ∷ 0x08 ∷ 0x02 ∷ 0x01 ∷ 0x00 ∷ 0x01 ∷ 0x00 ∷ 0x01 ∷ 0x00 ∷ 0x11 ∷ 0x0B ∷ 0x01 ∷ 0x0B ∷ 0x00 ∷ 0x01 ∷ 0xFF ∷ 0xFF ∷ 0x0A ∷ 0x1B ∷ 0x2C ∷ 0x3D ∷ 0x02 ∷ 0x0A ∷ 0x14 ∷ [])) ×
-    (build 400 16384 (ascii "pair\t3\t2\nstr\t6162\nstr\t63\nstr\t\ntype\t1\t0\t-\t1\t3\nnew\t15,2,8\t1\nnew\t4,-122\nnew\t12\t3\ntype\t2\t1\t0\t1\t1\nnew\t17,11\t1\nval\t1\t-1\nval\t0a1b2c3d\nval\t10\t20\n") ≡ refused 20) ×
-    (build 400 16384 (ascii "pair\t3\t2\nstr\t6162\nstr\t63\nstr\t\ntype\t1\t0\t-\t1\t3\nnew\t15,2,8\t1\nnew\t4,-12\t\nnew\t12\t3\ntype\t2\t1\t0\t1\t1\nnew\t17,11\t1\nval\t1\t-1\nval\t0a1b2c3d\nval\t10\t20\n") ≡ refused 20) ×
-    (build 400 16384 (ascii "pair\t3\t2\nstr\t6162\nstr\t63\nstr\t\ntype\t1\t0\t-\t1\t3\nnew\t15,2,8\t1\nnew\t4,-12\t2new\t12\t3\ntype\t2\t1\t0\t1\t1\nnew\t17,11\t1\nval\t1\t-1\nval\t0a1b2c3d\nval\t10\t20\n") ≡ refused 20) ×
-    (build 400 16384 (ascii "pair\t3\t2\nstr\t6162\nstr\t63\nstr\t\ntype\t1\t0\t-\t1\t3\nnew\t15,2,8\t1\nnew\t4,-12\t2\new\t12\t3\ntype\t2\t1\t0\t1\t1\nnew\t17,11\t1\nval\t1\t-1\nval\t0a1b2c3d\nval\t10\t20\n") ≡ refused 20) ×
-    (build 400 16384 (ascii "pair\t3\t2\nstr\t6162\nstr\t63\nstr\t\ntype\t1\t0\t-\t1\t3\nnew\t15,2,8\t1\nnew\t4,-12\t2\nnw\t12\t3\ntype\t2\t1\t0\t1\t1\nnew\t17,11\t1\nval\t1\t-1\nval\t0a1b2c3d\nval\t10\t20\n") ≡ refused 20) ×
-    (build 400 16384 (ascii "pair\t3\t2\nstr\t6162\nstr\t63\nstr\t\ntype\t1\t0\t-\t1\t3\nnew\t15,2,8\t1\nnew\t4,-12\t2\nne\t12\t3\ntype\t2\t1\t0\t1\t1\nnew\t17,11\t1\nval\t1\t-1\nval\t0a1b2c3d\nval\t10\t20\n") ≡ refused 20) ×
-    (build 400 16384 (ascii "pair\t3\t2\nstr\t6162\nstr\t63\nstr\t\ntype\t1\t0\t-\t1\t3\nnew\t15,2,8\t1\nnew\t4,-12\t2\nnew12\t3\ntype\t2\t1\t0\t1\t1\nnew\t17,11\t1\nval\t1\t-1\nval\t0a1b2c3d\nval\t10\t20\n") ≡ refused 20) ×
-    (build 400 16384 (ascii "pair\t3\t2\nstr\t6162\nstr\t63\nstr\t\ntype\t1\t0\t-\t1\t3\nnew\t15,2,8\t1\nnew\t4,-12\t2\nnew\t2\t3\ntype\t2\t1\t0\t1\t1\nnew\t17,11\t1\nval\t1\t-1\nval\t0a1b2c3d\nval\t10\t20\n") ≡ refused 20) ×
-    (build 400 16384 (ascii "pair\t3\t2\nstr\t6162\nstr\t63\nstr\t\ntype\t1\t0\t-\t1\t3\nnew\t15,2,8\t1\nnew\t4,-12\t2\nnew\t1\t3\ntype\t2\t1\t0\t1\t1\nnew\t17,11\t1\nval\t1\t-1\nval\t0a1b2c3d\nval\t10\t20\n") ≡ refused 20) ×
-    (build 400 16384 (ascii "pair\t3\t2\nstr\t6162\nstr\t63\nstr\t\ntype\t1\t0\t-\t1\t3\nnew\t15,2,8\t1\nnew\t4,-12\t2\nnew\t123\ntype\t2\t1\t0\t1\t1\nnew\t17,11\t1\nval\t1\t-1\nval\t0a1b2c3d\nval\t10\t20\n") ≡ refused 20) ×
-    (build 400 16384 (ascii "pair\t3\t2\nstr\t6162\nstr\t63\nstr\t\ntype\t1\t0\t-\t1\t3\nnew\t15,2,8\t1\nnew\t4,-12\t2\nnew\t12\t\ntype\t2\t1\t0\t1\t1\nnew\t17,11\t1\nval\t1\t-1\nval\t0a1b2c3d\nval\t10\t20\n") ≡ refused 20) ×
-    (build 400 16384 (ascii "pair\t3\t2\nstr\t6162\nstr\t63\nstr\t\ntype\t1\t0\t-\t1\t3\nnew\t15,2,8\t1\nnew\t4,-12\t2\nnew\t12\t3type\t2\t1\t0\t1\t1\nnew\t17,11\t1\nval\t1\t-1\nval\t0a1b2c3d\nval\t10\t20\n") ≡ refused 20) ×
-    (build 400 16384 (ascii "pair\t3\t2\nstr\t6162\nstr\t63\nstr\t\ntype\t1\t0\t-\t1\t3\nnew\t15,2,8\t1\nnew\t4,-12\t2\nnew\t12\t3\nype\t2\t1\t0\t1\t1\nnew\t17,11\t1\nval\t1\t-1\nval\t0a1b2c3d\nval\t10\t20\n") ≡ refused 20) ×
-    (build 400 16384 (ascii "pair\t3\t2\nstr\t6162\nstr\t63\nstr\t\ntype\t1\t0\t-\t1\t3\nnew\t15,2,8\t1\nnew\t4,-12\t2\nnew\t12\t3\ntpe\t2\t1\t0\t1\t1\nnew\t17,11\t1\nval\t1\t-1\nval\t0a1b2c3d\nval\t10\t20\n") ≡ refused 20) ×
-    (build 400 16384 (ascii "pair\t3\t2\nstr\t6162\nstr\t63\nstr\t\ntype\t1\t0\t-\t1\t3\nnew\t15,2,8\t1\nnew\t4,-12\t2\nnew\t12\t3\ntye\t2\t1\t0\t1\t1\nnew\t17,11\t1\nval\t1\t-1\nval\t0a1b2c3d\nval\t10\t20\n") ≡ refused 20) ×
-    (build 400 16384 (ascii "pair\t3\t2\nstr\t6162\nstr\t63\nstr\t\ntype\t1\t0\t-\t1\t3\nnew\t15,2,8\t1\nnew\t4,-12\t2\nnew\t12\t3\ntyp\t2\t1\t0\t1\t1\nnew\t17,11\t1\nval\t1\t-1\nval\t0a1b2c3d\nval\t10\t20\n") ≡ refused 20) ×
-    (build 400 16384 (ascii "pair\t3\t2\nstr\t6162\nstr\t63\nstr\t\ntype\t1\t0\t-\t1\t3\nnew\t15,2,8\t1\nnew\t4,-12\t2\nnew\t12\t3\ntype2\t1\t0\t1\t1\nnew\t17,11\t1\nval\t1\t-1\nval\t0a1b2c3d\nval\t10\t20\n") ≡ refused 20) ×
-    (build 400 16384 (ascii "pair\t3\t2\nstr\t6162\nstr\t63\nstr\t\ntype\t1\t0\t-\t1\t3\nnew\t15,2,8\t1\nnew\t4,-12\t2\nnew\t12\t3\ntype\t\t1\t0\t1\t1\nnew\t17,11\t1\nval\t1\t-1\nval\t0a1b2c3d\nval\t10\t20\n") ≡ refused 20) ×
-    (build 400 16384 (ascii "pair\t3\t2\nstr\t6162\nstr\t63\nstr\t\ntype\t1\t0\t-\t1\t3\nnew\t15,2,8\t1\nnew\t4,-12\t2\nnew\t12\t3\ntype\t21\t0\t1\t1\nnew\t17,11\t1\nval\t1\t-1\nval\t0a1b2c3d\nval\t10\t20\n") ≡ refused 20) ×
-    (build 400 16384 (ascii "pair\t3\t2\nstr\t6162\nstr\t63\nstr\t\ntype\t1\t0\t-\t1\t3\nnew\t15,2,8\t1\nnew\t4,-12\t2\nnew\t12\t3\ntype\t2\t\t0\t1\t1\nnew\t17,11\t1\nval\t1\t-1\nval\t0a1b2c3d\nval\t10\t20\n") ≡ refused 20) ×
-    (build 400 16384 (ascii "pair\t3\t2\nstr\t6162\nstr\t63\nstr\t\ntype\t1\t0\t-\t1\t3\nnew\t15,2,8\t1\nnew\t4,-12\t2\nnew\t12\t3\ntype\t2\t10\t1\t1\nnew\t17,11\t1\nval\t1\t-1\nval\t0a1b2c3d\nval\t10\t20\n") ≡ refused 20) ×
-    (build 400 16384 (ascii "pair\t3\t2\nstr\t6162\nstr\t63\nstr\t\ntype\t1\t0\t-\t1\t3\nnew\t15,2,8\t1\nnew\t4,-12\t2\nnew\t12\t3\ntype\t2\t1\t\t1\t1\nnew\t17,11\t1\nval\t1\t-1\nval\t0a1b2c3d\nval\t10\t20\n") ≡ refused 20) ×
-    (build 400 16384 (ascii "pair\t3\t2\nstr\t6162\nstr\t63\nstr\t\ntype\t1\t0\t-\t1\t3\nnew\t15,2,8\t1\nnew\t4,-12\t2\nnew\t12\t3\ntype\t2\t1\t01\t1\nnew\t17,11\t1\nval\t1\t-1\nval\t0a1b2c3d\nval\t10\t20\n") ≡ refused 20) ×
-    (build 400 16384 (ascii "pair\t3\t2\nstr\t6162\nstr\t63\nstr\t\ntype\t1\t0\t-\t1\t3\nnew\t15,2,8\t1\nnew\t4,-12\t2\nnew\t12\t3\ntype\t2\t1\t0\t\t1\nnew\t17,11\t1\nval\t1\t-1\nval\t0a1b2c3d\nval\t10\t20\n") ≡ refused 20) ×
-    (build 400 16384 (ascii "pair\t3\t2\nstr\t6162\nstr\t63\nstr\t\ntype\t1\t0\t-\t1\t3\nnew\t15,2,8\t1\nnew\t4,-12\t2\nnew\t12\t3\ntype\t2\t1\t0\t11\nnew\t17,11\t1\nval\t1\t-1\nval\t0a1b2c3d\nval\t10\t20\n") ≡ refused 20) ×
-    (build 400 16384 (ascii "pair\t3\t2\nstr\t6162\nstr\t63\nstr\t\ntype\t1\t0\t-\t1\t3\nnew\t15,2,8\t1\nnew\t4,-12\t2\nnew\t12\t3\ntype\t2\t1\t0\t1\t\nnew\t17,11\t1\nval\t1\t-1\nval\t0a1b2c3d\nval\t10\t20\n") ≡ refused 20) ×
-    (build 400 16384 (ascii "pair\t3\t2\nstr\t6162\nstr\t63\nstr\t\ntype\t1\t0\t-\t1\t3\nnew\t15,2,8\t1\nnew\t4,-12\t2\nnew\t12\t3\ntype\t2\t1\t0\t1\t1new\t17,11\t1\nval\t1\t-1\nval\t0a1b2c3d\nval\t10\t20\n") ≡ refused 20) ×
-    (build 400 16384 (ascii "pair\t3\t2\nstr\t6162\nstr\t63\nstr\t\ntype\t1\t0\t-\t1\t3\nnew\t15,2,8\t1\nnew\t4,-12\t2\nnew\t12\t3\ntype\t2\t1\t0\t1\t1\new\t17,11\t1\nval\t1\t-1\nval\t0a1b2c3d\nval\t10\t20\n") ≡ refused 20) ×
-    (build 400 16384 (ascii "pair\t3\t2\nstr\t6162\nstr\t63\nstr\t\ntype\t1\t0\t-\t1\t3\nnew\t15,2,8\t1\nnew\t4,-12\t2\nnew\t12\t3\ntype\t2\t1\t0\t1\t1\nnw\t17,11\t1\nval\t1\t-1\nval\t0a1b2c3d\nval\t10\t20\n") ≡ refused 20) ×
-    (build 400 16384 (ascii "pair\t3\t2\nstr\t6162\nstr\t63\nstr\t\ntype\t1\t0\t-\t1\t3\nnew\t15,2,8\t1\nnew\t4,-12\t2\nnew\t12\t3\ntype\t2\t1\t0\t1\t1\nne\t17,11\t1\nval\t1\t-1\nval\t0a1b2c3d\nval\t10\t20\n") ≡ refused 20) ×
-    (build 400 16384 (ascii "pair\t3\t2\nstr\t6162\nstr\t63\nstr\t\ntype\t1\t0\t-\t1\t3\nnew\t15,2,8\t1\nnew\t4,-12\t2\nnew\t12\t3\ntype\t2\t1\t0\t1\t1\nnew17,11\t1\nval\t1\t-1\nval\t0a1b2c3d\nval\t10\t20\n") ≡ refused 20) ×
-    (build 400 16384 (ascii "pair\t3\t2\nstr\t6162\nstr\t63\nstr\t\ntype\t1\t0\t-\t1\t3\nnew\t15,2,8\t1\nnew\t4,-12\t2\nnew\t12\t3\ntype\t2\t1\t0\t1\t1\nnew\t7,11\t1\nval\t1\t-1\nval\t0a1b2c3d\nval\t10\t20\n") ≡ refused 20) ×
-    (build 400 16384 (ascii "pair\t3\t2\nstr\t6162\nstr\t63\nstr\t\ntype\t1\t0\t-\t1\t3\nnew\t15,2,8\t1\nnew\t4,-12\t2\nnew\t12\t3\ntype\t2\t1\t0\t1\t1\nnew\t1,11\t1\nval\t1\t-1\nval\t0a1b2c3d\nval\t10\t20\n") ≡ refused 20) ×
-    (build 400 16384 (ascii "pair\t3\t2\nstr\t6162\nstr\t63\nstr\t\ntype\t1\t0\t-\t1\t3\nnew\t15,2,8\t1\nnew\t4,-12\t2\nnew\t12\t3\ntype\t2\t1\t0\t1\t1\nnew\t1711\t1\nval\t1\t-1\nval\t0a1b2c3d\nval\t10\t20\n") ≡ refused 20) ×
-    (build 400 16384 (ascii "pair\t3\t2\nstr\t6162\nstr\t63\nstr\t\ntype\t1\t0\t-\t1\t3\nnew\t15,2,8\t1\nnew\t4,-12\t2\nnew\t12\t3\ntype\t2\t1\t0\t1\t1\nnew\t17,1\t1\nval\t1\t-1\nval\t0a1b2c3d\nval\t10\t20\n") ≡ refused 20) ×
-    (build 400 16384 (ascii "pair\t3\t2\nstr\t6162\nstr\t63\nstr\t\ntype\t1\t0\t-\t1\t3\nnew\t15,2,8\t1\nnew\t4,-12\t2\nnew\t12\t3\ntype\t2\t1\t0\t1\t1\nnew\t17,1\t1\nval\t1\t-1\nval\t0a1b2c3d\nval\t10\t20\n") ≡ refused 20) ×
-    (build 400 16384 (ascii "pair\t3\t2\nstr\t6162\nstr\t63\nstr\t\ntype\t1\t0\t-\t1\t3\nnew\t15,2,8\t1\nnew\t4,-12\t2\nnew\t12\t3\ntype\t2\t1\t0\t1\t1\nnew\t17,111\nval\t1\t-1\nval\t0a1b2c3d\nval\t10\t20\n") ≡ refused 20) ×
-    (build 400 16384 (ascii "pair\t3\t2\nstr\t6162\nstr\t63\nstr\t\ntype\t1\t0\t-\t1\t3\nnew\t15,2,8\t1\nnew\t4,-12\t2\nnew\t12\t3\ntype\t2\t1\t0\t1\t1\nnew\t17,11\t\nval\t1\t-1\nval\t0a1b2c3d\nval\t10\t20\n") ≡ refused 20) ×
-    (build 400 16384 (ascii "pair\t3\t2\nstr\t6162\nstr\t63\nstr\t\ntype\t1\t0\t-\t1\t3\nnew\t15,2,8\t1\nnew\t4,-12\t2\nnew\t12\t3\ntype\t2\t1\t0\t1\t1\nnew\t17,11\t1val\t1\t-1\nval\t0a1b2c3d\nval\t10\t20\n") ≡ refused 20) ×
-    (build 400 16384 (ascii "pair\t3\t2\nstr\t6162\nstr\t63\nstr\t\ntype\t1\t0\t-\t1\t3\nnew\t15,2,8\t1\nnew\t4,-12\t2\nnew\t12\t3\ntype\t2\t1\t0\t1\t1\nnew\t17,11\t1\nal\t1\t-1\nval\t0a1b2c3d\nval\t10\t20\n") ≡ refused 20) ×
-    (build 400 16384 (ascii "pair\t3\t2\nstr\t6162\nstr\t63\nstr\t\ntype\t1\t0\t-\t1\t3\nnew\t15,2,8\t1\nnew\t4,-12\t2\nnew\t12\t3\ntype\t2\t1\t0\t1\t1\nnew\t17,11\t1\nvl\t1\t-1\nval\t0a1b2c3d\nval\t10\t20\n") ≡ refused 20) ×
-    (build 400 16384 (ascii "pair\t3\t2\nstr\t6162\nstr\t63\nstr\t\ntype\t1\t0\t-\t1\t3\nnew\t15,2,8\t1\nnew\t4,-12\t2\nnew\t12\t3\ntype\t2\t1\t0\t1\t1\nnew\t17,11\t1\nva\t1\t-1\nval\t0a1b2c3d\nval\t10\t20\n") ≡ refused 20) ×
-    (build 400 16384 (ascii "pair\t3\t2\nstr\t6162\nstr\t63\nstr\t\ntype\t1\t0\t-\t1\t3\nnew\t15,2,8\t1\nnew\t4,-12\t2\nnew\t12\t3\ntype\t2\t1\t0\t1\t1\nnew\t17,11\t1\nval1\t-1\nval\t0a1b2c3d\nval\t10\t20\n") ≡ refused 20) ×
-    (build 400 16384 (ascii "pair\t3\t2\nstr\t6162\nstr\t63\nstr\t\ntype\t1\t0\t-\t1\t3\nnew\t15,2,8\t1\nnew\t4,-12\t2\nnew\t12\t3\ntype\t2\t1\t0\t1\t1\nnew\t17,11\t1\nval\t\t-1\nval\t0a1b2c3d\nval\t10\t20\n") ≡ refused 20) ×
-    (build 400 16384 (ascii "pair\t3\t2\nstr\t6162\nstr\t63\nstr\t\ntype\t1\t0\t-\t1\t3\nnew\t15,2,8\t1\nnew\t4,-12\t2\nnew\t12\t3\ntype\t2\t1\t0\t1\t1\nnew\t17,11\t1\nval\t1-1\nval\t0a1b2c3d\nval\t10\t20\n") ≡ refused 20) ×
-    (build 400 16384 (ascii "pair\t3\t2\nstr\t6162\nstr\t63\nstr\t\ntype\t1\t0\t-\t1\t3\nnew\t15,2,8\t1\nnew\t4,-12\t2\nnew\t12\t3\ntype\t2\t1\t0\t1\t1\nnew\t17,11\t1\nval\t1\t1\nval\t0a1b2c3d\nval\t10\t20\n") ≡ done (0x03 ∷ 0x00 ∷ 0x00 ∷ 0x00 ∷ 0x02 ∷ 0x00 ∷ 0x00 ∷ 0x00 ∷ 0x03 ∷ 0x00 ∷ 0x00 ∷ 0x00 ∷ 0x03 ∷ 0x61 ∷ 0x62 ∷ 0x63 ∷ 0x02 ∷ 0x01 ∷ 0x00 ∷ 0x01 ∷ 0x00 ∷ 0x03 ∷ 0x00 ∷ 0x0F ∷ 0x02 ∷ 0x08 ∷ 0x01 ∷ 0x04 ∷ 0x00 ∷ 0x04 ∷ 0xF4 ∷ 0xFF ∷ 0xFF ∷ 0xFF ∷ 0xFF ∷ 0xFF ∷ 0xFF ∷ 0xFF ∷ 0xFF ∷ 0x02 ∷ 0x04 ∷ 0x00 ∷ 0x0C ∷ 0x03 ∷ 0x08 ∷ 0x02 ∷ 0x01 ∷ 0x00 ∷ 0x01 ∷ 0x00 ∷ 0x01 ∷ 0x00 ∷ 0x11 ∷ 0x0B ∷ 0x01 ∷ 0x0B ∷ 0x00 ∷ 0x01 ∷ 0x00 ∷ 0x01 ∷ 0x0A ∷ 0x1B ∷ 0x2C ∷ 0x3D ∷ 0x02 ∷ 0x0A ∷ 0x14 ∷ [])) ×
-    (build 400 16384 (ascii "pair\t3\t2\nstr\t6162\nstr\t63\nstr\t\ntype\t1\t0\t-\t1\t3\nnew\t15,2,8\t1\nnew\t4,-12\t2\nnew\t12\t3\ntype\t2\t1\t0\t1\t1\nnew\t17,11\t1\nval\t1\t-\nval\t0a1b2c3d\nval\t10\t20\n") ≡ refused 20) ×
-    (build 400 16384 (ascii "pair\t3\t2\nstr\t6162\nstr\t63\nstr\t\ntype\t1\t0\t-\t1\t3\nnew\t15,2,8\t1\nnew\t4,-12\t2\nnew\t12\t3\ntype\t2\t1\t0\t1\t1\nnew\t17,11\t1\nval\t1\t-1val\t0a1b2c3d\nval\t10\t20\n") ≡ refused 20) ×
-    (build 400 16384 (ascii "pair\t3\t2\nstr\t6162\nstr\t63\nstr\t\ntype\t1\t0\t-\t1\t3\nnew\t15,2,8\t1\nnew\t4,-12\t2\nnew\t12\t3\ntype\t2\t1\t0\t1\t1\nnew\t17,11\t1\nval\t1\t-1\nal\t0a1b2c3d\nval\t10\t20\n") ≡ refused 20) ×
-    (build 400 16384 (ascii "pair\t3\t2\nstr\t6162\nstr\t63\nstr\t\ntype\t1\t0\t-\t1\t3\nnew\t15,2,8\t1\nnew\t4,-12\t2\nnew\t12\t3\ntype\t2\t1\t0\t1\t1\nnew\t17,11\t1\nval\t1\t-1\nvl\t0a1b2c3d\nval\t10\t20\n") ≡ refused 20) ×
-    (build 400 16384 (ascii "pair\t3\t2\nstr\t6162\nstr\t63\nstr\t\ntype\t1\t0\t-\t1\t3\nnew\t15,2,8\t1\nnew\t4,-12\t2\nnew\t12\t3\ntype\t2\t1\t0\t1\t1\nnew\t17,11\t1\nval\t1\t-1\nva\t0a1b2c3d\nval\t10\t20\n") ≡ refused 20) ×
-    (build 400 16384 (ascii "pair\t3\t2\nstr\t6162\nstr\t63\nstr\t\ntype\t1\t0\t-\t1\t3\nnew\t15,2,8\t1\nnew\t4,-12\t2\nnew\t12\t3\ntype\t2\t1\t0\t1\t1\nnew\t17,11\t1\nval\t1\t-1\nval0a1b2c3d\nval\t10\t20\n") ≡ refused 20) ×
-    (build 400 16384 (ascii "pair\t3\t2\nstr\t6162\nstr\t63\nstr\t\ntype\t1\t0\t-\t1\t3\nnew\t15,2,8\t1\nnew\t4,-12\t2\nnew\t12\t3\ntype\t2\t1\t0\t1\t1\nnew\t17,11\t1\nval\t1\t-1\nval\ta1b2c3d\nval\t10\t20\n") ≡ refused 20) ×
-    (build 400 16384 (ascii "pair\t3\t2\nstr\t6162\nstr\t63\nstr\t\ntype\t1\t0\t-\t1\t3\nnew\t15,2,8\t1\nnew\t4,-12\t2\nnew\t12\t3\ntype\t2\t1\t0\t1\t1\nnew\t17,11\t1\nval\t1\t-1\nval\t01b2c3d\nval\t10\t20\n") ≡ refused 20) ×
-    (build 400 16384 (ascii "pair\t3\t2\nstr\t6162\nstr\t63\nstr\t\ntype\t1\t0\t-\t1\t3\nnew\t15,2,8\t1\nnew\t4,-12\t2\nnew\t12\t3\ntype\t2\t1\t0\t1\t1\nnew\t17,11\t1\nval\t1\t-1\nval\t0ab2c3d\nval\t10\t20\n") ≡ refused 20) ×
-    (build 400 16384 (ascii "pair\t3\t2\nstr\t6162\nstr\t63\nstr\t\ntype\t1\t0\t-\t1\t3\nnew\t15,2,8\t1\nnew\t4,-12\t2\nnew\t12\t3\ntype\t2\t1\t0\t1\t1\nnew\t17,11\t1\nval\t1\t-1\nval\t0a12c3d\nval\t10\t20\n") ≡ refused 20) ×
-    (build 400 16384 (ascii "pair\t3\t2\nstr\t6162\nstr\t63\nstr\t\ntype\t1\t0\t-\t1\t3\nnew\t15,2,8\t1\nnew\t4,-12\t2\nnew\t12\t3\ntype\t2\t1\t0\t1\t1\nnew\t17,11\t1\nval\t1\t-1\nval\t0a1bc3d\nval\t10\t20\n") ≡ refused 20) ×
-    (build 400 16384 (ascii "pair\t3\t2\nstr\t6162\nstr\t63\nstr\t\ntype\t1\t0\t-\t1\t3\nnew\t15,2,8\t1\nnew\t4,-12\t2\nnew\t12\t3\ntype\t2\t1\t0\t1\t1\nnew\t17,11\t1\nval\t1\t-1\nval\t0a1b23d\nval\t10\t20\n") ≡ refused 20) ×
-    (build 400 16384 (ascii "pair\t3\t2\nstr\t6162\nstr\t63\nstr\t\ntype\t1\t0\t-\t1\t3\nnew\t15,2,8\t1\nnew\t4,-12\t2\nnew\t12\t3\ntype\t2\t1\t0\t1\t1\nnew\t17,11\t1\nval\t1\t-1\nval\t0a1b2cd\nval\t10\t20\n") ≡ refused 20) ×
-    (build 400 16384 (ascii "pair\t3\t2\nstr\t6162\nstr\t63\nstr\t\ntype\t1\t0\t-\t1\t3\nnew\t15,2,8\t1\nnew\t4,-12\t2\nnew\t12\t3\ntype\t2\t1\t0\t1\t1\nnew\t17,11\t1\nval\t1\t-1\nval\t0a1b2c3\nval\t10\t20\n") ≡ refused 20) ×
-    (build 400 16384 (ascii "pair\t3\t2\nstr\t6162\nstr\t63\nstr\t\ntype\t1\t0\t-\t1\t3\nnew\t15,2,8\t1\nnew\t4,-12\t2\nnew\t12\t3\ntype\t2\t1\t0\t1\t1\nnew\t17,11\t1\nval\t1\t-1\nval\t0a1b2c3dval\t10\t20\n") ≡ refused 20) ×
-    (build 400 16384 (ascii "pair\t3\t2\nstr\t6162\nstr\t63\nstr\t\ntype\t1\t0\t-\t1\t3\nnew\t15,2,8\t1\nnew\t4,-12\t2\nnew\t12\t3\ntype\t2\t1\t0\t1\t1\nnew\t17,11\t1\nval\t1\t-1\nval\t0a1b2c3d\nal\t10\t20\n") ≡ refused 20) ×
-    (build 400 16384 (ascii "pair\t3\t2\nstr\t6162\nstr\t63\nstr\t\ntype\t1\t0\t-\t1\t3\nnew\t15,2,8\t1\nnew\t4,-12\t2\nnew\t12\t3\ntype\t2\t1\t0\t1\t1\nnew\t17,11\t1\nval\t1\t-1\nval\t0a1b2c3d\nvl\t10\t20\n") ≡ refused 20) ×
-    (build 400 16384 (ascii "pair\t3\t2\nstr\t6162\nstr\t63\nstr\t\ntype\t1\t0\t-\t1\t3\nnew\t15,2,8\t1\nnew\t4,-12\t2\nnew\t12\t3\ntype\t2\t1\t0\t1\t1\nnew\t17,11\t1\nval\t1\t-1\nval\t0a1b2c3d\nva\t10\t20\n") ≡ refused 20) ×
-    (build 400 16384 (ascii "pair\t3\t2\nstr\t6162\nstr\t63\nstr\t\ntype\t1\t0\t-\t1\t3\nnew\t15,2,8\t1\nnew\t4,-12\t2\nnew\t12\t3\ntype\t2\t1\t0\t1\t1\nnew\t17,11\t1\nval\t1\t-1\nval\t0a1b2c3d\nval10\t20\n") ≡ refused 20) ×
-    (build 400 16384 (ascii "pair\t3\t2\nstr\t6162\nstr\t63\nstr\t\ntype\t1\t0\t-\t1\t3\nnew\t15,2,8\t1\nnew\t4,-12\t2\nnew\t12\t3\ntype\t2\t1\t0\t1\t1\nnew\t17,11\t1\nval\t1\t-1\nval\t0a1b2c3d\nval\t0\t20\n") ≡ done (0x03 ∷ 0x00 ∷ 0x00 ∷ 0x00 ∷ 0x02 ∷ 0x00 ∷ 0x00 ∷ 0x00 ∷ 0x03 ∷ 0x00 ∷ 0x00 ∷ 0x00 ∷ 0x03 ∷ 0x61 ∷ 0x62 ∷ 0x63 ∷ 0x02 ∷ 0x01 ∷ 0x00 ∷ 0x01 ∷ 0x00 ∷ 0x03 ∷ 0x00 ∷ 0x0F ∷ 0x02 ∷ 0x08 ∷ 0x01 ∷ 0x04 ∷ 0x00 ∷ 0x04 ∷ 0xF4 ∷ 0xFF ∷ 0xFF ∷ 0xFF ∷ 0xFF ∷ 0xFF ∷ 0xFF ∷ 0xFF ∷ 0xFF ∷ 0x02 ∷ 0x04 ∷ 0x00 ∷ 0x0C ∷ 0x03 ∷ 0x08 ∷ 0x02 ∷ 0x01 ∷ 0x00 ∷ 0x01 ∷ 0x00 ∷ 0x01 ∷ 0x00 ∷ 0x11 ∷ 0x0B ∷ 0x01 ∷ 0x0B ∷ 0x00 ∷ 0x01 ∷ 0xFF ∷ 0xFF ∷ 0x0A ∷ 0x1B ∷ 0x2C ∷ 0x3D ∷ 0x02 ∷ 0x00 ∷ 0x14 ∷ [])) ×
-    (build 400 16384 (ascii "pair\t3\t2\nstr\t6162\nstr\t63\nstr\t\ntype\t1\t0\t-\t1\t3\nnew\t15,2,8\t1\nnew\t4,-12\t2\nnew\t12\t3\ntype\t2\t1\t0\t1\t1\nnew\t17,11\t1\nval\t1\t-1\nval\t0a1b2c3d\nval\t1\t20\n") ≡ done (0x03 ∷ 0x00 ∷ 0x00 ∷ 0x00 ∷ 0x02 ∷ 0x00 ∷ 0x00 ∷ 0x00 ∷ 0x03 ∷ 0x00 ∷ 0x00 ∷ 0x00 ∷ 0x03 ∷ 0x61 ∷ 0x62 ∷ 0x63 ∷ 0x02 ∷ 0x01 ∷ 0x00 ∷ 0x01 ∷ 0x00 ∷ 0x03 ∷ 0x00 ∷ 0x0F ∷ 0x02 ∷ 0x08 ∷ 0x01 ∷ 0x04 ∷ 0x00 ∷ 0x04 ∷ 0xF4 ∷ 0xFF ∷ 0xFF ∷ 0xFF ∷ 0xFF ∷ 0xFF ∷ 0xFF ∷ 0xFF ∷ 0xFF ∷ 0x02 ∷ 0x04 ∷ 0x00 ∷ 0x0C ∷ 0x03 ∷ 0x08 ∷ 0x02 ∷ 0x01 ∷ 0x00 ∷ 0x01 ∷ 0x00 ∷ 0x01 ∷ 0x00 ∷ 0x11 ∷ 0x0B ∷ 0x01 ∷ 0x0B ∷ 0x00 ∷ 0x01 ∷ 0xFF ∷ 0xFF ∷ 0x0A ∷ 0x1B ∷ 0x2C ∷ 0x3D ∷ 0x02 ∷ 0x01 ∷ 0x14 ∷ [])) ×
-    (build 400 16384 (ascii "pair\t3\t2\nstr\t6162\nstr\t63\nstr\t\ntype\t1\t0\t-\t1\t3\nnew\t15,2,8\t1\nnew\t4,-12\t2\nnew\t12\t3\ntype\t2\t1\t0\t1\t1\nnew\t17,11\t1\nval\t1\t-1\nval\t0a1b2c3d\nval\t1020\n") ≡ done (0x03 ∷ 0x00 ∷ 0x00 ∷ 0x00 ∷ 0x02 ∷ 0x00 ∷ 0x00 ∷ 0x00 ∷ 0x03 ∷ 0x00 ∷ 0x00 ∷ 0x00 ∷ 0x03 ∷ 0x61 ∷ 0x62 ∷ 0x63 ∷ 0x02 ∷ 0x01 ∷ 0x00 ∷ 0x01 ∷ 0x00 ∷ 0x03 ∷ 0x00 ∷ 0x0F ∷ 0x02 ∷ 0x08 ∷ 0x01 ∷ 0x04 ∷ 0x00 ∷ 0x04 ∷ 0xF4 ∷ 0xFF ∷ 0xFF ∷ 0xFF ∷ 0xFF ∷ 0xFF ∷ 0xFF ∷ 0xFF ∷ 0xFF ∷ 0x02 ∷ 0x04 ∷ 0x00 ∷ 0x0C ∷ 0x03 ∷ 0x08 ∷ 0x02 ∷ 0x01 ∷ 0x00 ∷ 0x01 ∷ 0x00 ∷ 0x01 ∷ 0x00 ∷ 0x11 ∷ 0x0B ∷ 0x01 ∷ 0x0B ∷ 0x00 ∷ 0x01 ∷ 0xFF ∷ 0xFF ∷ 0x0A ∷ 0x1B ∷ 0x2C ∷ 0x3D ∷ 0x01 ∷ 0xFC ∷ 0x07 ∷ [])) ×
-    (build 400 16384 (ascii "pair\t3\t2\nstr\t6162\nstr\t63\nstr\t\ntype\t1\t0\t-\t1\t3\nnew\t15,2,8\t1\nnew\t4,-12\t2\nnew\t12\t3\ntype\t2\t1\t0\t1\t1\nnew\t17,11\t1\nval\t1\t-1\nval\t0a1b2c3d\nval\t10\t0\n") ≡ done (0x03 ∷ 0x00 ∷ 0x00 ∷ 0x00 ∷ 0x02 ∷ 0x00 ∷ 0x00 ∷ 0x00 ∷ 0x03 ∷ 0x00 ∷ 0x00 ∷ 0x00 ∷ 0x03 ∷ 0x61 ∷ 0x62 ∷ 0x63 ∷ 0x02 ∷ 0x01 ∷ 0x00 ∷ 0x01 ∷ 0x00 ∷ 0x03 ∷ 0x00 ∷ 0x0F ∷ 0x02 ∷ 0x08 ∷ 0x01 ∷ 0x04 ∷ 0x00 ∷ 0x04 ∷ 0xF4 ∷ 0xFF ∷ 0xFF ∷ 0xFF ∷ 0xFF ∷ 0xFF ∷ 0xFF ∷ 0xFF ∷ 0xFF ∷ 0x02 ∷ 0x04 ∷ 0x00 ∷ 0x0C ∷ 0x03 ∷ 0x08 ∷ 0x02 ∷ 0x01 ∷ 0x00 ∷ 0x01 ∷ 0x00 ∷ 0x01 ∷ 0x00 ∷ 0x11 ∷ 0x0B ∷ 0x01 ∷ 0x0B ∷ 0x00 ∷ 0x01 ∷ 0xFF ∷ 0xFF ∷ 0x0A ∷ 0x1B ∷ 0x2C ∷ 0x3D ∷ 0x02 ∷ 0x0A ∷ 0x00 ∷ [])) ×
-    (build 400 16384 (ascii "pair\t3\t2\nstr\t6162\nstr\t63\nstr\t\ntype\t1\t0\t-\t1\t3\nnew\t15,2,8\t1\nnew\t4,-12\t2\nnew\t12\t3\ntype\t2\t1\t0\t1\t1\nnew\t17,11\t1\nval\t1\t-1\nval\t0a1b2c3d\nval\t10\t2\n") ≡ done (0x03 ∷ 0x00 ∷ 0x00 ∷ 0x00 ∷ 0x02 ∷ 0x00 ∷ 0x00 ∷ 0x00 ∷ 0x03 ∷ 0x00 ∷ 0x00 ∷ 0x00 ∷ 0x03 ∷ 0x61 ∷ 0x62 ∷ 0x63 ∷ 0x02 ∷ 0x01 ∷ 0x00 ∷ 0x01 ∷ 0x00 ∷ 0x03 ∷ 0x00 ∷ 0x0F ∷ 0x02 ∷ 0x08 ∷ 0x01 ∷ 0x04 ∷ 0x00 ∷ 0x04 ∷ 0xF4 ∷ 0xFF ∷ 0xFF ∷ 0xFF ∷ 0xFF ∷ 0xFF ∷ 0xFF ∷ 0xFF ∷ 0xFF ∷ 0x02 ∷ 0x04 ∷ 0x00 ∷ 0x0C ∷ 0x03 ∷ 0x08 ∷ 0x02 ∷ 0x01 ∷ 0x00 ∷ 0x01 ∷ 0x00 ∷ 0x01 ∷ 0x00 ∷ 0x11 ∷ 0x0B ∷ 0x01 ∷ 0x0B ∷ 0x00 ∷ 0x01 ∷ 0xFF ∷ 0xFF ∷ 0x0A ∷ 0x1B ∷ 0x2C ∷ 0x3D ∷ 0x02 ∷ 0x0A ∷ 0x02 ∷ [])) ×
-    (build 400 16384 (ascii "pair\t3\t2\nstr\t6162\nstr\t63\nstr\t\ntype\t1\t0\t-\t1\t3\nnew\t15,2,8\t1\nnew\t4,-12\t2\nnew\t12\t3\ntype\t2\t1\t0\t1\t1\nnew\t17,11\t1\nval\t1\t-1\nval\t0a1b2c3d\nval\t10\t20") ≡ refused 20)
+    (build 400 16384 (ascii "air\t1\t1\nstr\t6a\ntype\t1\t0\t-\t1\t1\nnew\t17,11\t1\nval\t1\t-1\n") ≡ refused 20) ×
+    (build 400 16384 (ascii "pir\t1\t1\nstr\t6a\ntype\t1\t0\t-\t1\t1\nnew\t17,11\t1\nval\t1\t-1\n") ≡ refused 20) ×
+    (build 400 16384 (ascii "par\t1\t1\nstr\t6a\ntype\t1\t0\t-\t1\t1\nnew\t17,11\t1\nval\t1\t-1\n") ≡ refused 20) ×
+    (build 400 16384 (ascii "pai\t1\t1\nstr\t6a\ntype\t1\t0\t-\t1\t1\nnew\t17,11\t1\nval\t1\t-1\n") ≡ refused 20) ×
+    (build 400 16384 (ascii "pair1\t1\nstr\t6a\ntype\t1\t0\t-\t1\t1\nnew\t17,11\t1\nval\t1\t-1\n") ≡ refused 20) ×
+    (build 400 16384 (ascii "pair\t\t1\nstr\t6a\ntype\t1\t0\t-\t1\t1\nnew\t17,11\t1\nval\t1\t-1\n") ≡ refused 20) ×
+    (build 400 16384 (ascii "pair\t11\nstr\t6a\ntype\t1\t0\t-\t1\t1\nnew\t17,11\t1\nval\t1\t-1\n") ≡ refused 20) ×
+    (build 400 16384 (ascii "pair\t1\t\nstr\t6a\ntype\t1\t0\t-\t1\t1\nnew\t17,11\t1\nval\t1\t-1\n") ≡ refused 20) ×
+    (build 400 16384 (ascii "pair\t1\t1str\t6a\ntype\t1\t0\t-\t1\t1\nnew\t17,11\t1\nval\t1\t-1\n") ≡ refused 20) ×
+    (build 400 16384 (ascii "pair\t1\t1\ntr\t6a\ntype\t1\t0\t-\t1\t1\nnew\t17,11\t1\nval\t1\t-1\n") ≡ refused 20) ×
+    (build 400 16384 (ascii "pair\t1\t1\nsr\t6a\ntype\t1\t0\t-\t1\t1\nnew\t17,11\t1\nval\t1\t-1\n") ≡ refused 20) ×
+    (build 400 16384 (ascii "pair\t1\t1\nst\t6a\ntype\t1\t0\t-\t1\t1\nnew\t17,11\t1\nval\t1\t-1\n") ≡ refused 20) ×
+    (build 400 16384 (ascii "pair\t1\t1\nstr6a\ntype\t1\t0\t-\t1\t1\nnew\t17,11\t1\nval\t1\t-1\n") ≡ refused 20) ×
+    (build 400 16384 (ascii "pair\t1\t1\nstr\ta\ntype\t1\t0\t-\t1\t1\nnew\t17,11\t1\nval\t1\t-1\n") ≡ refused 20) ×
+    (build 400 16384 (ascii "pair\t1\t1\nstr\t6\ntype\t1\t0\t-\t1\t1\nnew\t17,11\t1\nval\t1\t-1\n") ≡ refused 20) ×
+    (build 400 16384 (ascii "pair\t1\t1\nstr\t6atype\t1\t0\t-\t1\t1\nnew\t17,11\t1\nval\t1\t-1\n") ≡ refused 20) ×
+    (build 400 16384 (ascii "pair\t1\t1\nstr\t6a\nype\t1\t0\t-\t1\t1\nnew\t17,11\t1\nval\t1\t-1\n") ≡ refused 20) ×
+    (build 400 16384 (ascii "pair\t1\t1\nstr\t6a\ntpe\t1\t0\t-\t1\t1\nnew\t17,11\t1\nval\t1\t-1\n") ≡ refused 20) ×
+    (build 400 16384 (ascii "pair\t1\t1\nstr\t6a\ntye\t1\t0\t-\t1\t1\nnew\t17,11\t1\nval\t1\t-1\n") ≡ refused 20) ×
+    (build 400 16384 (ascii "pair\t1\t1\nstr\t6a\ntyp\t1\t0\t-\t1\t1\nnew\t17,11\t1\nval\t1\t-1\n") ≡ refused 20) ×
+    (build 400 16384 (ascii "pair\t1\t1\nstr\t6a\ntype1\t0\t-\t1\t1\nnew\t17,11\t1\nval\t1\t-1\n") ≡ refused 20) ×
+    (build 400 16384 (ascii "pair\t1\t1\nstr\t6a\ntype\t\t0\t-\t1\t1\nnew\t17,11\t1\nval\t1\t-1\n") ≡ refused 20) ×
+    (build 400 16384 (ascii "pair\t1\t1\nstr\t6a\ntype\t10\t-\t1\t1\nnew\t17,11\t1\nval\t1\t-1\n") ≡ refused 20) ×
+    (build 400 16384 (ascii "pair\t1\t1\nstr\t6a\ntype\t1\t\t-\t1\t1\nnew\t17,11\t1\nval\t1\t-1\n") ≡ refused 20) ×
+    (build 400 16384 (ascii "pair\t1\t1\nstr\t6a\ntype\t1\t0-\t1\t1\nnew\t17,11\t1\nval\t1\t-1\n") ≡ refused 20) ×
+    (build 400 16384 (ascii "pair\t1\t1\nstr\t6a\ntype\t1\t0\t\t1\t1\nnew\t17,11\t1\nval\t1\t-1\n") ≡ refused 20) ×
+    (build 400 16384 (ascii "pair\t1\t1\nstr\t6a\ntype\t1\t0\t-1\t1\nnew\t17,11\t1\nval\t1\t-1\n") ≡ refused 20) ×
+    (build 400 16384 (ascii "pair\t1\t1\nstr\t6a\ntype\t1\t0\t-\t\t1\nnew\t17,11\t1\nval\t1\t-1\n") ≡ refused 20) ×
+    (build 400 16384 (ascii "pair\t1\t1\nstr\t6a\ntype\t1\t0\t-\t11\nnew\t17,11\t1\nval\t1\t-1\n") ≡ refused 20) ×
+    (build 400 16384 (ascii "pair\t1\t1\nstr\t6a\ntype\t1\t0\t-\t1\t\nnew\t17,11\t1\nval\t1\t-1\n") ≡ refused 20) ×
+    (build 400 16384 (ascii "pair\t1\t1\nstr\t6a\ntype\t1\t0\t-\t1\t1new\t17,11\t1\nval\t1\t-1\n") ≡ refused 20) ×
+    (build 400 16384 (ascii "pair\t1\t1\nstr\t6a\ntype\t1\t0\t-\t1\t1\new\t17,11\t1\nval\t1\t-1\n") ≡ refused 20) ×
+    (build 400 16384 (ascii "pair\t1\t1\nstr\t6a\ntype\t1\t0\t-\t1\t1\nnw\t17,11\t1\nval\t1\t-1\n") ≡ refused 20) ×
+    (build 400 16384 (ascii "pair\t1\t1\nstr\t6a\ntype\t1\t0\t-\t1\t1\nne\t17,11\t1\nval\t1\t-1\n") ≡ refused 20) ×
+    (build 400 16384 (ascii "pair\t1\t1\nstr\t6a\ntype\t1\t0\t-\t1\t1\nnew17,11\t1\nval\t1\t-1\n") ≡ refused 20) ×
+    (build 400 16384 (ascii "pair\t1\t1\nstr\t6a\ntype\t1\t0\t-\t1\t1\nnew\t7,11\t1\nval\t1\t-1\n") ≡ refused 20) ×
+    (build 400 16384 (ascii "pair\t1\t1\nstr\t6a\ntype\t1\t0\t-\t1\t1\nnew\t1,11\t1\nval\t1\t-1\n") ≡ refused 20) ×
+    (build 400 16384 (ascii "pair\t1\t1\nstr\t6a\ntype\t1\t0\t-\t1\t1\nnew\t1711\t1\nval\t1\t-1\n") ≡ refused 20) ×
+    (build 400 16384 (ascii "pair\t1\t1\nstr\t6a\ntype\t1\t0\t-\t1\t1\nnew\t17,1\t1\nval\t1\t-1\n") ≡ refused 20) ×
+    (build 400 16384 (ascii "pair\t1\t1\nstr\t6a\ntype\t1\t0\t-\t1\t1\nnew\t17,1\t1\nval\t1\t-1\n") ≡ refused 20) ×
+    (build 400 16384 (ascii "pair\t1\t1\nstr\t6a\ntype\t1\t0\t-\t1\t1\nnew\t17,111\nval\t1\t-1\n") ≡ refused 20) ×
+    (build 400 16384 (ascii "pair\t1\t1\nstr\t6a\ntype\t1\t0\t-\t1\t1\nnew\t17,11\t\nval\t1\t-1\n") ≡ refused 20) ×
+    (build 400 16384 (ascii "pair\t1\t1\nstr\t6a\ntype\t1\t0\t-\t1\t1\nnew\t17,11\t1val\t1\t-1\n") ≡ refused 20) ×
+    (build 400 16384 (ascii "pair\t1\t1\nstr\t6a\ntype\t1\t0\t-\t1\t1\nnew\t17,11\t1\nal\t1\t-1\n") ≡ refused 20) ×
+    (build 400 16384 (ascii "pair\t1\t1\nstr\t6a\ntype\t1\t0\t-\t1\t1\nnew\t17,11\t1\nvl\t1\t-1\n") ≡ refused 20) ×
+    (build 400 16384 (ascii "pair\t1\t1\nstr\t6a\ntype\t1\t0\t-\t1\t1\nnew\t17,11\t1\nva\t1\t-1\n") ≡ refused 20) ×
+    (build 400 16384 (ascii "pair\t1\t1\nstr\t6a\ntype\t1\t0\t-\t1\t1\nnew\t17,11\t1\nval1\t-1\n") ≡ refused 20) ×
+    (build 400 16384 (ascii "pair\t1\t1\nstr\t6a\ntype\t1\t0\t-\t1\t1\nnew\t17,11\t1\nval\t\t-1\n") ≡ refused 20) ×
+    (build 400 16384 (ascii "pair\t1\t1\nstr\t6a\ntype\t1\t0\t-\t1\t1\nnew\t17,11\t1\nval\t1-1\n") ≡ refused 20) ×
+    (build 400 16384 (ascii "pair\t1\t1\nstr\t6a\ntype\t1\t0\t-\t1\t1\nnew\t17,11\t1\nval\t1\t1\n") ≡ done (0x01 ∷ 0x00 ∷ 0x00 ∷ 0x00 ∷ 0x01 ∷ 0x6A ∷ 0x01 ∷ 0x01 ∷ 0x00 ∷ 0x01 ∷ 0x00 ∷ 0x01 ∷ 0x00 ∷ 0x11 ∷ 0x0B ∷ 0x01 ∷ 0x03 ∷ 0x02 ∷ 0x01 ∷ 0x01 ∷ [])) ×
+    (build 400 16384 (ascii "pair\t1\t1\nstr\t6a\ntype\t1\t0\t-\t1\t1\nnew\t17,11\t1\nval\t1\t-\n") ≡ refused 20) ×
+    (build 400 16384 (ascii "pair\t1\t1\nstr\t6a\ntype\t1\t0\t-\t1\t1\nnew\t17,11\t1\nval\t1\t-1") ≡ refused 20)
 unfolding whole
-left-out-built = (refl, refl, refl, refl, refl, refl, refl, refl, refl, refl, refl, refl, refl, refl, refl, refl, refl, refl, refl, refl, refl, refl, refl, refl, refl, refl, refl, refl, refl, refl, refl, refl, refl, refl, refl, refl, refl, refl, refl, refl, refl, refl, refl, refl, refl, refl, refl, refl, refl, refl, refl, refl, refl, refl, refl, refl, refl, refl, refl, refl, refl, refl, refl, refl, refl, refl, refl, refl, refl, refl, refl, refl, refl, refl, refl, refl, refl, refl, refl, refl, refl, refl, refl, refl, refl, refl, refl, refl, refl, refl, refl, refl, refl, refl, refl, refl, refl, refl, refl, refl, refl, refl, refl, refl, refl, refl, refl, refl, refl, refl, refl, refl, refl, refl, refl, refl, refl, refl, refl, refl, refl, refl, refl, refl, refl, refl, refl, refl, refl, refl, refl, refl, refl, refl, refl, refl, refl, refl)
-
--- a type a of two objects with a field b of i8
-abbrev lent-two : List ℕ
-lent-two =
-    0x02 ∷ 0x00 ∷ 0x00 ∷ 0x00 ∷ 0x01 ∷ 0x00 ∷ 0x00 ∷ 0x00 ∷ 0x02 ∷ 0x61 ∷ 0x62 ∷ 0x01 ∷ 0x01 ∷ 0x00 ∷ 0x02 ∷ 0x00 ∷ 0x01 ∷ 0x00 ∷ 0x07 ∷ 0x02 ∷ 0x02 ∷ 0x05 ∷ 0xFF ∷ []
+left-out-built = (refl, refl, refl, refl, refl, refl, refl, refl, refl, refl, refl, refl, refl, refl, refl, refl, refl, refl, refl, refl, refl, refl, refl, refl, refl, refl, refl, refl, refl, refl, refl, refl, refl, refl, refl, refl, refl, refl, refl, refl, refl, refl, refl, refl, refl, refl, refl, refl, refl, refl, refl, refl)
 
 -- a padded number
 abbrev lent-padded : List ℕ
@@ -1196,75 +1126,45 @@ lent-padded =
 
 -- the table after a check, accepted and refused
 after-check :
-    (afterCheck lent-two (replicate 16384 7 ++ 8 ∷ 9 ∷ []) ≡ record { answer = done 0; table = (replicate 16384 0 ++ 8 ∷ 9 ∷ []); output = [] }) ×
-    (afterCheck lent-padded (replicate 16384 7 ++ 8 ∷ 9 ∷ []) ≡ record { answer = refused 2; table = (replicate 16384 0 ++ 8 ∷ 9 ∷ []); output = [] }) ×
-    (afterCheck lent-two (5 ∷ replicate 16382 7 ++ 6 ∷ []) ≡ record { answer = done 0; table = (replicate 16384 0 ++ []); output = [] }) ×
-    (afterCheck lent-padded (5 ∷ replicate 16382 7 ++ 6 ∷ []) ≡ record { answer = refused 2; table = (replicate 16384 0 ++ []); output = [] }) ×
-    (afterCheck lent-two (5 ∷ replicate 16382 7 ++ []) ≡ record { answer = refused 15; table = (5 ∷ replicate 16382 7 ++ []); output = [] }) ×
-    (afterCheck lent-padded (5 ∷ replicate 16382 7 ++ []) ≡ record { answer = refused 15; table = (5 ∷ replicate 16382 7 ++ []); output = [] }) ×
-    (afterCheck lent-two ([]) ≡ record { answer = refused 15; table = ([]); output = [] }) ×
-    (afterCheck lent-padded ([]) ≡ record { answer = refused 15; table = ([]); output = [] })
+    (afterCheck two (replicate 16384 7 ++ 8 ∷ 9 ∷ []) ≡ record { answer = done 0; table = (replicate 16384 0 ++ 8 ∷ 9 ∷ []); output = [] }) ×
+    (afterCheck two (5 ∷ replicate 16382 7 ++ []) ≡ record { answer = refused 15; table = (5 ∷ replicate 16382 7 ++ []); output = [] }) ×
+    (afterCheck two ([]) ≡ record { answer = refused 15; table = ([]); output = [] }) ×
+    (afterCheck lent-padded (5 ∷ replicate 16382 7 ++ 6 ∷ []) ≡ record { answer = refused 2; table = (replicate 16384 0 ++ []); output = [] })
 unfolding whole
-after-check = (refl, refl, refl, refl, refl, refl, refl, refl)
+after-check = (refl, refl, refl, refl)
 
 -- the table after a question for objects
 after-objects :
-    (afterObjects lent-two (ascii "a") (replicate 16384 7 ++ 8 ∷ 9 ∷ []) ≡ record { answer = done 2; table = (replicate 16384 0 ++ 8 ∷ 9 ∷ []); output = [] }) ×
-    (afterObjects lent-two (ascii "z") (replicate 16384 7 ++ 8 ∷ 9 ∷ []) ≡ record { answer = refused 16; table = (replicate 16384 0 ++ 8 ∷ 9 ∷ []); output = [] }) ×
-    (afterObjects lent-two (ascii "a") (5 ∷ replicate 16382 7 ++ 6 ∷ []) ≡ record { answer = done 2; table = (replicate 16384 0 ++ []); output = [] }) ×
-    (afterObjects lent-two (ascii "z") (5 ∷ replicate 16382 7 ++ 6 ∷ []) ≡ record { answer = refused 16; table = (replicate 16384 0 ++ []); output = [] }) ×
-    (afterObjects lent-two (ascii "a") (5 ∷ replicate 16382 7 ++ []) ≡ record { answer = refused 15; table = (5 ∷ replicate 16382 7 ++ []); output = [] }) ×
-    (afterObjects lent-two (ascii "z") (5 ∷ replicate 16382 7 ++ []) ≡ record { answer = refused 15; table = (5 ∷ replicate 16382 7 ++ []); output = [] }) ×
-    (afterObjects lent-two (ascii "a") ([]) ≡ record { answer = refused 15; table = ([]); output = [] }) ×
-    (afterObjects lent-two (ascii "z") ([]) ≡ record { answer = refused 15; table = ([]); output = [] }) ×
-    (afterObjects lent-padded (ascii "a") (replicate 16384 7 ++ 8 ∷ 9 ∷ []) ≡ record { answer = refused 2; table = (replicate 16384 0 ++ 8 ∷ 9 ∷ []); output = [] })
+    (afterObjects two (ascii "a") (replicate 16384 7 ++ 8 ∷ 9 ∷ []) ≡ record { answer = done 2; table = (replicate 16384 0 ++ 8 ∷ 9 ∷ []); output = [] }) ×
+    (afterObjects two (ascii "a") (5 ∷ replicate 16382 7 ++ []) ≡ record { answer = refused 15; table = (5 ∷ replicate 16382 7 ++ []); output = [] }) ×
+    (afterObjects two (ascii "z") (5 ∷ replicate 16382 7 ++ 6 ∷ []) ≡ record { answer = refused 16; table = (replicate 16384 0 ++ []); output = [] })
 unfolding whole
-after-objects = (refl, refl, refl, refl, refl, refl, refl, refl, refl)
+after-objects = (refl, refl, refl)
 
 -- table and output after a column: longer than needed, enough, one short
 after-column :
-    (afterColumn lent-two (ascii "a") (ascii "b") 7 (replicate 16384 7 ++ 8 ∷ 9 ∷ []) (pos 3 ∷ negsuc 3 ∷ negsuc 3 ∷ pos 5 ∷ []) ≡ record { answer = done 2; table = (replicate 16384 0 ++ 8 ∷ 9 ∷ []); output = (pos 5 ∷ negsuc 0 ∷ negsuc 3 ∷ pos 5 ∷ []) }) ×
-    (afterColumn lent-two (ascii "a") (ascii "b") 7 (replicate 16384 7 ++ 8 ∷ 9 ∷ []) (negsuc 3 ∷ negsuc 3 ∷ []) ≡ record { answer = done 2; table = (replicate 16384 0 ++ 8 ∷ 9 ∷ []); output = (pos 5 ∷ negsuc 0 ∷ []) }) ×
-    (afterColumn lent-two (ascii "a") (ascii "b") 7 (replicate 16384 7 ++ 8 ∷ 9 ∷ []) (negsuc 3 ∷ []) ≡ record { answer = refused 19; table = (replicate 16384 0 ++ 8 ∷ 9 ∷ []); output = (negsuc 3 ∷ []) }) ×
-    (afterColumn lent-two (ascii "a") (ascii "b") 7 (replicate 16384 7 ++ 8 ∷ 9 ∷ []) ([]) ≡ record { answer = refused 19; table = (replicate 16384 0 ++ 8 ∷ 9 ∷ []); output = ([]) }) ×
-    (afterColumn lent-two (ascii "a") (ascii "b") 8 (replicate 16384 7 ++ 8 ∷ 9 ∷ []) (pos 3 ∷ negsuc 3 ∷ negsuc 3 ∷ pos 5 ∷ []) ≡ record { answer = refused 18; table = (replicate 16384 0 ++ 8 ∷ 9 ∷ []); output = (pos 3 ∷ negsuc 3 ∷ negsuc 3 ∷ pos 5 ∷ []) }) ×
-    (afterColumn lent-padded (ascii "a") (ascii "b") 7 (replicate 16384 7 ++ 8 ∷ 9 ∷ []) (pos 3 ∷ negsuc 3 ∷ negsuc 3 ∷ pos 5 ∷ []) ≡ record { answer = refused 2; table = (replicate 16384 0 ++ 8 ∷ 9 ∷ []); output = (pos 3 ∷ negsuc 3 ∷ negsuc 3 ∷ pos 5 ∷ []) }) ×
-    (afterColumn lent-two (ascii "a") (ascii "b") 7 (5 ∷ replicate 16382 7 ++ []) (pos 3 ∷ negsuc 3 ∷ negsuc 3 ∷ pos 5 ∷ []) ≡ record { answer = refused 15; table = (5 ∷ replicate 16382 7 ++ []); output = (pos 3 ∷ negsuc 3 ∷ negsuc 3 ∷ pos 5 ∷ []) }) ×
-    (afterColumn lent-two (ascii "a") (ascii "b") 7 (5 ∷ replicate 16382 7 ++ []) (negsuc 3 ∷ negsuc 3 ∷ []) ≡ record { answer = refused 15; table = (5 ∷ replicate 16382 7 ++ []); output = (negsuc 3 ∷ negsuc 3 ∷ []) }) ×
-    (afterColumn lent-two (ascii "a") (ascii "b") 7 (5 ∷ replicate 16382 7 ++ []) (negsuc 3 ∷ []) ≡ record { answer = refused 15; table = (5 ∷ replicate 16382 7 ++ []); output = (negsuc 3 ∷ []) }) ×
-    (afterColumn lent-two (ascii "a") (ascii "b") 7 (5 ∷ replicate 16382 7 ++ []) ([]) ≡ record { answer = refused 15; table = (5 ∷ replicate 16382 7 ++ []); output = ([]) }) ×
-    (afterColumn lent-two (ascii "a") (ascii "b") 8 (5 ∷ replicate 16382 7 ++ []) (pos 3 ∷ negsuc 3 ∷ negsuc 3 ∷ pos 5 ∷ []) ≡ record { answer = refused 15; table = (5 ∷ replicate 16382 7 ++ []); output = (pos 3 ∷ negsuc 3 ∷ negsuc 3 ∷ pos 5 ∷ []) }) ×
-    (afterColumn lent-padded (ascii "a") (ascii "b") 7 (5 ∷ replicate 16382 7 ++ []) (pos 3 ∷ negsuc 3 ∷ negsuc 3 ∷ pos 5 ∷ []) ≡ record { answer = refused 15; table = (5 ∷ replicate 16382 7 ++ []); output = (pos 3 ∷ negsuc 3 ∷ negsuc 3 ∷ pos 5 ∷ []) }) ×
-    (afterColumn lent-two (ascii "a") (ascii "b") 7 (5 ∷ replicate 16382 7 ++ 6 ∷ []) (pos 3 ∷ negsuc 3 ∷ negsuc 3 ∷ pos 5 ∷ []) ≡ record { answer = done 2; table = (replicate 16384 0 ++ []); output = (pos 5 ∷ negsuc 0 ∷ negsuc 3 ∷ pos 5 ∷ []) }) ×
-    (afterColumn lent-two (ascii "a") (ascii "z") 7 (5 ∷ replicate 16382 7 ++ 6 ∷ []) (pos 3 ∷ negsuc 3 ∷ negsuc 3 ∷ pos 5 ∷ []) ≡ record { answer = refused 17; table = (replicate 16384 0 ++ []); output = (pos 3 ∷ negsuc 3 ∷ negsuc 3 ∷ pos 5 ∷ []) }) ×
-    (afterColumn lent-two (ascii "z") (ascii "b") 7 (5 ∷ replicate 16382 7 ++ 6 ∷ []) (pos 3 ∷ negsuc 3 ∷ negsuc 3 ∷ pos 5 ∷ []) ≡ record { answer = refused 16; table = (replicate 16384 0 ++ []); output = (pos 3 ∷ negsuc 3 ∷ negsuc 3 ∷ pos 5 ∷ []) })
+    (afterColumn two (ascii "a") (ascii "b") 7 (replicate 16384 7 ++ 8 ∷ 9 ∷ []) (negsuc 3 ∷ negsuc 3 ∷ negsuc 3 ∷ negsuc 3 ∷ []) ≡ record { answer = done 2; table = (replicate 16384 0 ++ 8 ∷ 9 ∷ []); output = (pos 5 ∷ negsuc 0 ∷ negsuc 3 ∷ negsuc 3 ∷ []) }) ×
+    (afterColumn two (ascii "a") (ascii "b") 7 (replicate 16384 7 ++ 8 ∷ 9 ∷ []) (negsuc 3 ∷ []) ≡ record { answer = refused 19; table = (replicate 16384 0 ++ 8 ∷ 9 ∷ []); output = (negsuc 3 ∷ []) }) ×
+    (afterColumn two (ascii "a") (ascii "b") 7 (5 ∷ replicate 16382 7 ++ 6 ∷ []) (negsuc 3 ∷ negsuc 3 ∷ []) ≡ record { answer = done 2; table = (replicate 16384 0 ++ []); output = (pos 5 ∷ negsuc 0 ∷ []) }) ×
+    (afterColumn two (ascii "a") (ascii "b") 7 (5 ∷ replicate 16382 7 ++ []) (negsuc 3 ∷ negsuc 3 ∷ negsuc 3 ∷ negsuc 3 ∷ []) ≡ record { answer = refused 15; table = (5 ∷ replicate 16382 7 ++ []); output = (negsuc 3 ∷ negsuc 3 ∷ negsuc 3 ∷ negsuc 3 ∷ []) }) ×
+    (afterColumn lent-padded (ascii "a") (ascii "b") 7 (replicate 16384 7 ++ 8 ∷ 9 ∷ []) (negsuc 3 ∷ negsuc 3 ∷ negsuc 3 ∷ negsuc 3 ∷ []) ≡ record { answer = refused 2; table = (replicate 16384 0 ++ 8 ∷ 9 ∷ []); output = (negsuc 3 ∷ negsuc 3 ∷ negsuc 3 ∷ negsuc 3 ∷ []) })
 unfolding whole
-after-column = (refl, refl, refl, refl, refl, refl, refl, refl, refl, refl, refl, refl, refl, refl, refl)
+after-column = (refl, refl, refl, refl, refl)
 
 -- table and output after a listing
 after-listing :
-    (afterListing lent-two (replicate 16384 7 ++ 8 ∷ 9 ∷ []) (replicate 61 1 ++ []) ≡ record { answer = done 59; table = (replicate 16384 0 ++ 8 ∷ 9 ∷ []); output = (112 ∷ 97 ∷ 105 ∷ 114 ∷ 9 ∷ 50 ∷ 9 ∷ 49 ∷ 10 ∷ 115 ∷ 116 ∷ 114 ∷ 9 ∷ 54 ∷ 49 ∷ 10 ∷ 115 ∷ 116 ∷ 114 ∷ 9 ∷ 54 ∷ 50 ∷ 10 ∷ 116 ∷ 121 ∷ 112 ∷ 101 ∷ 9 ∷ 49 ∷ 9 ∷ 48 ∷ 9 ∷ 45 ∷ 9 ∷ 50 ∷ 9 ∷ 49 ∷ 10 ∷ 110 ∷ 101 ∷ 119 ∷ 9 ∷ 55 ∷ 9 ∷ 50 ∷ 10 ∷ 118 ∷ 97 ∷ 108 ∷ 9 ∷ 53 ∷ 10 ∷ 118 ∷ 97 ∷ 108 ∷ 9 ∷ 45 ∷ 49 ∷ 10 ∷ 1 ∷ 1 ∷ []) }) ×
-    (afterListing lent-two (replicate 16384 7 ++ 8 ∷ 9 ∷ []) (replicate 59 1 ++ []) ≡ record { answer = done 59; table = (replicate 16384 0 ++ 8 ∷ 9 ∷ []); output = (112 ∷ 97 ∷ 105 ∷ 114 ∷ 9 ∷ 50 ∷ 9 ∷ 49 ∷ 10 ∷ 115 ∷ 116 ∷ 114 ∷ 9 ∷ 54 ∷ 49 ∷ 10 ∷ 115 ∷ 116 ∷ 114 ∷ 9 ∷ 54 ∷ 50 ∷ 10 ∷ 116 ∷ 121 ∷ 112 ∷ 101 ∷ 9 ∷ 49 ∷ 9 ∷ 48 ∷ 9 ∷ 45 ∷ 9 ∷ 50 ∷ 9 ∷ 49 ∷ 10 ∷ 110 ∷ 101 ∷ 119 ∷ 9 ∷ 55 ∷ 9 ∷ 50 ∷ 10 ∷ 118 ∷ 97 ∷ 108 ∷ 9 ∷ 53 ∷ 10 ∷ 118 ∷ 97 ∷ 108 ∷ 9 ∷ 45 ∷ 49 ∷ 10 ∷ []) }) ×
-    (afterListing lent-two (replicate 16384 7 ++ 8 ∷ 9 ∷ []) (replicate 58 1 ++ []) ≡ record { answer = refused 19; table = (replicate 16384 0 ++ 8 ∷ 9 ∷ []); output = (replicate 58 1 ++ []) }) ×
-    (afterListing lent-padded (replicate 16384 7 ++ 8 ∷ 9 ∷ []) (replicate 61 1 ++ []) ≡ record { answer = refused 2; table = (replicate 16384 0 ++ 8 ∷ 9 ∷ []); output = (replicate 61 1 ++ []) }) ×
-    (afterListing lent-two (5 ∷ replicate 16382 7 ++ []) (replicate 61 1 ++ []) ≡ record { answer = refused 15; table = (5 ∷ replicate 16382 7 ++ []); output = (replicate 61 1 ++ []) }) ×
-    (afterListing lent-two (5 ∷ replicate 16382 7 ++ []) (replicate 59 1 ++ []) ≡ record { answer = refused 15; table = (5 ∷ replicate 16382 7 ++ []); output = (replicate 59 1 ++ []) }) ×
-    (afterListing lent-two (5 ∷ replicate 16382 7 ++ []) (replicate 58 1 ++ []) ≡ record { answer = refused 15; table = (5 ∷ replicate 16382 7 ++ []); output = (replicate 58 1 ++ []) }) ×
-    (afterListing lent-padded (5 ∷ replicate 16382 7 ++ []) (replicate 61 1 ++ []) ≡ record { answer = refused 15; table = (5 ∷ replicate 16382 7 ++ []); output = (replicate 61 1 ++ []) }) ×
-    (afterListing lent-two (5 ∷ replicate 16382 7 ++ 6 ∷ []) (replicate 61 1 ++ []) ≡ record { answer = done 59; table = (replicate 16384 0 ++ []); output = (112 ∷ 97 ∷ 105 ∷ 114 ∷ 9 ∷ 50 ∷ 9 ∷ 49 ∷ 10 ∷ 115 ∷ 116 ∷ 114 ∷ 9 ∷ 54 ∷ 49 ∷ 10 ∷ 115 ∷ 116 ∷ 114 ∷ 9 ∷ 54 ∷ 50 ∷ 10 ∷ 116 ∷ 121 ∷ 112 ∷ 101 ∷ 9 ∷ 49 ∷ 9 ∷ 48 ∷ 9 ∷ 45 ∷ 9 ∷ 50 ∷ 9 ∷ 49 ∷ 10 ∷ 110 ∷ 101 ∷ 119 ∷ 9 ∷ 55 ∷ 9 ∷ 50 ∷ 10 ∷ 118 ∷ 97 ∷ 108 ∷ 9 ∷ 53 ∷ 10 ∷ 118 ∷ 97 ∷ 108 ∷ 9 ∷ 45 ∷ 49 ∷ 10 ∷ 1 ∷ 1 ∷ []) })
+    (afterListing two (replicate 16384 7 ++ 8 ∷ 9 ∷ []) (replicate 61 1 ++ []) ≡ record { answer = done 59; table = (replicate 16384 0 ++ 8 ∷ 9 ∷ []); output = (112 ∷ 97 ∷ 105 ∷ 114 ∷ 9 ∷ 50 ∷ 9 ∷ 49 ∷ 10 ∷ 115 ∷ 116 ∷ 114 ∷ 9 ∷ 54 ∷ 49 ∷ 10 ∷ 115 ∷ 116 ∷ 114 ∷ 9 ∷ 54 ∷ 50 ∷ 10 ∷ 116 ∷ 121 ∷ 112 ∷ 101 ∷ 9 ∷ 49 ∷ 9 ∷ 48 ∷ 9 ∷ 45 ∷ 9 ∷ 50 ∷ 9 ∷ 49 ∷ 10 ∷ 110 ∷ 101 ∷ 119 ∷ 9 ∷ 55 ∷ 9 ∷ 50 ∷ 10 ∷ 118 ∷ 97 ∷ 108 ∷ 9 ∷ 53 ∷ 10 ∷ 118 ∷ 97 ∷ 108 ∷ 9 ∷ 45 ∷ 49 ∷ 10 ∷ 1 ∷ 1 ∷ []) }) ×
+    (afterListing two (replicate 16384 7 ++ 8 ∷ 9 ∷ []) (replicate 58 1 ++ []) ≡ record { answer = refused 19; table = (replicate 16384 0 ++ 8 ∷ 9 ∷ []); output = (replicate 58 1 ++ []) }) ×
+    (afterListing two (5 ∷ replicate 16382 7 ++ []) (replicate 59 1 ++ []) ≡ record { answer = refused 15; table = (5 ∷ replicate 16382 7 ++ []); output = (replicate 59 1 ++ []) }) ×
+    (afterListing lent-padded (5 ∷ replicate 16382 7 ++ 6 ∷ []) (replicate 61 1 ++ []) ≡ record { answer = refused 2; table = (replicate 16384 0 ++ []); output = (replicate 61 1 ++ []) })
 unfolding whole
-after-listing = (refl, refl, refl, refl, refl, refl, refl, refl, refl)
+after-listing = (refl, refl, refl, refl)
 
 -- table and output after a build
 after-build :
     (afterBuild (ascii "pair\t2\t1\nstr\t61\nstr\t62\ntype\t1\t0\t-\t2\t1\nnew\t7\t2\nval\t5\nval\t-1\n") (replicate 16384 7 ++ 8 ∷ 9 ∷ []) (replicate 25 1 ++ []) ≡ record { answer = done 23; table = (replicate 16384 0 ++ 8 ∷ 9 ∷ []); output = (2 ∷ 0 ∷ 0 ∷ 0 ∷ 1 ∷ 0 ∷ 0 ∷ 0 ∷ 2 ∷ 97 ∷ 98 ∷ 1 ∷ 1 ∷ 0 ∷ 2 ∷ 0 ∷ 1 ∷ 0 ∷ 7 ∷ 2 ∷ 2 ∷ 5 ∷ 255 ∷ 1 ∷ 1 ∷ []) }) ×
-    (afterBuild (ascii "pair\t2\t1\nstr\t61\nstr\t62\ntype\t1\t0\t-\t2\t1\nnew\t7\t2\nval\t5\nval\t-1\n") (replicate 16384 7 ++ 8 ∷ 9 ∷ []) (replicate 23 1 ++ []) ≡ record { answer = done 23; table = (replicate 16384 0 ++ 8 ∷ 9 ∷ []); output = (2 ∷ 0 ∷ 0 ∷ 0 ∷ 1 ∷ 0 ∷ 0 ∷ 0 ∷ 2 ∷ 97 ∷ 98 ∷ 1 ∷ 1 ∷ 0 ∷ 2 ∷ 0 ∷ 1 ∷ 0 ∷ 7 ∷ 2 ∷ 2 ∷ 5 ∷ 255 ∷ []) }) ×
     (afterBuild (ascii "pair\t2\t1\nstr\t61\nstr\t62\ntype\t1\t0\t-\t2\t1\nnew\t7\t2\nval\t5\nval\t-1\n") (replicate 16384 7 ++ 8 ∷ 9 ∷ []) (replicate 22 1 ++ []) ≡ record { answer = refused 19; table = (replicate 16384 0 ++ 8 ∷ 9 ∷ []); output = (replicate 22 1 ++ []) }) ×
-    (afterBuild (ascii "pair\t0\t0") (replicate 16384 7 ++ 8 ∷ 9 ∷ []) (replicate 25 1 ++ []) ≡ record { answer = refused 20; table = (replicate 16384 0 ++ 8 ∷ 9 ∷ []); output = (replicate 25 1 ++ []) }) ×
-    (afterBuild (ascii "pair\t2\t1\nstr\t61\nstr\t62\ntype\t1\t0\t-\t2\t1\nnew\t7\t2\nval\t5\nval\t-1\n") (5 ∷ replicate 16382 7 ++ []) (replicate 25 1 ++ []) ≡ record { answer = refused 15; table = (5 ∷ replicate 16382 7 ++ []); output = (replicate 25 1 ++ []) }) ×
     (afterBuild (ascii "pair\t2\t1\nstr\t61\nstr\t62\ntype\t1\t0\t-\t2\t1\nnew\t7\t2\nval\t5\nval\t-1\n") (5 ∷ replicate 16382 7 ++ []) (replicate 23 1 ++ []) ≡ record { answer = refused 15; table = (5 ∷ replicate 16382 7 ++ []); output = (replicate 23 1 ++ []) }) ×
-    (afterBuild (ascii "pair\t2\t1\nstr\t61\nstr\t62\ntype\t1\t0\t-\t2\t1\nnew\t7\t2\nval\t5\nval\t-1\n") (5 ∷ replicate 16382 7 ++ []) (replicate 22 1 ++ []) ≡ record { answer = refused 15; table = (5 ∷ replicate 16382 7 ++ []); output = (replicate 22 1 ++ []) }) ×
-    (afterBuild (ascii "pair\t0\t0") (5 ∷ replicate 16382 7 ++ []) (replicate 25 1 ++ []) ≡ record { answer = refused 15; table = (5 ∷ replicate 16382 7 ++ []); output = (replicate 25 1 ++ []) }) ×
-    (afterBuild (ascii "pair\t2\t1\nstr\t61\nstr\t62\ntype\t1\t0\t-\t2\t1\nnew\t7\t2\nval\t5\nval\t-1\n") (5 ∷ replicate 16382 7 ++ 6 ∷ []) (replicate 25 1 ++ []) ≡ record { answer = done 23; table = (replicate 16384 0 ++ []); output = (2 ∷ 0 ∷ 0 ∷ 0 ∷ 1 ∷ 0 ∷ 0 ∷ 0 ∷ 2 ∷ 97 ∷ 98 ∷ 1 ∷ 1 ∷ 0 ∷ 2 ∷ 0 ∷ 1 ∷ 0 ∷ 7 ∷ 2 ∷ 2 ∷ 5 ∷ 255 ∷ 1 ∷ 1 ∷ []) })
+    (afterBuild (ascii "pair\t0\t0") (5 ∷ replicate 16382 7 ++ 6 ∷ []) (replicate 25 1 ++ []) ≡ record { answer = refused 20; table = (replicate 16384 0 ++ []); output = (replicate 25 1 ++ []) })
 unfolding whole
-after-build = (refl, refl, refl, refl, refl, refl, refl, refl, refl)
+after-build = (refl, refl, refl, refl)

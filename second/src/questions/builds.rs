@@ -10,10 +10,30 @@ pub fn ask(sheet: &mut Sheet) {
     values(sheet);
     words(sheet);
     kinds(sheet);
-    rows(sheet, "heads-built", "names, super types, starts and counts", HEADS);
-    rows(sheet, "fields-built", "numbers of fields, known and new ones, their names", FIELDS);
-    rows(sheet, "lines-built", "fewer lines, more lines, other lines", LINES);
-    rows(sheet, "reach-built", "types and objects as far as this pair", REACH);
+    rows(
+        sheet,
+        "heads-built",
+        "names, super types, starts and counts",
+        HEADS,
+    );
+    rows(
+        sheet,
+        "fields-built",
+        "numbers of fields, known and new ones, their names",
+        FIELDS,
+    );
+    rows(
+        sheet,
+        "lines-built",
+        "fewer lines, more lines, other lines",
+        LINES,
+    );
+    rows(
+        sheet,
+        "reach-built",
+        "types and objects as far as this pair",
+        REACH,
+    );
     whole(sheet);
     separators(sheet);
     left_out(sheet);
@@ -40,26 +60,58 @@ fn values(sheet: &mut Sheet) {
     for (kind, values) in [
         ("7", &["127", "-128", "128", "-129", "255"] as &[&str]),
         ("8", &["32767", "-32768", "32768", "-32769"]),
-        ("9", &["2147483647", "-2147483648", "2147483648", "-2147483649"]),
-        ("10", &[
-            "9223372036854775807",
-            "-9223372036854775808",
-            "9223372036854775808",
-            "-9223372036854775809",
-        ]),
-        ("11", &[
-            "9223372036854775807",
-            "-9223372036854775808",
-            "9223372036854775808",
-            "-9223372036854775809",
-            "18446744073709551615",
-            "18446744073709551616",
-            "18446744073709551617",
-            "-18446744073709551615",
-        ]),
+        (
+            "9",
+            &["2147483647", "-2147483648", "2147483648", "-2147483649"],
+        ),
+        (
+            "10",
+            &[
+                "9223372036854775807",
+                "-9223372036854775808",
+                "9223372036854775808",
+                "-9223372036854775809",
+            ],
+        ),
+        (
+            "11",
+            &[
+                "9223372036854775807",
+                "-9223372036854775808",
+                "9223372036854775808",
+                "-9223372036854775809",
+                "18446744073709551615",
+                "18446744073709551616",
+                "18446744073709551617",
+                "-18446744073709551615",
+            ],
+        ),
         ("6", &["0", "1", "2", "00", "10", "-1", "", "t"]),
-        ("12", &["0123abcd", "0123abc", "0123abcd0", "0123abcD", "0123abcg", "/123abcd", ":123abcd", "`123abcd", "-1", ""]),
-        ("13", &["0123456789abcdef", "01234567", "0123456789abcde", "0123456789abcdef0", "0123456789abcdeF"]),
+        (
+            "12",
+            &[
+                "0123abcd",
+                "0123abc",
+                "0123abcd0",
+                "0123abcD",
+                "0123abcg",
+                "/123abcd",
+                ":123abcd",
+                "`123abcd",
+                "-1",
+                "",
+            ],
+        ),
+        (
+            "13",
+            &[
+                "0123456789abcdef",
+                "01234567",
+                "0123456789abcde",
+                "0123456789abcdef0",
+                "0123456789abcdeF",
+            ],
+        ),
         ("14", &["0", "1", "2", "-1", "", "18446744073709551616"]),
         ("32", &["0", "1", "2", "-1"]),
     ] {
@@ -67,24 +119,37 @@ fn values(sheet: &mut Sheet) {
             sheet.build(ROOM, TABLE, &one(kind, &format!("\t{value}")));
         }
     }
-    sheet.state("values-built", "the ends of each kind's range and one beyond");
+    sheet.state(
+        "values-built",
+        "the ends of each kind's range and one beyond",
+    );
 }
 
 /// How a number may be written, and what may stand around it.
 fn words(sheet: &mut Sheet) {
     for value in [
-        "\t0", "\t00", "\t01", "\t-0", "\t-00", "\t-01", "\t--1", "\t+1", "\t-", "\t", "", "1", " 1", "\t 1", "\t1 ",
-        "\t1\t", "\t1\t1", "\t1\r", "\t1:", "\t1/", "\t:", "\t/", "\t1.0", "\t0x1", "\t1,1", "\ta", "\t1a", "\t\t1",
+        "\t0", "\t00", "\t01", "\t-0", "\t-00", "\t-01", "\t--1", "\t+1", "\t-", "\t", "", "1",
+        " 1", "\t 1", "\t1 ", "\t1\t", "\t1\t1", "\t1\r", "\t1:", "\t1/", "\t:", "\t/", "\t1.0",
+        "\t0x1", "\t1,1", "\ta", "\t1a", "\t\t1",
     ] {
         sheet.build(ROOM, TABLE, &one("11", value));
     }
-    sheet.state("words-built", "a decimal has one form, and a line one tab before each field");
-    for string in ["", "6", "61", "616", "6g", "g6", "6G", "6A", "A6", "a/", "/a", "a:", "a`", " 61", "61 ", "61\t", "af09", "é"] {
+    sheet.state(
+        "words-built",
+        "a decimal has one form, and a line one tab before each field",
+    );
+    for string in [
+        "", "6", "61", "616", "6g", "g6", "6G", "6A", "A6", "a/", "/a", "a:", "a`", " 61", "61 ",
+        "61\t", "af09", "é",
+    ] {
         let text = format!("pair\t1\t0\nstr\t{string}\n");
         sheet.build(ROOM, TABLE, &Text::plain(&text));
     }
     sheet.build(ROOM, TABLE, &Text::plain("pair\t1\t0\nstr\n"));
-    sheet.state("strings-built", "a string is pairs of lower-case hex digits");
+    sheet.state(
+        "strings-built",
+        "a string is pairs of lower-case hex digits",
+    );
 }
 
 /// Kinds by their numbers, and how many elements a value has.
@@ -137,18 +202,56 @@ fn kinds(sheet: &mut Sheet) {
     ] {
         sheet.build(ROOM, TABLE, &one(kind, value));
     }
-    sheet.state("kinds-built", "kinds by their numbers, and how many elements a value has");
+    sheet.state(
+        "kinds-built",
+        "kinds by their numbers, and how many elements a value has",
+    );
     for kind in [
-        "0,127", "0,-128", "0,128", "0,-129", "0", "0,", "0,1,1", "0,-0", "0,01", "0,+1", "1,32767", "1,-32768", "1,32768",
-        "1,-32769", "2,2147483647", "2,-2147483648", "2,2147483648", "2,-2147483649", "3,9223372036854775807",
-        "3,-9223372036854775808", "3,9223372036854775808", "3,-9223372036854775809", "4,9223372036854775807",
-        "4,-9223372036854775808", "4,9223372036854775808", "4,-9223372036854775809", "4,18446744073709551615", "5,1",
-        "15,65535,7", "15,65536,7", "15,18446744073709551616,7", "17,32", "17,33", "32", "33", "15,65535,32", "15,1,33",
+        "0,127",
+        "0,-128",
+        "0,128",
+        "0,-129",
+        "0",
+        "0,",
+        "0,1,1",
+        "0,-0",
+        "0,01",
+        "0,+1",
+        "1,32767",
+        "1,-32768",
+        "1,32768",
+        "1,-32769",
+        "2,2147483647",
+        "2,-2147483648",
+        "2,2147483648",
+        "2,-2147483649",
+        "3,9223372036854775807",
+        "3,-9223372036854775808",
+        "3,9223372036854775808",
+        "3,-9223372036854775809",
+        "4,9223372036854775807",
+        "4,-9223372036854775808",
+        "4,9223372036854775808",
+        "4,-9223372036854775809",
+        "4,18446744073709551615",
+        "5,1",
+        "15,65535,7",
+        "15,65536,7",
+        "15,18446744073709551616,7",
+        "17,32",
+        "17,33",
+        "32",
+        "33",
+        "15,65535,32",
+        "15,1,33",
     ] {
         let text = format!("pair 1 1/str 61/type 1 0 - 0 1/new {kind} 1");
         sheet.build(ROOM, TABLE, &Text::plain(&lines(&text)));
     }
-    sheet.state("constants-built", "constants at the ends of their ranges, lengths at their bound");
+    sheet.state(
+        "constants-built",
+        "constants at the ends of their ranges, lengths at their bound",
+    );
 }
 
 const HEADS: &[&str] = &[
@@ -278,14 +381,39 @@ const REACH: &[&str] = &[
 /// Texts that are wrong, or right, as a whole.
 fn whole(sheet: &mut Sheet) {
     for text in [
-        "", "\n", " ", "\t", "pair", "pair\t0\t0", "pair\t0\t0\n", "pair\t0\t0\n\n", "pair\t0\t0\n ", "pair\t0\t0\n\0",
-        "pair\t0\t0\r\n", "pair\t0\t0\npair", " pair\t0\t0\n", "\npair\t0\t0\n", "Pair\t0\t0\n", "pair 0 0\n",
-        "pair\t0\n", "pair\t\t0\n", "pair\t0\t\n", "pair\t-0\t0\n", "pair\t0\t00\n", "pair\t0\t65536\n", "pair\t1025\t0\n",
-        "pair\t18446744073709551616\t0\n", "pair\t0\t18446744073709551616\n", "refused\t1\n",
+        "",
+        "\n",
+        " ",
+        "\t",
+        "pair",
+        "pair\t0\t0",
+        "pair\t0\t0\n",
+        "pair\t0\t0\n\n",
+        "pair\t0\t0\n ",
+        "pair\t0\t0\n\0",
+        "pair\t0\t0\r\n",
+        "pair\t0\t0\npair",
+        " pair\t0\t0\n",
+        "\npair\t0\t0\n",
+        "Pair\t0\t0\n",
+        "pair 0 0\n",
+        "pair\t0\n",
+        "pair\t\t0\n",
+        "pair\t0\t\n",
+        "pair\t-0\t0\n",
+        "pair\t0\t00\n",
+        "pair\t0\t65536\n",
+        "pair\t1025\t0\n",
+        "pair\t18446744073709551616\t0\n",
+        "pair\t0\t18446744073709551616\n",
+        "refused\t1\n",
     ] {
         sheet.build(ROOM, TABLE, &Text::plain(text));
     }
-    sheet.state("whole-built", "what stands before, behind and between lines");
+    sheet.state(
+        "whole-built",
+        "what stands before, behind and between lines",
+    );
     for pairs in [PAIRS, PAIRS + 1] {
         sheet.build(ROOM, TABLE, &Text::pieces(&[(pairs, "pair\t0\t0\n")]));
     }
@@ -295,27 +423,27 @@ fn whole(sheet: &mut Sheet) {
 }
 
 /// A listing with lines of every form.
-const EVERY: &str = "pair 2 2/str 6162/str 63/type 1 0 - 1 3/new 15,2,8 1/new 4,-12 2/new 12 3\
+const EVERY: &str =
+    "pair 3 2/str 6162/str 63/str /type 1 0 - 1 3/new 15,2,8 1/new 4,-12 2/new 12 3\
     /type 2 1 0 1 1/new 17,11 1/val 1 -1/val 0a1b2c3d/val 10 20";
-
-fn every() -> String {
-    lines(&EVERY.replacen("pair 2", "pair 3", 1).replacen("/str 63", "/str 63/str ", 1))
-}
 
 /// A blank for each tab, newline or comma in turn.
 fn separators(sheet: &mut Sheet) {
-    let text = every();
+    let text = lines(EVERY);
     sheet.build(ROOM, TABLE, &Text::plain(&text));
     for (place, _) in text.match_indices(['\t', '\n', ',']) {
         let wrong = format!("{} {}", &text[..place], &text[place + 1..]);
         sheet.build(ROOM, TABLE, &Text::plain(&wrong));
     }
-    sheet.state("separators-built", "a blank for each tab, newline and comma in turn");
+    sheet.state(
+        "separators-built",
+        "a blank for each tab, newline and comma in turn",
+    );
 }
 
 /// Each byte left out in turn.
 fn left_out(sheet: &mut Sheet) {
-    let text = every();
+    let text = lines("pair 1 1/str 6a/type 1 0 - 1 1/new 17,11 1/val 1 -1");
     for place in 0..text.len() {
         let wrong = format!("{}{}", &text[..place], &text[place + 1..]);
         sheet.build(ROOM, TABLE, &Text::plain(&wrong));

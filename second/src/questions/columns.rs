@@ -120,6 +120,7 @@ fn others(sheet: &mut Sheet) {
 fn constants(sheet: &mut Sheet) {
     let label = "a constant stands once for each object, over all blocks";
     let file = sheet.listed("constants", "constants over three blocks", CONSTANTS);
+    sheet.shown(&file);
     for (field, kind) in [("b", 0), ("c", 1), ("d", 7), ("e", 2), ("f", 3), ("g", 4)] {
         sheet.values(("a", field, kind), 3, &file);
     }
@@ -164,6 +165,7 @@ fn arrays(sheet: &mut Sheet) {
 
 fn references(sheet: &mut Sheet) {
     let file = sheet.listed("references", "references to three types", REFERENCES);
+    sheet.shown(&file);
     for (field, number) in [("d", 32), ("e", 33), ("f", 34)] {
         for kind in [32, 33, 34] {
             sheet.values(("a", field, kind), 2, &file);
@@ -174,15 +176,22 @@ fn references(sheet: &mut Sheet) {
     for name in ["a", "b", "c", "d"] {
         sheet.objects(name, TABLE, &file);
     }
-    sheet.state("objects-of-types", "each type's own number; a field's name is no type's");
+    sheet.state(
+        "objects-of-types",
+        "each type's own number; a field's name is no type's",
+    );
 }
 
 fn tree(sheet: &mut Sheet) {
     let file = sheet.listed("tree", "types below types over three blocks", TREE);
+    sheet.shown(&file);
     for name in ["ab", "cd", "ef", "u", "xy", "z", "", "a", "b", "abc", "ba"] {
         sheet.objects(name, TABLE, &file);
     }
-    sheet.state("tree-objects", "a type's objects are those below it as well, in all blocks");
+    sheet.state(
+        "tree-objects",
+        "a type's objects are those below it as well, in all blocks",
+    );
     tree_columns(sheet, &file);
     tree_names(sheet, &file);
 }
@@ -200,7 +209,10 @@ fn tree_columns(sheet: &mut Sheet, file: &File) {
     ] {
         sheet.values((name, field, kind), room, file);
     }
-    sheet.state("tree-columns", "chunk after chunk, a late field's first one for all objects so far");
+    sheet.state(
+        "tree-columns",
+        "chunk after chunk, a late field's first one for all objects so far",
+    );
     for (name, field, kind, room) in [
         ("ab", "xy", 7, 7),
         ("ab", "v", 7, 9),
@@ -243,7 +255,11 @@ fn tree_names(sheet: &mut Sheet, file: &File) {
 }
 
 fn unnamed(sheet: &mut Sheet) {
-    let file = sheet.listed("unnamed", "empty names, and a type without objects", UNNAMED);
+    let file = sheet.listed(
+        "unnamed",
+        "empty names, and a type without objects",
+        UNNAMED,
+    );
     for name in ["", "ab", "a", "b", "bcd"] {
         sheet.objects(name, TABLE, &file);
     }
@@ -262,5 +278,8 @@ fn unnamed(sheet: &mut Sheet) {
     ] {
         sheet.values((name, field, kind), room, &file);
     }
-    sheet.state("unnamed-asked", "empty names are names; no objects need no room");
+    sheet.state(
+        "unnamed-asked",
+        "empty names are names; no objects need no room",
+    );
 }

@@ -1,6 +1,7 @@
 //! What lent memory holds afterwards.
 
-use super::sheet::{built, lines, Lent, Sheet, Text};
+use super::sheet::{built, lines, File, Lent, Sheet, Text};
+use super::TWO;
 use crate::bounds::TABLE;
 
 /// Longer than asked for, as long, and shorter; nowhere 0.
@@ -8,59 +9,64 @@ const LONG: Lent<'static, u32> = &[(TABLE, 7), (1, 8), (1, 9)];
 const EXACT: Lent<'static, u32> = &[(1, 5), (TABLE - 2, 7), (1, 6)];
 const SHORT: Lent<'static, u32> = &[(1, 5), (TABLE - 2, 7)];
 
-/// A type `a` of two objects with a field `b` of i8.
-const TWO: &str = "pair 2 1/str 61/str 62/type 1 0 - 2 1/new 7 2/val 5/val -1";
-
-pub fn ask(sheet: &mut Sheet) {
-    let two = sheet.listed("lent-two", "a type a of two objects with a field b of i8", TWO);
-    let padded = sheet.file("lent-padded", "a padded number", vec![0x80, 0x00]);
-    for table in [LONG, EXACT, SHORT, &[]] {
-        sheet.after_check(&two, table);
-        sheet.after_check(&padded, table);
-    }
-    sheet.state("after-check", "the table after a check, accepted and refused");
-    for table in [LONG, EXACT, SHORT, &[]] {
-        sheet.after_objects(&two, "a", table);
-        sheet.after_objects(&two, "z", table);
-    }
-    sheet.after_objects(&padded, "a", LONG);
-    sheet.state("after-objects", "the table after a question for objects");
-    let rooms: [Lent<'_, i64>; 4] = [&[(1, 3), (2, -4), (1, 5)], &[(2, -4)], &[(1, -4)], &[]];
-    for table in [LONG, SHORT] {
-        for room in rooms {
-            sheet.after_column(&two, ("a", "b", 7), table, room);
-        }
-        sheet.after_column(&two, ("a", "b", 8), table, rooms[0]);
-        sheet.after_column(&padded, ("a", "b", 7), table, rooms[0]);
-    }
-    sheet.after_column(&two, ("a", "b", 7), EXACT, rooms[0]);
-    sheet.after_column(&two, ("a", "z", 7), EXACT, rooms[0]);
-    sheet.after_column(&two, ("z", "b", 7), EXACT, rooms[0]);
-    sheet.state("after-column", "table and output after a column: longer than needed, enough, one short");
-    texts(sheet, &two, &padded);
+/// Lent outputs, with what they hold: two more than needed, just enough, one
+/// short.
+fn rooms<T>(length: usize, held: T) -> [[(usize, T); 1]; 3]
+where
+    T: Copy,
+{
+    [length + 2, length, length - 1].map(|length| [(length, held)])
 }
 
-fn texts(sheet: &mut Sheet, two: &super::sheet::File, padded: &super::sheet::File) {
-    let length = lines(TWO).len();
-    let rooms: [Lent<'_, u8>; 3] = [&[(length + 2, 1)], &[(length, 1)], &[(length - 1, 1)]];
-    for table in [LONG, SHORT] {
-        for room in rooms {
-            sheet.after_listing(two, table, room);
-        }
-        sheet.after_listing(padded, table, rooms[0]);
-    }
-    sheet.after_listing(two, EXACT, rooms[0]);
+pub fn ask(sheet: &mut Sheet, two: &File) {
+    let padded = sheet.file("lent-padded", "a padded number", vec![0x80, 0x00]);
+    sheet.after_check(two, LONG);
+    sheet.after_check(two, SHORT);
+    sheet.after_check(two, &[]);
+    sheet.after_check(&padded, EXACT);
+    sheet.state(
+        "after-check",
+        "the table after a check, accepted and refused",
+    );
+    sheet.after_objects(two, "a", LONG);
+    sheet.after_objects(two, "a", SHORT);
+    sheet.after_objects(two, "z", EXACT);
+    sheet.state("after-objects", "the table after a question for objects");
+    columns(sheet, two, &padded);
+    listings(sheet, two, &padded);
+    builds(sheet);
+}
+
+fn columns(sheet: &mut Sheet, two: &File, padded: &File) {
+    let asked = ("a", "b", 7);
+    let [more, enough, less] = rooms(2, -4);
+    sheet.after_column(two, asked, LONG, &more);
+    sheet.after_column(two, asked, LONG, &less);
+    sheet.after_column(two, asked, EXACT, &enough);
+    sheet.after_column(two, asked, SHORT, &more);
+    sheet.after_column(padded, asked, LONG, &more);
+    sheet.state(
+        "after-column",
+        "table and output after a column: longer than needed, enough, one short",
+    );
+}
+
+fn listings(sheet: &mut Sheet, two: &File, padded: &File) {
+    let [more, enough, less] = rooms(lines(TWO).len(), 1);
+    sheet.after_listing(two, LONG, &more);
+    sheet.after_listing(two, LONG, &less);
+    sheet.after_listing(two, SHORT, &enough);
+    sheet.after_listing(padded, EXACT, &more);
     sheet.state("after-listing", "table and output after a listing");
+}
+
+fn builds(sheet: &mut Sheet) {
     let good = Text::plain(&lines(TWO));
     let bad = Text::plain("pair\t0\t0");
-    let length = built(&lines(TWO)).len();
-    let rooms: [Lent<'_, u8>; 3] = [&[(length + 2, 1)], &[(length, 1)], &[(length - 1, 1)]];
-    for table in [LONG, SHORT] {
-        for room in rooms {
-            sheet.after_build(&good, table, room);
-        }
-        sheet.after_build(&bad, table, rooms[0]);
-    }
-    sheet.after_build(&good, EXACT, rooms[0]);
+    let [more, enough, less] = rooms(built(&lines(TWO)).len(), 1);
+    sheet.after_build(&good, LONG, &more);
+    sheet.after_build(&good, LONG, &less);
+    sheet.after_build(&good, SHORT, &enough);
+    sheet.after_build(&bad, EXACT, &more);
     sheet.state("after-build", "table and output after a build");
 }

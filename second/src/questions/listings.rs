@@ -1,7 +1,6 @@
 //! Listings: every form a line can have, printed from a file and built back.
 
-use super::sheet::{lines, Sheet, Text};
-use crate::bounds::TABLE;
+use super::sheet::Sheet;
 
 /// Name, label and listing in short.
 type Row = (&'static str, &'static str, &'static str);
@@ -63,10 +62,7 @@ const ROWS: &[Row] = &[
 
 pub fn ask(sheet: &mut Sheet) {
     for &(name, label, text) in ROWS {
-        let text = lines(text);
-        let file = sheet.file(name, label, super::sheet::built(&text));
-        sheet.listing(text.len(), TABLE, &file);
-        sheet.build(file.bytes.len(), TABLE, &Text::plain(&text));
-        sheet.state(&format!("{name}-listed"), label);
+        let file = sheet.listed(name, label, text);
+        sheet.shown(&file);
     }
 }

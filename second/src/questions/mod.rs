@@ -13,13 +13,17 @@ mod sheet;
 
 use sheet::Sheet;
 
+/// A type `a` of two objects with a field `b` of i8, in short.
+const TWO: &str = "pair 2 1/str 61/str 62/type 1 0 - 2 1/new 7 2/val 5/val -1";
+
 /// All statements.
 pub fn text() -> String {
     let mut sheet = Sheet::new();
-    order::ask(&mut sheet);
+    let two = sheet.listed("two", "a type a of two objects with a field b of i8", TWO);
+    order::ask(&mut sheet, &two);
     columns::ask(&mut sheet);
     listings::ask(&mut sheet);
     builds::ask(&mut sheet);
-    lent::ask(&mut sheet);
+    lent::ask(&mut sheet, &two);
     sheet.text()
 }

@@ -2,24 +2,21 @@
 //! 15, 20, 19.
 
 use super::sheet::{built, lines, File, Sheet, Text};
+use super::TWO;
 use crate::bounds::TABLE;
 
 const SHORT: usize = TABLE - 1;
 
-/// A type `a` of two objects with a field `b` of i8.
-const TWO: &str = "pair 2 1/str 61/str 62/type 1 0 - 2 1/new 7 2/val 5/val -1";
-
-pub fn ask(sheet: &mut Sheet) {
-    let two = sheet.listed("two", "a type a of two objects with a field b of i8", TWO);
+pub fn ask(sheet: &mut Sheet, two: &File) {
     let mut bytes = two.bytes.clone();
     bytes.extend([0x80, 0x00]);
     let padded = sheet.file("padded", "the same and a padded number behind it", bytes);
     let none = sheet.file("empty", "the empty file", Vec::new());
     let three = "pair 1 1/str 61/type 1 0 - 0 0/pair 0 0/pair 0 1/type 1 - - 1 0";
     let three = sheet.listed("three", "three pairs", three);
-    tables(sheet, &two, &padded, &none, &three);
-    columns(sheet, &two, &padded);
-    listings(sheet, &two, &padded, &none);
+    tables(sheet, two, &padded, &none, &three);
+    columns(sheet, two, &padded);
+    listings(sheet, two, &padded, &none);
     builds(sheet);
 }
 
@@ -107,5 +104,8 @@ fn builds(sheet: &mut Sheet) {
             sheet.build(room, table, &empty);
         }
     }
-    sheet.state("build-order", "15, 20, 19; the empty text gives the empty file");
+    sheet.state(
+        "build-order",
+        "15, 20, 19; the empty text gives the empty file",
+    );
 }

@@ -137,6 +137,18 @@ impl Sheet {
         );
     }
 
+    /// The whole listing of a file, and the file built back from it.
+    pub fn shown(&mut self, file: &File) {
+        let mut out = vec![0; 64 * file.bytes.len() + 64];
+        let answer = crate::listing(&file.bytes, &mut vec![0; TABLE], &mut out);
+        let length = answer.expect("an accepted file");
+        let text = String::from_utf8(out[..length].to_vec()).expect("a listing is ASCII");
+        self.listing(length, TABLE, file);
+        self.build(file.bytes.len(), TABLE, &Text::plain(&text));
+        let name = format!("{}-listed", file.name);
+        self.state(&name, "its listing, and the file built back from it");
+    }
+
     pub fn after_check(&mut self, file: &File, table: Lent<'_, u32>) {
         let mut work = lent(table);
         let answer = crate::check(&file.bytes, &mut work).map(|()| 0);
