@@ -22,6 +22,7 @@ pub mod ledger;
 mod listing;
 pub mod names;
 pub mod programs;
+pub mod questions;
 pub mod reader;
 pub mod refusal;
 pub mod tally;

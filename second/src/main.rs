@@ -9,7 +9,7 @@ use std::process::ExitCode;
 
 use second::bounds::{FILE, OBJECTS, TABLE};
 use second::generate::{self, Case};
-use second::{examples, programs, tally, vectors, Refusal};
+use second::{examples, programs, questions, tally, vectors, Refusal};
 
 const USAGE: &str = "\
 usage: second check FILE
@@ -22,6 +22,7 @@ usage: second check FILE
        second generate DIR [--seed N] [--count N]
        second counts [--seed N] [--count N]
        second vectors [PART]
+       second questions
        second example-wear
 
 FILE may be - for standard input. Status 0 is accepted, 1 refused or failed,
@@ -105,6 +106,7 @@ fn run(arguments: &[OsString]) -> io::Result<Outcome> {
             .map_or(Outcome::WrongUse, |text| {
                 Outcome::Accepted(text.into_bytes())
             })),
+        ("questions", []) => Ok(Outcome::Accepted(questions::text().into_bytes())),
         ("example-wear", []) => Ok(Outcome::Accepted(examples::wear())),
         ("counts", options) => match Options::read(options) {
             Some(options) => Ok(counts(options)),

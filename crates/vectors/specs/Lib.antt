@@ -9,3 +9,6 @@ pub mod Kinds
 pub mod Values
 pub mod References
 pub mod Long
+pub mod Questions
+pub mod Ledgers
+pub mod Pieces

@@ -1,0 +1,72 @@
+//! What lent memory holds afterwards.
+
+use super::sheet::{built, lines, File, Lent, Sheet, Text};
+use super::TWO;
+use crate::bounds::TABLE;
+
+/// Longer than asked for, as long, and shorter; nowhere 0.
+const LONG: Lent<'static, u32> = &[(TABLE, 7), (1, 8), (1, 9)];
+const EXACT: Lent<'static, u32> = &[(1, 5), (TABLE - 2, 7), (1, 6)];
+const SHORT: Lent<'static, u32> = &[(1, 5), (TABLE - 2, 7)];
+
+/// Lent outputs, with what they hold: two more than needed, just enough, one
+/// short.
+fn rooms<T>(length: usize, held: T) -> [[(usize, T); 1]; 3]
+where
+    T: Copy,
+{
+    [length + 2, length, length - 1].map(|length| [(length, held)])
+}
+
+pub fn ask(sheet: &mut Sheet, two: &File) {
+    let padded = sheet.file("lent-padded", "a padded number", vec![0x80, 0x00]);
+    sheet.after_check(two, LONG);
+    sheet.after_check(two, SHORT);
+    sheet.after_check(two, &[]);
+    sheet.after_check(&padded, EXACT);
+    sheet.state(
+        "after-check",
+        "the table after a check, accepted and refused",
+    );
+    sheet.after_objects(two, "a", LONG);
+    sheet.after_objects(two, "a", SHORT);
+    sheet.after_objects(two, "z", EXACT);
+    sheet.state("after-objects", "the table after a question for objects");
+    columns(sheet, two, &padded);
+    listings(sheet, two, &padded);
+    builds(sheet);
+}
+
+fn columns(sheet: &mut Sheet, two: &File, padded: &File) {
+    let asked = ("a", "b", 7);
+    let [more, enough, less] = rooms(2, -4);
+    sheet.after_column(two, asked, LONG, &more);
+    sheet.after_column(two, asked, LONG, &less);
+    sheet.after_column(two, asked, EXACT, &enough);
+    sheet.after_column(two, asked, SHORT, &more);
+    sheet.after_column(padded, asked, LONG, &more);
+    sheet.state(
+        "after-column",
+        "table and output after a column: longer than needed, enough, one short",
+    );
+}
+
+fn listings(sheet: &mut Sheet, two: &File, padded: &File) {
+    let [more, enough, less] = rooms(lines(TWO).len(), 1);
+    sheet.after_listing(two, LONG, &more);
+    sheet.after_listing(two, LONG, &less);
+    sheet.after_listing(two, SHORT, &enough);
+    sheet.after_listing(padded, EXACT, &more);
+    sheet.state("after-listing", "table and output after a listing");
+}
+
+fn builds(sheet: &mut Sheet) {
+    let good = Text::plain(&lines(TWO));
+    let bad = Text::plain("pair\t0\t0");
+    let [more, enough, less] = rooms(built(&lines(TWO)).len(), 1);
+    sheet.after_build(&good, LONG, &more);
+    sheet.after_build(&good, LONG, &less);
+    sheet.after_build(&good, SHORT, &enough);
+    sheet.after_build(&bad, EXACT, &more);
+    sheet.state("after-build", "table and output after a build");
+}

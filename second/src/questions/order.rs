@@ -1,0 +1,111 @@
+//! Which refusal comes first: 15, the file's own, 16, 17, 18, 19; for build
+//! 15, 20, 19.
+
+use super::sheet::{built, lines, File, Sheet, Text};
+use super::TWO;
+use crate::bounds::TABLE;
+
+const SHORT: usize = TABLE - 1;
+
+pub fn ask(sheet: &mut Sheet, two: &File) {
+    let mut bytes = two.bytes.clone();
+    bytes.extend([0x80, 0x00]);
+    let padded = sheet.file("padded", "the same and a padded number behind it", bytes);
+    let none = sheet.file("empty", "the empty file", Vec::new());
+    let three = "pair 1 1/str 61/type 1 0 - 0 0/pair 0 0/pair 0 1/type 1 - - 1 0";
+    let three = sheet.listed("three", "three pairs", three);
+    tables(sheet, two, &padded, &none, &three);
+    columns(sheet, two, &padded);
+    listings(sheet, two, &padded, &none);
+    builds(sheet);
+}
+
+/// 15 before the file's own refusals, and 0 for an accepted file.
+fn tables(sheet: &mut Sheet, two: &File, padded: &File, none: &File, three: &File) {
+    for table in [0, SHORT] {
+        for file in [two, padded, none] {
+            sheet.check(table, file);
+            sheet.objects("a", table, file);
+            sheet.objects("z", table, file);
+        }
+    }
+    sheet.state("table-short", "15 comes first");
+    for table in [TABLE, TABLE + 1, 3 * TABLE] {
+        for file in [two, padded, none, three] {
+            sheet.check(table, file);
+            sheet.objects("a", table, file);
+            sheet.objects("z", table, file);
+        }
+    }
+    sheet.state(
+        "table-enough",
+        "then the file's own refusal, then 16; an accepted check answers 0",
+    );
+}
+
+/// 15, the file's own, 16, 17, 18, 19: everything from some point on is wrong,
+/// and each alone against each behind it.
+fn columns(sheet: &mut Sheet, two: &File, padded: &File) {
+    let types = ["z", "a"];
+    let fields = ["z", "b"];
+    let kinds = [33, 7];
+    let rooms = [1, 2];
+    for name in types {
+        for field in fields {
+            for kind in kinds {
+                for room in rooms {
+                    sheet.column((name, field, kind), room, SHORT, padded);
+                    sheet.column((name, field, kind), room, SHORT, two);
+                    sheet.column((name, field, kind), room, TABLE, padded);
+                    sheet.column((name, field, kind), room, TABLE, two);
+                }
+            }
+        }
+    }
+    sheet.state(
+        "column-order",
+        "15, the file's own refusal, 16, 17, 18, 19: every choice of what is wrong",
+    );
+    for room in [0, 3, 100] {
+        sheet.column(("a", "b", 7), room, TABLE + 1, two);
+        sheet.column(("a", "b", 8), room, TABLE + 1, two);
+        sheet.column(("a", "z", 7), room, TABLE + 1, two);
+    }
+    sheet.state("column-rooms", "no room, one more than needed, much more");
+}
+
+/// 15, the file's own, 19.
+fn listings(sheet: &mut Sheet, two: &File, padded: &File, none: &File) {
+    let length = lines(TWO).len();
+    for table in [SHORT, TABLE, TABLE + 1] {
+        for room in [0, length - 1, length, length + 1] {
+            sheet.listing(room, table, two);
+        }
+        sheet.listing(0, table, padded);
+        sheet.listing(1_000, table, padded);
+        sheet.listing(0, table, none);
+        sheet.listing(1, table, none);
+    }
+    sheet.state("listing-order", "15, the file's own refusal, 19");
+}
+
+/// 15, 20, 19.
+fn builds(sheet: &mut Sheet) {
+    let good = Text::plain(&lines(TWO));
+    let length = built(&lines(TWO)).len();
+    let bad = Text::plain("pair\t0\t0");
+    let empty = Text::plain("");
+    for table in [SHORT, TABLE, TABLE + 1] {
+        for room in [0, length - 1, length, length + 1, 1_000] {
+            sheet.build(room, table, &good);
+        }
+        for room in [0, 7, 8, 1_000] {
+            sheet.build(room, table, &bad);
+            sheet.build(room, table, &empty);
+        }
+    }
+    sheet.state(
+        "build-order",
+        "15, 20, 19; the empty text gives the empty file",
+    );
+}

@@ -1,0 +1,35 @@
+//! The questions to the calls: what they meet.
+
+use second::questions;
+
+/// Every answer of a call is among them: the refusals that are the calls' own,
+/// and each call's acceptance.
+#[test]
+fn questions_meet_every_answer() {
+    let text = questions::text();
+    for refusal in [2, 15, 16, 17, 18, 19, 20] {
+        let answer = format!("≡ refused {refusal})");
+        assert!(text.contains(&answer), "no question has {answer}");
+    }
+    for call in ["check", "objects", "column", "listing", "build"] {
+        let asked = text.lines().any(|line| {
+            line.trim_start().starts_with(&format!("({call} ")) && line.contains("≡ done ")
+        });
+        assert!(asked, "no accepted {call}");
+    }
+}
+
+/// Each statement has a name of its own.
+#[test]
+fn questions_have_names() {
+    let text = questions::text();
+    let mut names: Vec<&str> = text
+        .lines()
+        .filter_map(|line| line.strip_suffix(" :"))
+        .collect();
+    let all = names.len();
+    names.sort_unstable();
+    names.dedup();
+    assert_eq!(names.len(), all);
+    assert!(all > 40);
+}
