@@ -1,13 +1,13 @@
 -- Demand 3, isolation: bytes that differ inside the chunks of one field change no other column. Assumes nothing.
 use mathlib.Core.Path.{_≡_, refl, sym, ap, _∙_}
 use mathlib.Core.Bool.{Bool, true, false, _&&_}
-use mathlib.Core.List.{List, [], _∷_, _++_}
+use mathlib.Core.List.{List, [], _∷_}
 use mathlib.Core.Option.{Option, none, some}
 use Prim.Native.Nat.{ℕ, zero, suc, _+_, _≤_, _<_}
 use native.Mathlib.Omega.{arith}
 use lib.Dec.{leb, eqb}
 use lib.IntN.{ℤ}
-use lib.ListN.{length, getD, take, drop}
+use lib.ListN.{length, getD, take}
 use borrow.Author.Tests.{eqb-true, leb-true, leb-false}
 use Rattle.paper.specs.Reader.{if_then_else_}
 use Rattle.paper.specs.Bounds.{tableLength}
