@@ -82,10 +82,10 @@ int64_t th_column(const uint8_t *file, size_t file_length, const uint8_t *type, 
 /* Writes the listing of a file, which is text, to the front of `out`. Gives its length in bytes; no
  * zero byte ends it. The rest of `out` is untouched, and a refusal leaves all of it as it was.
  *
- * How much room? This is reckoned and tried, not proved: a listing has at most 9 bytes for each
- * byte of the file. Only values of an array field of fixed length 0 come on top: each takes no byte
- * of the file and 4 of the listing, at most 33,553,920 in all. So lend 9 times the file's length,
- * and after TH_ROOM 33,553,920 bytes more. */
+ * How much room? It is proved that a listing has at most 9 bytes for each byte of the file. Only
+ * values of an array field of fixed length 0 come on top: each takes no byte of the file and 4 of
+ * the listing, at most 33,553,920 in all. So lend 9 times the file's length, and after TH_ROOM
+ * 33,553,920 bytes more: then TH_ROOM is not given. */
 int64_t th_listing(const uint8_t *file, size_t file_length, uint32_t *work, size_t work_length,
                    uint8_t *out, size_t out_length);
 

@@ -1,26 +1,19 @@
 -- An answer in one signed number. Assumes nothing.
 use mathlib.Core.Path.{_≡_, refl, sym, ap, _∙_}
-use mathlib.Core.Bool.{Bool, true, false}
-use mathlib.Core.Logic.{_⊎_, inl, inr}
 use mathlib.Core.List.{List}
-use mathlib.Core.Option.{Option, none, some}
 use Prim.Native.Nat.{ℕ, zero, suc, _≤_, _<_}
 use native.Mathlib.Omega.{arith}
 use lib.Dec.{leb}
 use lib.IntN.{ℤ, pos, negsuc, negℤ}
 use lib.ListN.{length}
-use borrow.Author.Tests.{leb-true, le-leb}
-use Rattle.paper.specs.Reader.{if_then_else_, Out, got, no}
-use Rattle.paper.specs.Bounds.{mostBytes, tableLength}
-use Rattle.paper.specs.Ledger.{Ledger}
-use Rattle.paper.specs.Encode.{encode}
-use Rattle.paper.specs.Scan.{short, fileOf}
-use Rattle.paper.specs.Calls.{Answer, done, refused, check, objects, column, listing, build, _>>=_, _>>_, need, found, fitted, howMany, Left, tells, writes, afterCheck, afterObjects, afterColumn, afterListing, afterBuild}
+use borrow.Author.Tests.{le-leb}
+use Rattle.paper.specs.Reader.{if_then_else_}
+use Rattle.paper.specs.Calls.{Answer, done, refused, check, objects, column, listing, build, howMany, Left, tells, writes, afterCheck, afterObjects, afterColumn, afterListing, afterBuild}
 use Rattle.laws.specs.Says.{Bytes}
 use Rattle.paper.specs.Listing.{print}
-use Rattle.laws.specs.Columns.{bind-done, then-done, found-done}
+use Rattle.laws.specs.Columns.{bind-done}
 use Rattle.laws.specs.Promises.{fitted-inv}
-use Rattle.laws.specs.Answers.{check-refusals, objects-refusals, column-refusals, listing-refusals, build-refusals, objects-most, column-most}
+use Rattle.laws.specs.Answers.{check-refusals, objects-refusals, column-refusals, listing-refusals, build-refusals, objects-most, column-most, build-most}
 use Rattle.calls.specs.Told.{answerOf, after}
 use Rattle.calls.specs.declared.replies.Reply.{Reply}
 
@@ -51,6 +44,15 @@ pub record Coded {A : Type 0} (z : ℤ) (table : List ℕ) (out : List A) (left 
   pub back : decoded z ≡ left .answer
   pub table-is : table ≡ left .table
   pub output-is : out ≡ left .output
+
+-- and so there is one number, one table and one output that a call can leave
+pub one-coded :
+    {A : Type 0} {z y : ℤ} {w v : List ℕ} {o p : List A} {left : Left A} → Coded z w o left → Coded y v p left → (z ≡ y) × (w ≡ v) × (o ≡ p)
+one-coded a b = (a .number ∙ sym (b .number), a .table-is ∙ sym (b .table-is), a .output-is ∙ sym (b .output-is))
+
+-- there is such a number wherever refusals are numbered from 1, as they are for each call (`check-plain` .. `build-plain`)
+pub some-coded : {A : Type 0} (left : Left A) → Numbered (left .answer) → Coded (coded (left .answer)) (left .table) (left .output) left
+some-coded left h = record { number = refl; back = decoded-back (left .answer) h; table-is = refl; output-is = refl }
 
 -- ── in code no number passes the top of the range, and none comes near it ──
 
@@ -97,37 +99,6 @@ plain-refusal n h = record { small = omega (arith, h .1); numbered = h .0 }
 plain-done : (n : ℕ) → n ≤ 9223372036854775807 → Plain (done n)
 unfolding Small Numbered
 plain-done n h = record { small = h; numbered = tt }
-
--- what is built is a file, and has no more bytes than one may have
-short-most : (o : Out Ledger) (f : List ℕ) → short o ≡ some f → length f ≤ mostBytes
-unfolding short if_then_else_
-short-most (no n p) f q = let z : _≡_ {A = ℕ} 0 1 = cc q in absurd (omega arith)
-short-most (got l e) f q = go (leb (length (encode l)) mostBytes) refl q
-  where
-    go : (b : Bool) → leb (length (encode l)) mostBytes ≡ b → (if b then some (encode l) else none) ≡ some f → length f ≤ mostBytes
-    go true h q = let z : encode l ≡ f = cc q in omega (arith, leb-true (length (encode l)) mostBytes h, ap length z)
-    go false h q = let z : _≡_ {A = ℕ} 0 1 = cc q in absurd (omega arith)
-
-pub build-most : (room table : ℕ) (t f : List ℕ) → build room table t ≡ done f → length f ≤ mostBytes
-unfolding build fileOf
-build-most room table t f q =
-    let (g, x, z) = bind-done _ _ f (then-done _ _ f q) in
-    let same : g ≡ f = fitted-inv room g f z .0 in
-    omega (arith, short-most _ g (found-done _ 20 g x), ap length same)
-
--- nothing but 15, 20 and 19
-pub build-refusal : (room table : ℕ) (t : List ℕ) (n : ℕ) → build room table t ≡ refused n → (n ≡ 15) ⊎ ((n ≡ 20) ⊎ (n ≡ 19))
-unfolding build need found fitted _>>=_ _>>_
-build-refusal room table t n q = go (leb tableLength table) (fileOf t) q
-  where
-    room-only : (b : Bool) (f : List ℕ) → (need b 19 >> done f) ≡ refused n → n ≡ 19
-    room-only true f q = let z : _≡_ {A = ℕ} 0 1 = cc q in absurd (omega arith)
-    room-only false f q = cc q
-
-    go : (b : Bool) (o : Option (List ℕ)) → (need b 15 >> (found o 20 >>= fitted room)) ≡ refused n → (n ≡ 15) ⊎ ((n ≡ 20) ⊎ (n ≡ 19))
-    go false o q = inl (cc q)
-    go true none q = inr (inl (cc q))
-    go true (some f) q = inr (inr (room-only (leb (length f) room) f q))
 
 module _ (f w : List ℕ) where
   pub check-plain : Plain (afterCheck f w .answer)

@@ -13,6 +13,10 @@ pub take-front : {A : Type 0} (l m : List A) → take (length l) (l ++ m) ≡ l
 take-front [] m = refl
 take-front (x ∷ l) m = ap (λ (z : List _). x ∷ z) (take-front l m)
 
+-- the first n numbers of what was written are what was answered
+pub front-is : {A : Type 0} (n : ℕ) (vs o rest : List A) → n ≡ length vs → o ≡ vs ++ rest → take n o ≡ vs
+front-is n vs o rest count is = rw (is, count) (take-front vs rest)
+
 pub drop-front : {A : Type 0} (l m : List A) → drop (length l) (l ++ m) ≡ m
 drop-front [] m = refl
 drop-front (x ∷ l) m = drop-front l m

@@ -15,13 +15,9 @@ use Rattle.laws.specs.Promises.{accepted-exactly, listing-inv, listing-done, bu
 use Rattle.calls.specs.Told.{answerOf, after}
 use Rattle.calls.specs.declared.replies.Reply.{Reply}
 use Rattle.calls.specs.declared.replies.Reply.the-variants.{Done, Refused}
-use Rattle.demands.specs.Replies.{written, unwritten, was-done, was-refused, take-front}
+use Rattle.demands.specs.Replies.{written, unwritten, was-done, was-refused, front-is}
 use Rattle.demands.specs.Answers.{cleared-length}
 use Rattle.demands.specs.Exact.{Follows}
-
--- the first n numbers of what was written are what was answered
-front-is : {A : Type 0} (n : ℕ) (vs o out : List A) → n ≡ length vs → o ≡ vs ++ drop n out → take n o ≡ vs
-front-is n vs o out count is = rw is (rw (sym count) at (take-front vs (drop n out)))
 
 front-fits : {A : Type 0} (n : ℕ) (vs o out : List A) → n ≡ length vs → o ≡ vs ++ drop n out → n ≤ length o
 front-fits n vs o out count is = rw (is, length-append vs (drop n out)) (omega arith)
@@ -51,7 +47,7 @@ pub built-again :
 unfolding afterListing afterBuild
 built-again f work out work′ out′ n {q} {w} {o} b c d h fits =
     let (t, is, count, left) = was-done _ work out (Done n) c n refl in
-    let front = front-is n t o out count left in
+    let front = front-is n t o _ count left in
     let B = build-listing (length out) (length work) (length out′) (length work′) f t b is h fits in
     written _ work′ out′ q d f (ap (build (length out′) (length work′)) front ∙ B)
 
@@ -62,7 +58,7 @@ pub listed-again :
 unfolding afterListing afterBuild
 listed-again t work out work′ out′ n {q} {w} {o} b c d h fits =
     let (f, is, count, left) = was-done _ work out (Done n) c n refl in
-    let front = front-is n f o out count left in
+    let front = front-is n f o _ count left in
     let L = listing-build (length out) (length work) (length out′) t f b is fits in
     let (l, a, e) = listing-inv (length out′) (length work) f t (L .1) (L .0) in
     let room : length (print l) ≤ length out′ = rw e fits in

@@ -1,7 +1,8 @@
--- What the calls answer fits a signed number: a refusal is one of the paper's numbers, and a count of objects and the length
--- of a column are at most 65,535. Assumes nothing.
-use mathlib.Core.Path.{_≡_, refl}
+-- What the calls answer fits a signed number: a refusal is one of the paper's numbers, a count of objects and the length of a
+-- column are at most 65,535, and what is built has no more bytes than a file may have. Assumes nothing.
+use mathlib.Core.Path.{_≡_, refl, ap}
 use mathlib.Core.Bool.{Bool, true, false, _&&_, _||_}
+use mathlib.Core.Logic.{_⊎_, inl, inr}
 use mathlib.Core.List.{List}
 use mathlib.Core.Option.{Option, none, some}
 use Prim.Native.Nat.{ℕ, _≤_}
@@ -10,17 +11,20 @@ use lib.Dec.{leb, eqb}
 use lib.IntN.{ℤ}
 use lib.ListN.{length}
 use borrow.Author.Tests.{leb-true, le-leb, eqb-true}
-use Rattle.paper.specs.Reader.{Out, got, no}
-use Rattle.paper.specs.Bounds.{mostObjects}
+use Rattle.paper.specs.Reader.{if_then_else_, Out, got, no}
+use Rattle.paper.specs.Bounds.{mostBytes, mostObjects, tableLength}
 use Rattle.paper.specs.Ledger.{Ledger, objectsOf}
 use Rattle.paper.specs.File.{file}
+use Rattle.paper.specs.Encode.{encode}
+use Rattle.paper.specs.Scan.{short, fileOf}
 use Rattle.paper.specs.Calls.{Answer, done, refused, _>>=_, _>>_, need, found, answered, read, known, check, objects, ask, column, fitted, listing, build}
 use Rattle.laws.specs.Says.{Bytes}
 use Rattle.laws.specs.Bools.{and-split, and-join}
 use Rattle.laws.specs.Exact.{file-kept}
-use Rattle.laws.specs.Columns.{bind-done, then-done, answered-done}
+use Rattle.laws.specs.Columns.{bind-done, then-done, found-done, answered-done}
 use Rattle.laws.specs.Lengths.{column-length}
 use Rattle.laws.specs.Objects.{ledger-objects}
+use Rattle.laws.specs.Promises.{fitted-inv}
 use Rattle.laws.specs.Refused.{fileRefusal?, file-refusals}
 
 -- ── a refusal is one of the paper's numbers ──
@@ -95,9 +99,27 @@ pub listing-refusals : (room table : ℕ) (f : List ℕ) (n : ℕ) → listing r
 unfolding listing fitted
 listing-refusals room table f = one-of (search numbered)
 
+-- a build refuses by 15, 20 and 19 alone
+pub build-refusal : (room table : ℕ) (t : List ℕ) (n : ℕ) → build room table t ≡ refused n → (n ≡ 15) ⊎ ((n ≡ 20) ⊎ (n ≡ 19))
+unfolding build need found fitted _>>=_ _>>_
+build-refusal room table t n q = go (leb tableLength table) (fileOf t) q
+  where
+    room-only : (b : Bool) (f : List ℕ) → (need b 19 >> done f) ≡ refused n → n ≡ 19
+    room-only true f q = let z : _≡_ {A = ℕ} 0 1 = cc q in absurd (omega arith)
+    room-only false f q = cc q
+
+    go : (b : Bool) (o : Option (List ℕ)) → (need b 15 >> (found o 20 >>= fitted room)) ≡ refused n → (n ≡ 15) ⊎ ((n ≡ 20) ⊎ (n ≡ 19))
+    go false o q = inl (cc q)
+    go true none q = inr (inl (cc q))
+    go true (some f) q = inr (inr (room-only (leb (length f) room) f q))
+
 pub build-refusals : (room table : ℕ) (t : List ℕ) (n : ℕ) → build room table t ≡ refused n → (1 ≤ n) × (n ≤ 21)
-unfolding build fitted
-build-refusals room table t = one-of (search numbered depth 9)
+build-refusals room table t n q = go (build-refusal room table t n q)
+  where
+    go : (n ≡ 15) ⊎ ((n ≡ 20) ⊎ (n ≡ 19)) → (1 ≤ n) × (n ≤ 21)
+    go (inl is) = (omega arith, omega arith)
+    go (inr (inl is)) = (omega arith, omega arith)
+    go (inr (inr is)) = (omega arith, omega arith)
 
 -- ── and an answer is at most 65,535 ──
 
@@ -112,3 +134,21 @@ objects-most type table f m b q =
 
 pub column-most : (type field : List ℕ) (k room table : ℕ) (f : List ℕ) (c : List ℤ) → Bytes f → column type field k room table f ≡ done c → length c ≤ mostObjects
 column-most type field k room table f c b q = objects-most type table f (length c) b (column-length type field k room table f c b q .0)
+
+-- ── what is built is a file, and has no more bytes than one may have ──
+
+short-most : (o : Out Ledger) (f : List ℕ) → short o ≡ some f → length f ≤ mostBytes
+unfolding short if_then_else_
+short-most (no n p) f q = let z : _≡_ {A = ℕ} 0 1 = cc q in absurd (omega arith)
+short-most (got l e) f q = go (leb (length (encode l)) mostBytes) refl q
+  where
+    go : (b : Bool) → leb (length (encode l)) mostBytes ≡ b → (if b then some (encode l) else none) ≡ some f → length f ≤ mostBytes
+    go true h q = let z : encode l ≡ f = cc q in omega (arith, leb-true (length (encode l)) mostBytes h, ap length z)
+    go false h q = let z : _≡_ {A = ℕ} 0 1 = cc q in absurd (omega arith)
+
+pub build-most : (room table : ℕ) (t f : List ℕ) → build room table t ≡ done f → length f ≤ mostBytes
+unfolding build fileOf
+build-most room table t f q =
+    let (g, x, z) = bind-done _ _ f (then-done _ _ f q) in
+    let same : g ≡ f = fitted-inv room g f z .0 in
+    omega (arith, short-most _ g (found-done _ 20 g x), ap length same)

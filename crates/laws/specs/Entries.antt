@@ -257,7 +257,7 @@ dues-length : (s : State) (e : Entry) → length (entryDues s e) ≡ knownIn s e
 unfolding entryDues
 dues-length s e = rw (length-append, length-map (knownDue s (e .head)) (oldDue s (e .head .count)), news-length (length (s .fields)) (objectsOf (afterHead s (e .head)) (typeOf s (e .head .name))) (e .news))
 
-dues-more : (s : State) (e : Entry) (l : List Entry) → length (dues s (e ∷ l)) ≡ knownIn s e + length (e .news) + length (dues (afterEntry s e) l)
+pub dues-more : (s : State) (e : Entry) (l : List Entry) → length (dues s (e ∷ l)) ≡ knownIn s e + length (e .news) + length (dues (afterEntry s e) l)
 unfolding dues
 dues-more s e l = rw (length-append, dues-length s e)
 

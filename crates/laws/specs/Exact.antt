@@ -169,7 +169,7 @@ rising-from from (b ∷ bs) h =
     let n = length-append b (flat (λ c. c) bs) in
     (omega arith, omega arith, rising-from (from + length b) bs (omega arith))
 
-chunks-length : (s : State) (ds : List Due) (l : List Chunk) → chunks? s ds l ≡ true → length (putChunks s ds l) ≡ length ds
+pub chunks-length : (s : State) (ds : List Due) (l : List Chunk) → chunks? s ds l ≡ true → length (putChunks s ds l) ≡ length ds
 unfolding chunks? putChunks
 chunks-length s [] [] h = refl
 chunks-length s [] (c ∷ l) h = refl

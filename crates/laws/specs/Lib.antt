@@ -31,4 +31,5 @@ pub mod Refill
 pub mod Refused
 pub mod Objects
 pub mod Answers
+pub mod Room
 pub mod Short

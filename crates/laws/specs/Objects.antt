@@ -36,7 +36,7 @@ total-fewer p q n imp (x ∷ xs) = go (total-fewer p q n imp xs) (p x) (q x) (im
     go ih false true i = omega arith
     go ih false false i = ih
 
-total-none : {A : Type 0} (p : A → Bool) (n : A → ℕ) (xs : List A) → any p xs ≡ false → total p n xs ≡ 0
+pub total-none : {A : Type 0} (p : A → Bool) (n : A → ℕ) (xs : List A) → any p xs ≡ false → total p n xs ≡ 0
 unfolding total any if_then_else_
 total-none p n [] h = refl
 total-none p n (x ∷ xs) h = go (total-none p n xs) (p x) h

@@ -1,5 +1,5 @@
 -- What a program writes for its input: the text of its call's answer, or the line of a refusal. Assumes nothing.
-use mathlib.Core.Path.{_≡_, ap, _∙_}
+use mathlib.Core.Path.{_≡_, sym, ap, _∙_}
 use mathlib.Core.List.{List, [], _∷_, _++_}
 use Prim.Native.Nat.{ℕ, zero, suc, _+_, _/_, _^_, _≤_, _<_}
 use native.Mathlib.Omega.{arith}
@@ -36,6 +36,10 @@ writtenBy call input = if leb (length input) mostInput then told (call input) el
 pub record AtFront (text out out′ : List ℕ) (r : ℕ) : Type 0 where
   pub bytes : out′ ≡ overFront text out
   pub count : r ≡ length text
+
+-- so one output and one length
+pub one-front : {text out o p : List ℕ} {r q : ℕ} → AtFront text out o r → AtFront text out p q → (o ≡ p) × (r ≡ q)
+one-front a b = (a .bytes ∙ sym (b .bytes), a .count ∙ sym (b .count))
 
 -- whichever call replied so and left the output so: the text of its answer is now at the front of what was lent to it
 pub record Told (a : Reply) (left out′ : List ℕ) (r : ℕ) : Type 0 where

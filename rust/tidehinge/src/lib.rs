@@ -83,10 +83,11 @@ pub fn column(
 ///
 /// The rest of `out` is untouched, and a refusal leaves all of it as it was.
 ///
-/// A listing has at most 9 bytes for each byte of the file. Only values of an
-/// array field of fixed length 0 come on top: each takes no byte of the file
-/// and 4 of the listing, at most 33,553,920 in all. So lend 9 times the file's
-/// length, and after [`Refusal::Room`] 33,553,920 bytes more.
+/// It is proved that a listing has at most 9 bytes for each byte of the file.
+/// Only values of an array field of fixed length 0 come on top: each takes no
+/// byte of the file and 4 of the listing, at most 33,553,920 in all. So lend 9
+/// times the file's length, and after [`Refusal::Room`] 33,553,920 bytes more:
+/// then that refusal is not given.
 ///
 /// ```
 /// let file = [0u8; 2]; // one pair, with no strings and no entries
