@@ -320,7 +320,7 @@ values49 :
 unfolding whole
 values49 = refl
 
--- a value past the chunk's end is 12, also where the next chunk is empty
+-- a value past the end of an empty chunk is 12, although the next chunk has one
 values50 :
     (file (Q ++ 0x01 ∷ 0x01 ∷ 0x00 ∷ 0x01 ∷ 0x00 ∷ 0x02 ∷ 0x00 ∷ 0x07 ∷ 0x01 ∷ 0x00 ∷ 0x00 ∷ 0x07 ∷ 0x02 ∷ 0x01 ∷ 0x05 ∷ []) ≡ no 12 25)
 unfolding whole

@@ -130,6 +130,11 @@ const SUPERS: &[Row] = &[
         "Q 02 01 00 01 00 00 02 01 00 01 00 00 00 02 01 03 00 02 01 02 00",
     ),
     (
+        "a known type's super type is not another's: declared behind an entry of a known type",
+        0,
+        "Q 01 01 00 01 00 00 00 02 01 02 00 02 01 01 01 00 00 00 02 01 01 00 02 00 01 00",
+    ),
+    (
         "a known type's super type is not forgotten: its start is held to the range",
         21,
         "Q 02 01 00 01 00 00 02 01 00 01 00 00 00 02 01 03 00 02 02 02",
@@ -188,6 +193,7 @@ fn new_types(first: u64, count: u64) -> String {
 fn bound_of_types() -> Vec<Case> {
     let all = new_types(2, 32);
     let most = new_types(2, 31);
+    let again = "00 02 01 00 00 02 00 00 ".repeat(16);
     let rows = [
         ("a 33rd type, at its name", 3, format!("S34 21 {all} 22")),
         (
@@ -214,6 +220,11 @@ fn bound_of_types() -> Vec<Case> {
             "32 types and a second entry: 6, for it is no new name",
             6,
             format!("S33 21 {all} 21"),
+        ),
+        (
+            "the bound counts types, not entries: two in 17 blocks, and a third",
+            0,
+            format!("S3 02 {} {again} 00 01 03 00 00 00 00", new_types(1, 2)),
         ),
         (
             "32 types are accepted, and known ones in the next block",

@@ -4,7 +4,7 @@ use super::{ruled, Row};
 use crate::generate::Case;
 
 pub fn cases() -> Vec<Case> {
-    ruled(&[CODINGS, WIDTHS, PADDED, CUT])
+    ruled(&[CODINGS, WIDTHS, FULL, PADDED, CUT])
 }
 
 const CODINGS: &[Row] = &[
@@ -38,6 +38,77 @@ const WIDTHS: &[Row] = &[
     ("constants i32 are two's complement", 0, "P 01 01 00 01 00 04 00 02 7FFFFFFF 01 00 00 02 80000000 02 00 00 02 FFFFFFFF 03 00 00 02 01020304 04 00"),
     ("constants i64 are two's complement", 0, "P 01 01 00 01 00 04 00 03 7F FF*7 01 00 00 03 80 00*7 02 00 00 03 FF*8 03 00 00 03 0102030405060708 04 00"),
     ("constants v64 are signed", 0, "P 01 01 00 01 00 05 00 04 FF*8 7F 01 00 00 04 80*9 02 00 00 04 FF*9 03 00 00 04 80 01 04 00 00 04 00 05 00"),
+];
+
+/// Numbers that would be good in their low 8, 16 or 32 bits.
+const FULL: &[Row] = &[
+    ("all 64 bits count: 2^32 strings", 3, "80 80 80 80 10 00"),
+    ("all 64 bits count: 2^32 entries", 3, "Q 80 80 80 80 10 00"),
+    (
+        "all 64 bits count: a name of 257",
+        5,
+        "Q 01 81 02 00 00 00 00",
+    ),
+    (
+        "all 64 bits count: a name of 2^32 + 1",
+        5,
+        "Q 01 81 80 80 80 10 00 00 00 00",
+    ),
+    (
+        "all 64 bits count: a super name of 2^32",
+        5,
+        "Q 01 01 80 80 80 80 10 00 00 00",
+    ),
+    (
+        "all 64 bits count: a local start of 2^32",
+        3,
+        "Q 02 01 00 01 00 00 02 01 80 80 80 80 10 01 00 00",
+    ),
+    (
+        "all 64 bits count: a count of 2^32 + 1",
+        3,
+        "Q 01 01 00 81 80 80 80 10 00 00",
+    ),
+    (
+        "all 64 bits count: 2^32 fields",
+        3,
+        "Q 01 01 00 01 00 80 80 80 80 10",
+    ),
+    (
+        "all 64 bits count: a length of 2^32 + 1 in a kind",
+        3,
+        "Q 01 01 00 01 00 01 00 0F 81 80 80 80 10 07 01 01 05",
+    ),
+    (
+        "all 64 bits count: a field name of 2^32 + 1",
+        5,
+        "Q 01 01 00 01 00 01 00 07 81 80 80 80 10 01 05",
+    ),
+    (
+        "all 64 bits count: an end of 2^32 + 1",
+        1,
+        "Q 01 01 00 01 00 01 00 07 01 81 80 80 80 10 05",
+    ),
+    (
+        "all 64 bits count: an end of 257",
+        1,
+        "Q 01 01 00 01 00 01 00 07 01 81 02 05",
+    ),
+    (
+        "all 64 bits count: a string number of 2^32 + 1",
+        14,
+        "Q 01 01 00 01 00 01 00 0E 01 05 81 80 80 80 10",
+    ),
+    (
+        "all 64 bits count: an object number of 2^32 + 1",
+        14,
+        "Q 01 01 00 01 00 01 00 20 01 05 81 80 80 80 10",
+    ),
+    (
+        "all 64 bits count: an array's length of 2^32 + 1",
+        3,
+        "Q 01 01 00 01 00 01 00 11 07 01 06 81 80 80 80 10 05",
+    ),
 ];
 
 /// A padded number has no value: 2 comes before what its value would break.

@@ -192,6 +192,7 @@ const SIBLINGS: &[Row] = &[
     ("a range of the one above's sibling is no matter", 0, "P 04 01 00 04 00 00 02 01 00 02 00 00 03 01 02 02 00 00 04 02 00 01 00 00"),
     ("a cousin's range is no matter", 0, "P 05 01 00 04 00 00 02 01 02 02 00 00 05 02 02 02 00 00 03 00 02 00 00 04 03 00 01 00 00"),
     ("ranges of two pools are no matter to each other", 0, "P 04 01 00 02 00 00 02 00 02 00 00 03 01 00 02 00 00 04 02 00 02 00 00"),
+    ("ranges of two pools are no matter to each other: the later declared pool first", 0, "P 04 01 00 02 00 00 02 00 02 00 00 04 02 00 02 00 00 03 01 00 02 00 00"),
     ("a nephew's range is no matter, its sibling's is", 21, "P 04 01 00 04 00 00 02 01 00 03 00 00 03 02 00 01 00 00 04 01 01 01"),
 ];
 

@@ -18,6 +18,7 @@ const POOL: &[Row] = &[
     ("32 + n is the type declared n-th: past the first's objects", 14, "P 02 05 00 01 00 02 00 20 01 01 00 21 02 02 03 00 02 00 00 02 02"),
     ("32 + n is the type declared n-th, not the n-th entry of the block", 14, "Q 02 01 00 01 00 00 02 00 02 00 00 00 02 02 00 01 00 20 01 02 01 00 00 00 02"),
     ("32 + n is the type declared n-th: a later block's", 0, "P 02 01 00 01 00 00 02 00 01 00 00 00 01 03 00 03 00 01 00 22 01 03 01 02 03"),
+    ("32 + n is the type declared n-th: entries of known types are not counted", 0, "Q 01 01 00 01 00 00 00 02 01 01 00 02 00 02 00 01 00 21 01 02 01 02"),
     ("pools stay apart: another pool's objects do not count", 14, "Q 02 01 00 03 00 00 02 00 01 00 01 00 21 01 01 02"),
     ("pools stay apart: both begin at 1", 0, "Q 02 01 00 03 00 01 00 21 01 03 02 00 01 00 01 00 20 01 04 01 00 01 03"),
     ("a pool's objects are numbered block after block: the first block's", 0, "Q 01 01 00 02 00 00 00 01 01 03 01 00 20 01 05 01 02 03 04 05"),

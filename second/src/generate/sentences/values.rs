@@ -246,7 +246,7 @@ const CHUNK: &[Row] = &[
         "Q 01 01 00 02 00 02 00 06 01 01 00 07 02 03 00 01 01",
     ),
     (
-        "a value past the chunk's end is 12, also where the next chunk is empty",
+        "a value past the end of an empty chunk is 12, although the next chunk has one",
         12,
         "Q 01 01 00 01 00 02 00 07 01 00 00 07 02 01 05",
     ),
