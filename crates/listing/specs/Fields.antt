@@ -24,8 +24,8 @@ use Rattle.reader.specs.Kinds.{namedBy, kindIn, outKind, KindReads}
 use Rattle.reader.specs.declared.kinds.Kind.{Kind as KindRow}
 use Rattle.reader.specs.declared.kinds.KindRead.{KindRead}
 use Rattle.reader.specs.declared.kinds.KindRead.the-variants as kinds
-use Rattle.reader.specs.declared.strings.Step.{Step}
-use Rattle.reader.specs.declared.strings.Step.the-variants as step
+use Rattle.numbers.specs.declared.Step.{Step}
+use Rattle.numbers.specs.declared.Step.the-variants as step
 use Rattle.listing.specs.declared.fields.Listed.{Listed}
 use Rattle.listing.specs.declared.fields.Listed.the-variants as listed
 use Rattle.listing.specs.Prints.{stands, Prints, prints-none, number-got, times-first, times-none}

@@ -17,8 +17,8 @@ use reader::kinds::Named;
 use reader::kinds::read_kind;
 use reader::kinds::refused_kind;
 use reader::ruled::no_restrictions;
-use reader::strings::Step;
-use reader::strings::refused_step;
+use numbers::Step;
+use numbers::refused_step;
 
 // Behind what was read and behind what was printed, or the refusal of the read that failed.
 pub enum Listed {
