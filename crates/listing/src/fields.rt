@@ -11,14 +11,14 @@ use lines::put_olds;
 use numbers::Cursor;
 use numbers::Number;
 use numbers::Refusal;
+use numbers::Step;
 use numbers::refused;
+use numbers::refused_step;
 use reader::kinds::KindRead;
 use reader::kinds::Named;
 use reader::kinds::read_kind;
 use reader::kinds::refused_kind;
 use reader::ruled::no_restrictions;
-use numbers::Step;
-use numbers::refused_step;
 
 // Behind what was read and behind what was printed, or the refusal of the read that failed.
 pub enum Listed {
