@@ -1,9 +1,8 @@
 //! Files as statements for the project's checker.
 //!
 //! Each file is computed there with the definitions and must give this
-//! program's answer: the refusal and its place, or the listing. Of the small
-//! files it is also built back from the listing, and every column that can be
-//! asked for is.
+//! program's answer: the refusal and its place, or the listing. The small files
+//! are built back from their listings as well, and asked for every column.
 
 use std::fmt::Write;
 
@@ -57,33 +56,33 @@ pub fn text(part: &str) -> Option<String> {
 
 /// A statement for each case, named by what they are and their number.
 fn statements(kind: &str, cases: &[Case], claims: fn(&Case) -> Vec<String>) -> String {
-    let mut text = HEAD.to_string();
-    for (name, piece) in pieces() {
-        let listed: String = piece
-            .iter()
-            .map(|byte| format!("0x{byte:02X} ∷ "))
-            .collect();
-        write!(text, "\nabbrev {name} : List ℕ\n{name} = {listed}[]\n")
-            .expect("a string takes all");
-    }
+    let mut text = head();
     for (index, case) in cases.iter().enumerate() {
-        let claims = claims(case);
-        let proof = vec!["refl"; claims.len()].join(", ");
         let name = format!("{kind}{index}");
-        let (open, close) = if claims.len() > 1 {
-            ("(", ")")
-        } else {
-            ("", "")
-        };
-        write!(
-            text,
-            "\n-- {}\n{name} :\n    {}\nunfolding whole\n{name} = {open}{proof}{close}\n",
-            case.label,
-            claims.join(" ×\n    "),
-        )
-        .expect("a string takes all");
+        text += &statement(&name, &case.label, &claims(case));
     }
     text
+}
+
+/// What stands before the statements: the names that they use.
+fn head() -> String {
+    let mut text = HEAD.to_string();
+    for (name, piece) in pieces() {
+        let listed = piece.iter().map(|byte| format!("0x{byte:02X} ∷ "));
+        let listed: String = listed.collect();
+        text += &format!("\nabbrev {name} : List ℕ\n{name} = {listed}[]\n");
+    }
+    text
+}
+
+/// All claims in one statement, each of them computed.
+fn statement(name: &str, label: &str, claims: &[String]) -> String {
+    let proof = match claims.len() {
+        1 => "refl".to_string(),
+        count => format!("({})", vec!["refl"; count].join(", ")),
+    };
+    let all = claims.join(" ×\n    ");
+    format!("\n-- {label}\n{name} :\n    {all}\nunfolding whole\n{name} = {proof}\n")
 }
 
 /// What is said of a file: its refusal and the place, or its listing.
