@@ -8,7 +8,8 @@ pub mod Fields
 pub mod Kinds
 pub mod Values
 pub mod References
-pub mod Long
+pub mod LongFile
 pub mod Questions
 pub mod Ledgers
 pub mod Pieces
+pub mod LongLedger
