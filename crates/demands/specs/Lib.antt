@@ -3,6 +3,7 @@ pub mod Answers
 pub mod Exact
 pub mod Width
 pub mod Trips
+pub mod Room
 pub mod Growth
 pub mod Isolation
 pub mod Wrong

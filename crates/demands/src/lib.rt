@@ -3,6 +3,7 @@ ghost use Prim.Native.Nat.{_≤_};
 ghost use lib.ListN.{length};
 ghost use Rattle.demands.specs.Exact.{AcceptsExactly, ColumnExactly};
 ghost use Rattle.demands.specs.Trips.{BuiltAgain, ListedAgain};
+ghost use Rattle.demands.specs.Room.{ListedInRoom};
 ghost use Rattle.demands.specs.Growth.{Grown};
 ghost use Rattle.demands.specs.Isolation.{Isolated};
 use build::build;
@@ -52,6 +53,13 @@ pub fn listed_again(text: &[u8], work: &mut [u32], file: &mut [u8], out: &mut [u
         Reply::Done(n) => listing(&file[..n as usize], work, out),
         Reply::Refused(n) => Reply::Refused(n),
     }
+}
+
+// The room that the header advises for a listing is enough.
+pub fn listed_in_room(file: &[u8], work: &mut [u32], out: &mut [u8]) -> Reply
+    ensures { λ r. ⌜ (16384 ≤ length (now (work .entry)) → ListedInRoom (now (file .entry)) (now (out .entry)) r (now (out .exit))) ⌝ }
+{
+    listing(file, work, out)
 }
 
 // The replies to one question of two files.
