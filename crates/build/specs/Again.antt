@@ -1,23 +1,25 @@
--- The second pass: the values of a pair laid before its front. Assumes nothing.
+-- The second pass: the values of a pair laid before its front, at the place where they are known to begin. Assumes nothing.
 use mathlib.Core.Path.{_≡_, refl, sym, ap, _∙_, subst}
 use mathlib.Core.Bool.{Bool, true, false}
-use mathlib.Core.List.{List, [], map, append-nil}
+use mathlib.Core.List.{List, [], append-nil}
 use mathlib.Core.Option.{none, some}
-use Prim.Native.Nat.{ℕ, _-_, _≤_, _<_, min}
+use Prim.Native.Nat.{ℕ, _+_, _-_, _≤_, _<_}
 use native.Mathlib.Omega.{arith}
 use lib.Dec.{leb}
-use lib.ListN.{length, drop, drop-of-length-le}
+use lib.ListN.{length, getD, drop, drop-of-length-le}
 use lib.Seq.{sets}
 use Rattle.paper.specs.Reader.{if_then_else_, got}
-use Rattle.paper.specs.Bounds.{mostBytes}
-use Rattle.paper.specs.Ledger.{Ledger, State}
-use Rattle.paper.specs.Listing.{hex}
-use Rattle.paper.specs.Encode.{encode}
-use Rattle.paper.specs.Scan.{scan, short, fileOf}
+use Rattle.paper.specs.Bounds.{mostBytes, mostPairs}
+use Rattle.paper.specs.Lists.{fold}
+use Rattle.paper.specs.Ledger.{Pair, Ledger, State, nothing}
+use Rattle.paper.specs.Rules.{afterPair}
+use Rattle.paper.specs.Encode.{putPair, encode}
+use Rattle.paper.specs.Scan.{pairText, scan, short, fileOf}
 use Rattle.paper.specs.Calls.{overFront}
 use Rattle.lay.specs.Laid.{most}
-use Rattle.laws.specs.Hexed.{hexed, Spelt}
-use Rattle.table.specs.View.{view, strsOf, duesOf, stringsIn}
+use Rattle.laws.specs.Laws.{not-got}
+use Rattle.laws.specs.Says.{Bytes}
+use Rattle.table.specs.View.{duesOf, stringsIn}
 use Rattle.table.specs.Counts.{Next}
 use Rattle.walk.specs.Region.{sizes}
 use Rattle.values.specs.Filling.{sets-front}
@@ -26,69 +28,67 @@ use Rattle.texts.specs.declared.TextRead.{TextRead}
 use Rattle.texts.specs.declared.TextRead.the-variants as read
 use Rattle.regions.specs.Turns.{RegionReady, RegionSized}
 use Rattle.regions.specs.Both.{RegionLaid, LaidSized, as-sized}
-use Rattle.regions.specs.After.{still-ready, same-view}
+use Rattle.regions.specs.After.{still-ready}
 use Rattle.words.specs.declared.read.Step.the-variants as step
-use Rattle.build.specs.FrontLaws.{PairAsks}
-use Rattle.build.specs.FrontTold.{FrontTold}
-use Rattle.build.specs.Pairs.{Built, PairBuilt, FileBuilt, fileBy, PairsBuilt, PairsGoing, pairs-next, pairs-done}
-use Rattle.build.specs.PairLaws.{as-many, sum-small, front-laid, region-laid-first, pair-laid-last, pair-inside, pair-built}
-use Rattle.build.specs.Puts.{FrontLays, fronted, front-ready}
+use Rattle.build.specs.FrontLaws.{PairAsks, Fronted}
+use Rattle.build.specs.FrontTold.{FrontTold, frontedBy}
+use Rattle.build.specs.Places.{frontBytes, valueBytes, pair-length, Placed, PairPlaced, placed-end, placed-next}
+use Rattle.build.specs.Pairs.{Built, TextReady, FileBuilt, PairsGoing, pairs-begin, here, pairs-done, pair-asks, state-next, pairs-next}
+use Rattle.build.specs.PairLaws.{values-read, pair, reads, small-sizes, region-laid, pair-laid, pair-inside, pair-built}
+use Rattle.build.specs.Puts.{FrontLays, fronted, front-ready, front-told}
 use Rattle.build.specs.declared.front.Front.{Front}
 use Rattle.build.specs.declared.front.FrontRead.{FrontRead}
-use Rattle.build.specs.declared.front.FrontRead.the-variants.{Got}
+use Rattle.build.specs.declared.front.FrontRead.the-variants.{Got, Bad}
 
 -- ── a pair ──
 
--- the pair stands, or the pass gave up
-pub record PairAgain (t l : List ℕ) (from : ℕ) (out : List ℕ) (at : ℕ) (m : List ℕ) (r : TextRead) (l′ : List ℕ) : Type 0 where
-  pub told : (k : Taken) → r ≡ read.Got k → PairBuilt t l from out at m (read.Got k) l′
+-- the pair is there, and its values begin at this place
+pub record PairGiven (t l : List ℕ) (from at values : ℕ) : Type 0 where
+  pub asks : PairAsks t l from
+  pub pair : Pair
+  pub next : ℕ
+  pub reads : pairText (asks .state) t from ≡ got pair next
+  pub place : values ≡ at + length (frontBytes (asks .state) pair)
+  pub short : at + length (putPair (asks .state) pair) ≤ mostBytes
 
-pub given-up : {t l : List ℕ} {from : ℕ} {out : List ℕ} {at : ℕ} {m l′ : List ℕ} → PairAgain t l from out at m read.Bad l′
-given-up = record { told = λ k q. let z : _≡_ {A = ℕ} 0 1 = cc q in absurd (omega arith) }
+module _ {t l : List ℕ} {at p q : ℕ} (G : PairGiven t l at p q) {a : FrontRead} {l₁ : List ℕ} (T : FrontTold t l at a l₁) where
+  abbrev s : State
+  s = G .asks .state
 
-module _ {t l : List ℕ} {at : ℕ} (A : PairAsks t l at) {a : FrontRead} {l₁ : List ℕ} (T : FrontTold t l at a l₁) {x : Front} (is : a ≡ Got x) where
-  module _ {out : List ℕ} {q : ℕ} {m₁ : List ℕ} {b : TextRead} {l₂ : List ℕ} (Y : LaidSized t l₁ (x .values .at) out q m₁ b l₂) {k : Taken} (to : b ≡ read.Got k) where
-    values-laid : RegionLaid t l₁ (x .values .at) out q m₁ k l₂
-    values-laid = Y .laid k to
+  pub again-no-front : a ≡ Bad → ⊥
+  again-no-front is = not-got (sym (subst (λ (x : FrontRead). frontedBy t l s at x l₁) is (T .told s (G .asks .spelt) (G .asks .says))) ∙ G .reads)
 
-    values-sized : RegionSized t l₁ (x .values .at) (step.To (k .next)) l₂
-    values-sized = as-sized (front-ready A T is) values-laid
+  module _ {x : Front} (is : a ≡ Got x) where
+    abbrev F : Fronted t l s at (x .entries) (x .from .at) (x .values .at) l₁
+    F = fronted (G .asks) T is s (G .asks .spelt) (G .asks .says)
 
-    pub again-ready : RegionReady t l₂
-    again-ready = still-ready (values-laid .sized) (front-ready A T is)
+    module _ {out m₁ : List ℕ} {b : TextRead} {l₂ : List ℕ} (Y : LaidSized t l₁ (x .values .at) out q m₁ b l₂) where
+      pub again-no-values : b ≡ read.Bad → ⊥
+      unfolding most
+      again-no-values bad =
+          let (cs, reads, same) = values-read (G .asks .spelt) F (G .reads) in
+          let over = Y .refused bad cs (G .next) reads in
+          absurd (omega (arith, over, ap length same, pair-length s (G .pair), G .place, G .short))
 
-    pub pair-again-done :
-        {n : ℕ} → n ≡ min (sizes (duesOf l₂)) most → n ≤ 1048576 → {from : ℕ} → from ≡ stringsIn l → {m : List ℕ} {p p₁ : ℕ} → FrontLays t x l₂ from m₁ p m p₁ → p₁ ≡ q
-        → {l₃ : List ℕ} → Next l₂ l₃ → PairAgain t l at out p m (read.Got k) l₃
-    pair-again-done {n} size le {from} first {m} {p} {p₁} L meets {l₃} N =
-        record { told = λ j e. let same : k ≡ j = cc e in subst (λ (y : Taken). PairBuilt t l at out p m (read.Got y) l₃) same (record { told = λ s S says. built s S says }) }
-      where
-        built : (s : State) → Spelt s → view t l ≡ hexed s → Built s t l at out p m k l₃
-        built s S says =
-            let F = fronted A T is s S says in
-            let R = values-sized in
-            let spelt : drop from (strsOf t l₂) ≡ map hex (F .strings) = rw first (ap (λ (u : State). drop (stringsIn l) (u .strings)) (same-view (values-laid .sized)) ∙ F .spelt) in
-            let front = front-laid S F R refl size le (L .laid (F .strings) spelt (F .small) (F .few) _ (F .entries) (x .values .at) (F .lines) (as-many S F R refl size le) (sum-small S F R refl size le)) in
-            pair-built S F R refl size le N refl (pair-inside S F R refl (A .bytes)) says
-            (pair-laid-last S F R refl size le (region-laid-first S F R refl size le values-laid) (rw meets at front))
+      module _ {k : Taken} (to : b ≡ read.Got k) where
+        values-laid : RegionLaid t l₁ (x .values .at) out q m₁ k l₂
+        values-laid = Y .laid k to
 
--- ── all pairs ──
+        abbrev R : RegionSized t l₁ (x .values .at) (step.To (k .next)) l₂
+        R = as-sized (front-ready (G .asks) T is) values-laid
 
--- the file stands, or the pass gave up
-pub record FileAgain (t out m : List ℕ) (r : Bool) : Type 0 where
-  pub told : r ≡ true → (k : Taken) × FileBuilt t out 0 m k
+        pub again-ready : RegionReady t l₂
+        again-ready = still-ready (values-laid .sized) (front-ready (G .asks) T is)
 
-pub file-given-up : {t out m : List ℕ} → FileAgain t out m false
-file-given-up = record { told = λ q. let z : _≡_ {A = ℕ} 0 1 = cc q in absurd (omega arith) }
-
-module _ {t l₀ out : List ℕ} {l : List ℕ} {left : ℕ} {m : List ℕ} {from behind : ℕ} (G : PairsGoing t l₀ out 0 l left m from behind) where
-  pub again-done : length t ≤ from → FileAgain t out m true
-  again-done le = let k : Taken = record { next = record { at = from }; at = behind } in record { told = λ q. (k, pairs-done G le k refl .told) }
-
-  pub again-next :
-      from < length t → (left ≡ 0 → ⊥) → {m₁ l₁ : List ℕ} {r : TextRead} → PairAgain t l from m behind m₁ r l₁ → {k : Taken} → r ≡ read.Got k → length l₁ ≡ length l → length m₁ ≡ length m
-      → PairsGoing t l₀ out 0 l₁ (left - 1) m₁ (k .next .at) (k .at)
-  again-next lt pos P {k} is long room = pairs-next G lt pos (P .told k is) refl long room
+        pub again-done : {from : ℕ} → from ≡ stringsIn l → {m : List ℕ} {r : ℕ} → FrontLays t x l₂ from m₁ p m r → {l₃ : List ℕ} → Next l₂ l₃ → Built s t l at out p m k l₃
+        unfolding most
+        again-done first {m} {r} L N =
+            let S = G .asks .spelt in
+            let same : G .pair ≡ pair S F R refl = cc (sym (G .reads) ∙ reads S F R refl) in
+            let small : sizes (duesOf l₂) ≤ mostBytes = small-sizes S F R refl (omega (arith, pair-length s (G .pair), G .short, ap (λ (x : Pair). length (valueBytes s x)) same)) in
+            let front = front-told (G .asks) T is R refl s S (G .asks .says) small first L in
+            let meets : r ≡ q = omega (arith, front .next, G .place, G .short, pair-length s (G .pair), ap (λ (x : Pair). length (frontBytes s x)) same) in
+            pair-built S F R refl small N refl (pair-inside S F R refl (G .asks .bytes)) (G .asks .says) (pair-laid S F R refl small (region-laid S F R refl small values-laid) (rw meets at front))
 
 -- ── the file ──
 
@@ -112,17 +112,73 @@ over-all f out long =
     let none-left : drop (length f) out ≡ [] = drop-of-length-le out le in
     sets-front f out (omega arith) ∙ rw none-left (append-nil f)
 
-module _ {t out m : List ℕ} where
-  whole : {k : Taken} → FileBuilt t out 0 m k → Filled t out m
-  whole B = record { told = λ f is long. B .laid .bytes ∙ ap (sets out 0) (file-is t (B .reads) is) ∙ over-all f out long }
+whole : {t out m : List ℕ} {r : ℕ} → FileBuilt t out m r → Filled t out m
+whole {t} {out} B = record { told = λ f is long. B .laid .bytes ∙ ap (sets out 0) (file-is t (B .reads) is) ∙ over-all f out long }
 
-  pub filled-again : {r : Bool} → FileAgain t out m r → r ≡ true → Filled t out m
-  filled-again A is = let (k, B) = A .told is in whole B
+-- ── all pairs ──
 
-  -- what was lent is what the second pass left
-  pub filled-first : {lent : List ℕ} → length out ≡ length lent → {r : TextRead} → PairsBuilt t out 0 m r → Filled t lent m
-  filled-first {lent} same {r} P = go r (P .told)
-    where
-      go : (r : TextRead) → fileBy t out 0 m r → Filled t lent m
-      go (read.Got k) B = record { told = λ f is long. whole B .told f is (long ∙ sym same) }
-      go read.Bad h = record { told = λ f is long. let z : none ≡ some f = sym h ∙ is in let y : _≡_ {A = ℕ} 0 1 = cc z in absurd (omega arith) }
+-- the values of all pairs begin at these places, in a file that is short enough
+pub record FileGiven (t ps : List ℕ) : Type 0 where
+  pub end : ℕ
+  pub short : end ≤ mostBytes
+  pub many : length ps ≡ mostPairs
+  pub placed : Placed t ps end nothing 0 0 mostPairs
+
+pub record Going (t ps l₀ out l : List ℕ) (left : ℕ) (m : List ℕ) (from behind : ℕ) : Type 0 where
+  pub going : PairsGoing t l₀ out l left m from behind
+  pub end : ℕ
+  pub short : end ≤ mostBytes
+  pub placed : Placed t ps end (here going) from behind left
+
+pub going-start : {t l ps : List ℕ} → TextReady t l → FileGiven t ps → (out : List ℕ) → length out ≤ most → Going t ps l out l mostPairs out 0 0
+unfolding pairs-begin fold
+going-start R F out h = record { going = pairs-begin R out h; end = F .end; short = F .short; placed = F .placed }
+
+module _ {t ps l₀ out l : List ℕ} {left : ℕ} {m : List ℕ} {from behind : ℕ} (G : Going t ps l₀ out l left m from behind) where
+  pub going-done : length t ≤ from → Filled t out m
+  going-done le = whole (pairs-done (G .going) le)
+
+  module _ (lt : from < length t) where
+    next : PairPlaced t ps (G .end) (here (G .going)) from behind left
+    next = placed-next (G .placed) lt
+
+    pub some-left : 0 < left
+    some-left = next .some
+
+    ends-before : behind + length (putPair (here (G .going)) (next .pair)) ≤ mostBytes
+    ends-before = omega (arith, placed-end (next .rest), G .short)
+
+    pub going-asks : Bytes t → PairGiven t l from behind (getD ps (left - 1) 0)
+    unfolding most pair-asks
+    going-asks bytes =
+        let p = next .pair in
+        let s = here (G .going) in
+        record {
+          asks = pair-asks (G .going) lt some-left bytes;
+          pair = p;
+          next = next .behind;
+          reads = next .reads;
+          place = omega (arith, next .place, ends-before, pair-length s p);
+          short = ends-before;
+        }
+
+    pub going-next :
+        Bytes t → {m₁ l₁ : List ℕ} {k : Taken} → ((A : PairGiven t l from behind (getD ps (left - 1) 0)) → Built (A .asks .state) t l from m behind m₁ k l₁) → length l₁ ≡ length l
+        → length m₁ ≡ length m → Going t ps l₀ out l₁ (left - 1) m₁ (k .next .at) (k .at)
+    unfolding most pair-asks going-asks pairs-next
+    going-next bytes {m₁} {l₁} {k} built long room =
+        let s = here (G .going) in
+        let B : Built s t l from m behind m₁ k l₁ = built (going-asks bytes) in
+        let P : Placed t ps (G .end) (afterPair s (next .pair)) (next .behind) (behind + length (putPair s (next .pair))) (left - 1) = next .rest in
+        let same : next .pair ≡ B .pair = cc (sym (next .reads) ∙ B .reads) in
+        let on : next .behind ≡ k .next .at = cc (sym (next .reads) ∙ B .reads) in
+        let at : behind + length (putPair s (next .pair)) ≡ k .at = omega (arith, ends-before, B .laid .next, ap (λ (x : Pair). length (putPair s x)) same) in
+        record {
+          going = pairs-next (G .going) lt some-left B long room;
+          end = G .end;
+          short = G .short;
+          placed =
+              subst (λ (u : State). Placed t ps (G .end) u (k .next .at) (k .at) (left - 1)) (ap (afterPair s) same ∙ sym (state-next (G .going) lt some-left B))
+              (subst (λ (e : ℕ). Placed t ps (G .end) (afterPair s (next .pair)) e (k .at) (left - 1)) on
+              (subst (λ (n : ℕ). Placed t ps (G .end) (afterPair s (next .pair)) (next .behind) n (left - 1)) at P));
+        }

@@ -1,23 +1,20 @@
 -- The call: the file whose listing a text is. Assumes nothing.
 use mathlib.Core.Path.{_≡_, refl, sym, ap, _∙_, subst}
-use mathlib.Core.Bool.{Bool, true, false}
 use mathlib.Core.List.{List, [], _∷_, _++_}
 use mathlib.Core.Option.{Option, none, some}
-use Prim.Native.Nat.{ℕ, zero, suc, _+_, _^_, _≤_, _<_}
+use Prim.Native.Nat.{ℕ, _+_, _^_, _≤_, _<_}
 use native.Mathlib.Omega.{arith}
-use lib.Dec.{leb}
 use lib.ListN.{length, take, drop, length-take}
 use borrow.Author.Tests.{le-leb, lt-leb}
-use Rattle.paper.specs.Reader.{if_then_else_, Out, got, no}
-use Rattle.paper.specs.Bounds.{mostBytes}
-use Rattle.paper.specs.Ledger.{Ledger}
+use Rattle.paper.specs.Reader.{if_then_else_}
+use Rattle.paper.specs.Bounds.{mostBytes, mostPairs, tableLength}
 use Rattle.paper.specs.Encode.{encode}
 use Rattle.paper.specs.Listing.{print}
-use Rattle.paper.specs.Scan.{scan, short, fileOf}
-use Rattle.paper.specs.Calls.{Answer, done, refused, _>>=_, _>>_, need, found, fitted, build, howMany, leftIn, cleared, writes, overFront, afterBuild}
-use Rattle.lay.specs.Laid.{most, Laid}
+use Rattle.paper.specs.Scan.{short, fileOf}
+use Rattle.paper.specs.Calls.{refused, _>>=_, _>>_, need, found, fitted, build, howMany, leftIn, writes, overFront, afterBuild}
+use Rattle.lay.specs.Laid.{most}
 use Rattle.laws.specs.Says.{Bytes}
-use Rattle.laws.specs.Promises.{Accepted, accepted-exactly, forth, fitted-done}
+use Rattle.laws.specs.Promises.{accepted-exactly, forth, fitted-done}
 use Rattle.laws.specs.Short.{print-short}
 use Rattle.table.specs.Counts.{noughts, Begun}
 use Rattle.walk.specs.FileLaws.{steady-begun, state-begun}
@@ -29,17 +26,18 @@ use Rattle.calls.specs.Table.{untouched, noughts-first}
 use Rattle.calls.specs.Fixed.{one-way}
 use Rattle.calls.specs.declared.replies.Reply.{Reply}
 use Rattle.calls.specs.declared.replies.Reply.the-variants.{Done, Refused}
-use Rattle.build.specs.Again.{Filled}
-use Rattle.build.specs.Pairs.{TextReady, PairsBuilt, FileBuilt, fileBy, not-short}
+use Rattle.build.specs.Pairs.{TextReady, FileBuilt, not-short}
+use Rattle.build.specs.Counting.{FileLong, fileBy, FileCounted}
+use Rattle.build.specs.Again.{FileGiven, Filled}
 
 -- ── what the definitions answer, with a table that is long enough ──
 
 module _ (room : ℕ) (t : List ℕ) where
-  build-none : fileOf t ≡ none → build room 16384 t ≡ refused 20
+  build-none : fileOf t ≡ none → build room tableLength t ≡ refused 20
   unfolding build need found _>>=_ _>>_
   build-none h = rw h
 
-  build-some : {f : List ℕ} → fileOf t ≡ some f → build room 16384 t ≡ fitted room f
+  build-some : {f : List ℕ} → fileOf t ≡ some f → build room tableLength t ≡ fitted room f
   unfolding build need found _>>=_ _>>_
   build-some h = rw h
 
@@ -60,16 +58,16 @@ text-ready {t} lt begun bytes = record { steady = steady-begun t lt begun; bytes
 
 -- ── a text that was read, by its file's length ──
 
-module _ {t out m : List ℕ} {k : Taken} (B : FileBuilt t out 0 m k) where
-  file-over : mostBytes < k .at → fileOf t ≡ none
+module _ {t : List ℕ} {n : ℕ} (B : FileBuilt t [] [] n) where
+  file-over : mostBytes < n → fileOf t ≡ none
   unfolding fileOf most
   file-over h = rw (B .reads) (not-short (B .ledger) (B .end) (omega (arith, B .laid .next)))
 
-  file-fits : k .at ≤ mostBytes → fileOf t ≡ some (encode (B .ledger))
+  file-fits : n ≤ mostBytes → fileOf t ≡ some (encode (B .ledger))
   unfolding fileOf short if_then_else_ most
   file-fits h = rw (B .reads, le-leb (length (encode (B .ledger))) mostBytes (omega (arith, B .laid .next)))
 
-  file-length : k .at ≤ mostBytes → length (encode (B .ledger)) ≡ k .at
+  file-length : n ≤ mostBytes → length (encode (B .ledger)) ≡ n
   unfolding most
   file-length h = omega (arith, B .laid .next)
 
@@ -79,38 +77,48 @@ module _ {t out m : List ℕ} {k : Taken} (B : FileBuilt t out 0 m k) where
 pub lent : (n : ℕ) (out : List ℕ) → n ≤ length out → n ≡ length (take n out)
 lent n out le = omega (arith, length-take n out)
 
-module _ {t out out₁ : List ℕ} (same : out₁ ≡ out) {m : List ℕ} {a : TextRead} (C : PairsBuilt t [] 0 m a) where
-  pub build-bad : a ≡ Bad → Wrote (build (length out) 16384 t) out (Refused 20) out₁
-  build-bad is = rw same (wrote-none (build-none (length out) t (subst (fileBy t [] 0 m) is (C .told))))
+module _ {t ps : List ℕ} {a : TextRead} (C : FileCounted t ps a) where
+  pub build-bad : a ≡ Bad → {out : List ℕ} → Wrote (build (length out) tableLength t) out (Refused 20) out
+  build-bad is {out} = wrote-none (build-none (length out) t (subst (fileBy t ps) is (C .told)))
 
   module _ {k : Taken} (is : a ≡ Got k) where
-    counted : FileBuilt t [] 0 m k
-    counted = subst (fileBy t [] 0 m) is (C .told)
+    counted : FileLong t ps (k .at)
+    counted = subst (fileBy t ps) is (C .told)
 
-    pub build-over : 1048576 < k .at → Wrote (build (length out) 16384 t) out (Refused 20) out₁
-    build-over h = rw same (wrote-none (build-none (length out) t (file-over counted h)))
+    file : List ℕ
+    file = encode (counted .built .ledger)
 
-    module _ (le : k .at ≤ 1048576) where
-      pub build-no-room : length out₁ < k .at → Wrote (build (length out) 16384 t) out (Refused 19) out₁
-      unfolding fitted need _>>_ _>>=_
-      build-no-room lt =
-          let long : length out₁ ≡ length out = ap length same in
-          let many = file-length counted le in
-          rw same (wrote-none (build-some (length out) t (file-fits counted le) ∙ rw (lt-leb (length (encode (counted .ledger))) (length out) (omega arith))))
+    pub build-over : mostBytes < k .at → {out : List ℕ} → Wrote (build (length out) tableLength t) out (Refused 20) out
+    build-over h {out} = wrote-none (build-none (length out) t (file-over (counted .built) h))
 
-      pub build-written : k .at ≤ length out₁ → {m₂ : List ℕ} → Filled t (take (k .at) out₁) m₂ → Wrote (build (length out) 16384 t) out (Done (k .at)) (m₂ ++ drop (k .at) out₁)
-      unfolding overFront
-      build-written room {m₂} W =
-          let long : length out₁ ≡ length out = ap length same in
-          let f = encode (counted .ledger) in
-          let many : length f ≡ k .at = file-length counted le in
-          let fits : length f ≤ length out = omega arith in
-          let stands : m₂ ≡ f = W .told f (file-fits counted le) (many ∙ lent (k .at) out₁ room) in
-          wrote-all (build-some (length out) t (file-fits counted le) ∙ fitted-done (length out) f fits) many
-          (ap (λ (x : List ℕ). x ++ drop (k .at) out₁) stands ∙ ap (λ (x : List ℕ). f ++ drop (k .at) x) same ∙ ap (λ (n : ℕ). f ++ drop n out) (sym many))
+    module _ (le : k .at ≤ mostBytes) where
+      file-there : fileOf t ≡ some file
+      unfolding file
+      file-there = file-fits (counted .built) le
+
+      many : length file ≡ k .at
+      unfolding file
+      many = file-length (counted .built) le
+
+      -- the places are right, and the file short
+      pub file-given : length ps ≡ mostPairs → FileGiven t ps
+      unfolding file
+      file-given long = record { end = length file; short = omega (arith, many, le); many = long; placed = counted .placed }
+
+      module _ {out : List ℕ} where
+        pub build-no-room : length out < k .at → Wrote (build (length out) tableLength t) out (Refused 19) out
+        unfolding fitted need _>>_ _>>=_
+        build-no-room lt = wrote-none (build-some (length out) t file-there ∙ rw (lt-leb (length file) (length out) (omega (arith, many))))
+
+        pub build-written : k .at ≤ length out → {m : List ℕ} → Filled t (take (k .at) out) m → Wrote (build (length out) tableLength t) out (Done (k .at)) (m ++ drop (k .at) out)
+        unfolding overFront
+        build-written room W =
+            let stands = W .told file file-there (many ∙ lent (k .at) out room) in
+            wrote-all (build-some (length out) t file-there ∙ fitted-done (length out) file (omega (arith, many))) many
+            (ap (λ (x : List ℕ). x ++ drop (k .at) out) stands ∙ ap (λ (n : ℕ). file ++ drop n out) (sym many))
 
 -- a text that is too long is not read at all
-pub build-too-long : (t : List ℕ) → Bytes t → 4294967295 < length t → {out : List ℕ} → Wrote (build (length out) 16384 t) out (Refused 20) out
+pub build-too-long : (t : List ℕ) → Bytes t → 4294967295 < length t → {out : List ℕ} → Wrote (build (length out) tableLength t) out (Refused 20) out
 build-too-long t b h {out} = wrote-none (build-none (length out) t (text-too-long t b h))
 
 -- ── by the length of the lent work table ──
@@ -120,7 +128,7 @@ unfolding afterBuild writes build need _>>_ _>>=_ answerOf howMany leftIn
 build-short t w out lt = rw (lt-leb 16384 (length w) lt, untouched t w lt)
 
 pub build-long :
-    (t w : List ℕ) → 16384 ≤ length w → (r : Reply) {v : List ℕ} → v ≡ noughts → {out out′ : List ℕ} → Wrote (build (length out) 16384 t) out r out′
+    (t w : List ℕ) → 16384 ≤ length w → (r : Reply) {v : List ℕ} → v ≡ noughts → {out out′ : List ℕ} → Wrote (build (length out) tableLength t) out r out′
     → after r (v ++ drop 16384 w) out′ ≡ afterBuild t w out
 unfolding afterBuild writes build need
 build-long t w le r left h = rw (le-leb 16384 (length w) le, noughts-first t w le, left, h .says, h .left)

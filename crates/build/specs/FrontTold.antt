@@ -8,7 +8,7 @@ use native.Mathlib.Decide.{decLe}
 use native.Mathlib.Nat.{lt-of-not-le}
 use lib.Dec.{leb, ltb}
 use lib.ListN.{length}
-use borrow.Author.Tests.{leb-true, le-leb, lt-leb, lt-ltb}
+use borrow.Author.Tests.{leb-true, not-true, not-false, le-leb, lt-leb, lt-ltb}
 use Rattle.paper.specs.Reader.{Out, got, no as bad, times, repeat}
 use Rattle.paper.specs.Bounds.{mostStrings, mostObjects}
 use Rattle.paper.specs.Ledger.{State}
@@ -79,14 +79,6 @@ strings-room {f} {l} h n m q =
 
 -- ── the ways out ──
 
-was-false : (b : Bool) → not b ≡ true → b ≡ false
-was-false true h = sym h
-was-false false h = refl
-
-was-true : (b : Bool) → not b ≡ false → b ≡ true
-was-true true h = refl
-was-true false h = sym h
-
 module _ {t l : List ℕ} {at : ℕ} (A : PairAsks t l at) {a : PairLine} (read : outPair a ≡ readPair t at) where
   pub front-no-line : a ≡ line.Bad → FrontTold t l at Bad l
   front-no-line is = record { told = λ s S q. pair-no-line s t at (sym (rw is at read)) }
@@ -97,14 +89,14 @@ module _ {t l : List ℕ} {at : ℕ} (A : PairAsks t l at) {a : PairLine} (read 
 
     module _ {b : Bool} (judged : (f : List ℕ) → Holds f l → b ≡ (number? (stringsRules (view f l)) n && number? smallRules m)) where
       pub front-many : not b ≡ true → FrontTold t l at Bad l
-      front-many no? = record { told = λ s S q. pair-many s t at h₁ (sym (few-hexed A s S q n m (judged t (A .steady .holds))) ∙ was-false b no?) }
+      front-many no? = record { told = λ s S q. pair-many s t at h₁ (sym (few-hexed A s S q n m (judged t (A .steady .holds))) ∙ not-true b no?) }
 
       module _ (yes? : not b ≡ false) where
         pub front-room : stringsIn l + n ≤ 1024
-        front-room = strings-room (A .steady .holds) n m (sym (judged t (A .steady .holds)) ∙ was-true b yes?)
+        front-room = strings-room (A .steady .holds) n m (sym (judged t (A .steady .holds)) ∙ not-false b yes?)
 
         h₂ : (s : State) → Spelt s → view t l ≡ hexed s → (number? (stringsRules s) n && number? smallRules m) ≡ true
-        h₂ s S q = sym (few-hexed A s S q n m (judged t (A .steady .holds))) ∙ was-true b yes?
+        h₂ s S q = sym (few-hexed A s S q n m (judged t (A .steady .holds))) ∙ not-false b yes?
 
         module _ {r : Step} {l₁ : List ℕ} (D : StringsTold t l n (first .at) r l₁) where
           pub front-no-strings : r ≡ step.Bad → FrontTold t l at Bad l₁
@@ -132,10 +124,10 @@ module _ {t l : List ℕ} {at : ℕ} (A : PairAsks t l at) {a : PairLine} (read 
                 module _ {known : ℕ} (was : known ≡ fieldsIn l) {c : Bool} (T : AllStand l₂ known c) where
                   pub front-no-kinds : not c ≡ true → FrontTold t l at Bad l₂
                   front-no-kinds no? =
-                      let none = rw (was, was-false c no?) at T in
+                      let none = rw (was, not-true c no?) at T in
                       record { told = λ s S q. fronted-no-kinds A s S q h₁ (h₂ s S q) strung (listed .reads) (listed .now .holds) (listed .now .says) none }
 
                   pub front-got : not c ≡ false → FrontTold t l at (Got (record { entries = m; from = from; values = values })) l₂
                   front-got yes? =
-                      let all = rw (was, was-true c yes?) at T in
+                      let all = rw (was, not-false c yes?) at T in
                       record { told = λ s S q. fronted A s S q h₁ (h₂ s S q) strung (listed .reads) (listed .now .holds) (listed .now .says) all (listed .sound) }

@@ -2,7 +2,9 @@ pub mod Strings
 pub mod Spelling
 pub mod Fronts
 pub mod FrontLaws
+pub mod Places
 pub mod Pairs
+pub mod Counting
 pub mod Call
 pub mod PairLaws
 pub mod FrontTold

@@ -1,48 +1,43 @@
--- The ways out of building a pair, on plain values: its front was read, and its values are sized, and laid. Assumes nothing.
+-- The ways out of building a pair, on plain values: its front was read, and its values are counted, or laid. Assumes nothing.
 use mathlib.Core.Path.{_≡_, refl, sym, ap, _∙_, subst}
-use mathlib.Core.Bool.{Bool, true, false}
-use mathlib.Core.List.{List, [], _∷_, _++_, map, append-assoc, append-nil}
-use Prim.Native.Nat.{ℕ, zero, suc, _+_, _-_, _^_, _≤_, _<_, min}
+use mathlib.Core.List.{List, [], _∷_, _++_, map, append-nil}
+use Prim.Native.Nat.{ℕ, _+_, _-_, _^_, _≤_, _<_, min}
 use native.Mathlib.Omega.{arith}
-use lib.ListN.{length, getD, drop, length-append, length-map}
-use Rattle.paper.specs.Reader.{Reader, Out, got, no, andThen, each, times}
+use lib.ListN.{length, length-map}
+use Rattle.paper.specs.Reader.{Out, got, no, andThen}
 use Rattle.paper.specs.Bounds.{mostBytes}
 use Rattle.paper.specs.Numbers.{put}
-use Rattle.paper.specs.Lists.{flat, all}
+use Rattle.paper.specs.Lists.{flat}
 use Rattle.paper.specs.Ledger.{Entry, Chunk, Pair, Due, State}
-use Rattle.paper.specs.Rules.{withStrings, afterEntry, dues, closed, afterFront, afterPair}
-use Rattle.paper.specs.Listing.{hex}
-use Rattle.paper.specs.Encode.{endsFrom, putStrings, putEntries, putChunks, putFront, putPair, zip}
-use Rattle.paper.specs.Keeps.{bytes?}
-use Rattle.paper.specs.Scan.{entryText, chunkText, pairText}
-use Rattle.lay.specs.Laid.{most, Laid, laid-then, laid-as}
+use Rattle.paper.specs.Rules.{withStrings, dues, closed, afterFront, afterPair}
+use Rattle.paper.specs.Encode.{putStrings, putEntries, putChunks, putFront, putPair, zip}
+use Rattle.paper.specs.Scan.{pairText}
+use Rattle.lay.specs.Laid.{most, Laid, laid-as, laid-over}
+use Rattle.laws.specs.Laws.{not-got}
 use Rattle.laws.specs.Says.{Bytes}
 use Rattle.laws.specs.Built.{pair-kept}
 use Rattle.laws.specs.Hexed.{hexed, Spelt, each-back, closed-hexed, spelt-front, spelt-closed}
-use Rattle.table.specs.View.{view, said, Said, strsOf, fldsOf, logOf, duesOf, chunksOf, Holds, Now}
+use Rattle.table.specs.View.{view, said, Said, duesOf, chunksOf}
 use Rattle.table.specs.Counts.{nextBlock, Next}
-use Rattle.reader.specs.Sound.{Sound}
 use Rattle.walk.specs.Region.{sizes}
-use Rattle.walk.specs.Blocks.{Between, closes, front-block}
+use Rattle.walk.specs.Blocks.{closes, front-block}
 use Rattle.walk.specs.PairLaws.{Steady}
 use Rattle.judge.specs.Fields.{unsized}
-use Rattle.texts.specs.Told.{Told, takes, refuses, Lays, was-got, was-bad}
 use Rattle.texts.specs.declared.Taken.{Taken}
-use Rattle.texts.specs.declared.TextRead.{TextRead}
-use Rattle.texts.specs.declared.TextRead.the-variants.{Got, Bad}
 use Rattle.fronts.specs.Ends.{sum, endsOf, ends-of}
 use Rattle.regions.specs.Sizes.{counted}
-use Rattle.regions.specs.Chunks.{chunksText}
-use Rattle.regions.specs.Turns.{whatDue, RegionReady, RegionSized, Sized, regionBytes, RegionTold}
+use Rattle.regions.specs.Chunks.{chunksText, put-count}
+use Rattle.regions.specs.Turns.{whatDue, RegionReady, RegionSized, Sized, regionBytes}
 use Rattle.regions.specs.Both.{RegionLaid}
-use Rattle.regions.specs.After.{same-view, same-dues, still-ready, sized-length, told-before}
+use Rattle.regions.specs.After.{same-dues, sized-length}
 use Rattle.words.specs.declared.read.Place.{Place}
 use Rattle.words.specs.declared.read.Step.{Step}
 use Rattle.words.specs.declared.read.Step.the-variants as step
 use Rattle.build.specs.Spelling.{chunkText-hexed, putChunks-hexed}
 use Rattle.build.specs.Swap.{laid-swap}
 use Rattle.build.specs.Fronts.{regionText, withValues}
-use Rattle.build.specs.FrontLaws.{PairAsks, Fronted}
+use Rattle.build.specs.FrontLaws.{Fronted}
+use Rattle.build.specs.Places.{frontBytes, valueBytes, pair-is, pair-length}
 use Rattle.build.specs.Pairs.{Refused, wrong, tooLong, Built}
 
 what-unsized : (ds : List Due) → map (λ (d : Due × ℕ). d .0) (map unsized ds) ≡ ds
@@ -64,12 +59,6 @@ sums : (ds : List (Due × ℕ)) → sum (map (λ (d : Due × ℕ). d .1) ds) ≡
 unfolding sum sizes
 sums [] = refl
 sums (d ∷ ds) = ap (λ (n : ℕ). d .1 + n) (sums ds)
-
-put-count : (s : State) (ds : List Due) (cs : List Chunk) → length cs ≡ length ds → length (putChunks s ds cs) ≡ length ds
-unfolding putChunks
-put-count s [] cs h = refl
-put-count s (d ∷ ds) [] h = absurd (omega arith)
-put-count s (d ∷ ds) (c ∷ cs) h = omega (arith, put-count s ds cs (omega arith))
 
 module _ {t l : List ℕ} {at : ℕ} {s : State} (S : Spelt s) {m from to : ℕ} {l₁ : List ℕ} (F : Fronted t l s at m from to l₁) where
   abbrev ss : List (List ℕ)
@@ -101,6 +90,24 @@ module _ {t l : List ℕ} {at : ℕ} {s : State} (S : Spelt s) {m from to : ℕ}
   unfolding withValues
   built-bad R is = wrong (F .reads ∙ rw (sym (region-as to) ∙ R .refused is))
 
+  -- the values of a pair that is read, by what the table says
+  pub values-read :
+      {p : Pair} {e : ℕ} → pairText s t at ≡ got p e
+      → (cs : List Chunk) × (chunksText (view t l₁) (whatDue l₁) t to ≡ got cs e) × (regionBytes (view t l₁) (whatDue l₁) cs ≡ valueBytes s p)
+  unfolding withValues
+  values-read {p} {e} h =
+      go (chunksText (view t l₁) (whatDue l₁) t to) refl
+      (ap (λ (o : Out (List Chunk)). andThen o (λ cs q. got (record { strings = ss; entries = es; chunks = cs }) q)) (region-as to) ∙ sym (F .reads) ∙ h)
+    where
+      go :
+          (o : Out (List Chunk)) → chunksText (view t l₁) (whatDue l₁) t to ≡ o → andThen o (λ cs q. got (record { strings = ss; entries = es; chunks = cs }) q) ≡ got p e
+          → (cs : List Chunk) × (chunksText (view t l₁) (whatDue l₁) t to ≡ got cs e) × (regionBytes (view t l₁) (whatDue l₁) cs ≡ valueBytes s p)
+      go (got cs q) is k =
+          let end : q ≡ e = cc k in
+          let same : record { strings = ss; entries = es; chunks = cs } ≡ p = cc k in
+          (cs, is ∙ ap (λ (x : ℕ). got cs x) end, ap (flat (λ b. b)) (bytes-as cs) ∙ ap (λ (x : Pair). valueBytes s x) same)
+      go (no n q) is k = not-got k
+
   module _ {r : Step} {l₂ : List ℕ} (R : RegionSized t l₁ to r l₂) {next : Place} (is : r ≡ step.To next) where
     pub sized : Sized t l₁ to (next .at) l₂
     sized = R .sized next is
@@ -108,11 +115,11 @@ module _ {t l : List ℕ} {at : ℕ} {s : State} (S : Spelt s) {m from to : ℕ}
     abbrev cs : List Chunk
     cs = sized .chunks
 
-    pub pair : Pair
+    abbrev pub pair : Pair
     pair = record { strings = ss; entries = es; chunks = cs }
 
     pub reads : pairText s t at ≡ got pair (next .at)
-    unfolding withValues pair
+    unfolding withValues
     reads = F .reads ∙ rw (sym (region-as to) ∙ sized .reads)
 
     pub pair-inside : Bytes t → next .at ≤ length t
@@ -121,24 +128,19 @@ module _ {t l : List ℕ} {at : ℕ} {s : State} (S : Spelt s) {m from to : ℕ}
     abbrev bs : List (List ℕ)
     bs = putChunks s₂ ds cs
 
-    pair-is : putPair s pair ≡ putFront s ss es (endsFrom 0 bs) ++ flat (λ b. b) bs
-    unfolding putPair pair
-    pair-is = refl
-
-    region-length : min (sizes (duesOf l₂)) most ≡ min (length (flat (λ b. b) bs)) most
+    region-length : min (sizes (duesOf l₂)) most ≡ min (length (valueBytes s pair)) most
     region-length = sized-length sized ∙ ap (λ (x : List (List ℕ)). min (length (flat (λ b. b) x)) most) (bytes-as cs)
 
-    pub built-long : {n : ℕ} → n ≡ min (sizes (duesOf l₂)) most → 1048576 < n → Refused s t at
+    pub built-long : {n : ℕ} → n ≡ min (sizes (duesOf l₂)) most → mostBytes < n → Refused s t at
     unfolding most
-    built-long {n} size h =
-        tooLong pair (next .at) reads
-        (rw (pair-is, length-append (putFront s ss es (endsFrom 0 bs)) (flat (λ b. b) bs)) (omega (arith, region-length)))
+    built-long {n} size h = tooLong pair (next .at) reads (omega (arith, pair-length s pair, region-length))
 
-    module _ {n : ℕ} (size : n ≡ min (sizes (duesOf l₂)) most) (le : n ≤ 1048576) where
-      small : sizes (duesOf l₂) ≤ 1048576
-      unfolding most
-      small = omega arith
+    -- values that a file can have
+    pub small-sizes : length (valueBytes s pair) ≤ mostBytes → sizes (duesOf l₂) ≤ mostBytes
+    unfolding most
+    small-sizes h = omega (arith, region-length)
 
+    module _ (small : sizes (duesOf l₂) ≤ mostBytes) where
       many : length cs ≡ length ds
       many = sized .count ∙ ap length dues-what
 
@@ -158,41 +160,23 @@ module _ {t l : List ℕ} {at : ℕ} {s : State} (S : Spelt s) {m from to : ℕ}
       -- strings, the number of entries, and the entries
       pub front-laid :
           {out o : List ℕ} {p r : ℕ} → Laid out p (putStrings ss ++ put m ++ putEntries (withStrings s ss) es (endsOf 0 (map (λ (d : Due × ℕ). d .1) (duesOf l₂)))) o r
-          → Laid out p (putFront s ss es (endsFrom 0 bs)) o r
+          → Laid out p (frontBytes s pair) o r
       unfolding putFront
       front-laid a = laid-as a (rw (F .many, sizes-are, ends-of 0 bs) refl)
 
-      -- the values, laid behind them
-      pub pair-laid :
-          {out o₁ o₂ : List ℕ} {p p₁ p₂ : ℕ} → Laid out p (putFront s ss es (endsFrom 0 bs)) o₁ p₁ → Laid o₁ p₁ (flat (λ b. b) bs) o₂ p₂ → Laid out p (putPair s pair) o₂ p₂
-      pair-laid a b = laid-as (laid-then a b) (sym pair-is)
-
-      -- by the code that lays them
-      pub region-laid : {o₁ o₂ : List ℕ} {p₁ : ℕ} {a : TextRead} {k : Taken} → RegionTold t l₂ to o₁ p₁ o₂ a → a ≡ Got k → Laid o₁ p₁ (flat (λ b. b) bs) o₂ (k .at)
-      region-laid T q =
-          let L = was-got (told-before sized T) q in
-          let same : L .value ≡ cs = cc (sym (L .reads) ∙ sized .reads) in
-          laid-as (L .laid) (ap (λ (x : List Chunk). regionBytes (view t l₁) (whatDue l₁) x) same ∙ ap (flat (λ b. b)) (bytes-as cs))
-
-      pub region-laid-not : {o₁ o₂ : List ℕ} {p₁ : ℕ} {a : TextRead} → RegionTold t l₂ to o₁ p₁ o₂ a → a ≡ Bad → ⊥
-      region-laid-not T q = let z : no 20 0 ≡ got cs (next .at) = sym (was-bad (told-before sized T) q) ∙ sized .reads in let y : _≡_ {A = ℕ} 0 1 = cc z in absurd (omega arith)
-
-      -- by the code that lays them as it sizes them, before the front
-      pub region-laid-first : {o₁ o₂ : List ℕ} {p₁ : ℕ} {k : Taken} → RegionLaid t l₁ to o₁ p₁ o₂ k l₂ → Laid o₁ p₁ (flat (λ b. b) bs) o₂ (k .at)
-      region-laid-first Y =
+      -- the values, laid before it
+      pub region-laid : {o₁ o₂ : List ℕ} {p₁ : ℕ} {k : Taken} → RegionLaid t l₁ to o₁ p₁ o₂ k l₂ → Laid o₁ p₁ (valueBytes s pair) o₂ (k .at)
+      region-laid Y =
           let same : Y .sized .chunks ≡ cs = cc (sym (Y .sized .reads) ∙ sized .reads) in
           laid-as (Y .laid) (ap (λ (x : List Chunk). regionBytes (view t l₁) (whatDue l₁) x) same ∙ ap (flat (λ b. b)) (bytes-as cs))
 
-      pub pair-laid-last :
-          {out o₁ o₂ : List ℕ} {p q r : ℕ} → Laid out q (flat (λ b. b) bs) o₁ r → Laid o₁ p (putFront s ss es (endsFrom 0 bs)) o₂ q → Laid out p (putPair s pair) o₂ r
-      pair-laid-last a b = laid-as (laid-swap a b) (sym pair-is)
+      pub pair-laid : {out o₁ o₂ : List ℕ} {p q r : ℕ} → Laid out q (valueBytes s pair) o₁ r → Laid o₁ p (frontBytes s pair) o₂ q → Laid out p (putPair s pair) o₂ r
+      pair-laid a b = laid-as (laid-swap a b) (sym (pair-is s pair))
 
-      -- lent no room, they are counted by their sizes
-      pub region-counted : (o₁ : List ℕ) → length o₁ ≡ 0 → {p₁ r : ℕ} → r ≡ min (p₁ + n) most → Laid o₁ p₁ (flat (λ b. b) bs) o₁ r
+      -- both counted
+      pub pair-counted : {n : ℕ} → n ≡ min (sizes (duesOf l₂)) most → {p v r : ℕ} → v ≡ min (p + length (frontBytes s pair)) most → r ≡ min (v + n) most → Laid [] p (putPair s pair) [] r
       unfolding most
-      region-counted [] none {p₁} {r} is =
-          record { bytes = sym (Rattle.lay.specs.Laid.sets-out (flat (λ b. b) bs) [] p₁ (omega arith)); next = is ∙ omega (arith, region-length); room = omega arith }
-      region-counted (x ∷ o₁) none is = absurd (omega arith)
+      pair-counted size front end = laid-over (omega arith) (omega arith) (omega (arith, pair-length s pair, region-length))
 
       -- ── the block ends ──
 
@@ -214,12 +198,15 @@ module _ {t l : List ℕ} {at : ℕ} {s : State} (S : Spelt s) {m from to : ℕ}
               listed = subst (λ (g : Said). Rattle.walk.specs.Listed.Listed (g .state .fields)) (sym closing) (F .listed);
             }
 
-        pub pair-built :
+        pub pair-says : view t l₃ ≡ hexed (closed s₂)
+        unfolding nextBlock
+        pair-says = ap (λ (g : Said). g .state) closing ∙ ap closed (F .state) ∙ closed-hexed s₂
+
+        unfoldable pub pair-built :
             {out o : List ℕ} {p : ℕ} {k : Taken} → k .next ≡ next → next .at ≤ length t → view t l ≡ hexed s → Laid out p (putPair s pair) o (k .at)
             → Built s t l at out p o k l₃
-        unfolding nextBlock afterPair pair hexed closed
+        unfolding nextBlock afterPair hexed closed
         pair-built {k = k} same inside before L =
-            let state : view t l₃ ≡ hexed (closed s₂) = ap (λ (g : Said). g .state) closing ∙ ap closed (F .state) ∙ closed-hexed s₂ in
             record {
               pair = pair;
               reads = rw same reads;
@@ -227,7 +214,7 @@ module _ {t l : List ℕ} {at : ℕ} {s : State} (S : Spelt s) {m from to : ℕ}
               inside = rw same inside;
               steady = pair-steady;
               spelt = spelt-closed s₂ (spelt-front s S ss (each-back ss (F .small)) es);
-              says = state;
+              says = pair-says;
               block =
-                  ap (λ (u : State). u .block) state ∙ ap (λ (x : ℕ). x + 1) (front-block s ss es ∙ sym (ap (λ (u : State). u .block) before));
+                  ap (λ (u : State). u .block) pair-says ∙ ap (λ (x : ℕ). x + 1) (front-block s ss es ∙ sym (ap (λ (u : State). u .block) before));
             }

@@ -1,14 +1,14 @@
 -- Pair after pair, to the end of a text: what is read, and the bytes that it is laid down as. Assumes nothing.
-use mathlib.Core.Path.{_≡_, refl, sym, ap, _∙_, subst}
-use mathlib.Core.Bool.{Bool, true, false}
+use mathlib.Core.Path.{_≡_, refl, sym, ap, _∙_}
+use mathlib.Core.Bool.{Bool, true, false, not}
 use mathlib.Core.List.{List, [], _∷_, _++_, append-assoc, append-nil}
-use mathlib.Core.Option.{Option, none, some}
+use mathlib.Core.Option.{none, some}
 use Prim.Native.Nat.{ℕ, zero, suc, _+_, _-_, _≤_, _<_}
 use native.Mathlib.Omega.{arith}
 use lib.Dec.{leb}
 use lib.ListN.{length, length-append}
-use borrow.Author.Tests.{le-leb, lt-leb}
-use Rattle.paper.specs.Reader.{if_then_else_, Reader, Out, got, no, andThen, _>>=_, give, unlessEnd, toEnd}
+use borrow.Author.Tests.{leb-true, leb-false, not-true, not-false, le-leb, lt-leb}
+use Rattle.paper.specs.Reader.{if_then_else_, Out, got, no, andThen, _>>=_, give, unlessEnd, toEnd}
 use Rattle.paper.specs.Bounds.{mostBytes, mostPairs}
 use Rattle.paper.specs.Lists.{fold}
 use Rattle.paper.specs.Ledger.{Pair, Ledger, State, nothing}
@@ -17,12 +17,11 @@ use Rattle.paper.specs.Encode.{putPair, putPairs, encode}
 use Rattle.paper.specs.Scan.{bad, pairText, scan, short, fileOf}
 use Rattle.lay.specs.Laid.{most, Laid, laid-none, laid-then, laid-as}
 use Rattle.laws.specs.Says.{Bytes}
+use Rattle.laws.specs.Loops.{alone, one-on}
 use Rattle.laws.specs.Hexed.{hexed, Spelt, spelt-nothing, nothing-hexed}
-use Rattle.table.specs.View.{view, Holds, blockIn}
+use Rattle.table.specs.View.{view, blockIn}
 use Rattle.walk.specs.PairLaws.{Steady}
 use Rattle.texts.specs.declared.Taken.{Taken}
-use Rattle.texts.specs.declared.TextRead.{TextRead}
-use Rattle.texts.specs.declared.TextRead.the-variants.{Got, Bad}
 use Rattle.build.specs.FrontLaws.{PairAsks}
 
 -- ── a pair ──
@@ -42,14 +41,6 @@ pub record Built (s : State) (t l : List ℕ) (from : ℕ) (out : List ℕ) (at 
   pub spelt : Spelt (afterPair s pair)
   pub says : view t l′ ≡ hexed (afterPair s pair)
   pub block : blockIn l′ ≡ blockIn l + 1
-
-abbrev pub builtBy : State → List ℕ → List ℕ → ℕ → List ℕ → ℕ → List ℕ → TextRead → List ℕ → Type 0
-builtBy s t l from out at m (Got k) l′ = Built s t l from out at m k l′
-builtBy s t l from out at m Bad l′ = Refused s t from
-
--- whatever the state that the table tells in hex
-pub record PairBuilt (t l : List ℕ) (from : ℕ) (out : List ℕ) (at : ℕ) (m : List ℕ) (r : TextRead) (l′ : List ℕ) : Type 0 where
-  pub told : (s : State) → Spelt s → view t l ≡ hexed s → builtBy s t l from out at m r l′
 
 -- ── one after the other, on the definitions' side ──
 
@@ -76,7 +67,7 @@ unfolding putPairs fold
 puts-more s [] b = refl
 puts-more s (p ∷ a) b = rw (puts-more (afterPair s p) a b, append-assoc)
 
-puts-one : (done : Ledger) (p : Pair) → putPairs nothing done ++ putPair (fold afterPair nothing done) p ≡ putPairs nothing (done ++ p ∷ [])
+pub puts-one : (done : Ledger) (p : Pair) → putPairs nothing done ++ putPair (fold afterPair nothing done) p ≡ putPairs nothing (done ++ p ∷ [])
 unfolding putPairs
 puts-one done p = sym (puts-more nothing done (p ∷ []) ∙ rw (append-nil (putPair (fold afterPair nothing done) p)))
 
@@ -95,6 +86,14 @@ pub not-short : (l : Ledger) (e : ℕ) → mostBytes < length (encode l) → sho
 unfolding short if_then_else_
 not-short l e h = rw (lt-leb (length (encode l)) mostBytes h)
 
+-- by the answer of the code
+module _ {b : Bool} {n : ℕ} (judged : b ≡ leb n mostBytes) where
+  pub fits-not : not b ≡ true → mostBytes < n
+  fits-not h = leb-false n mostBytes (sym judged ∙ not-true b h)
+
+  pub fits-so : not b ≡ false → n ≤ mostBytes
+  fits-so h = leb-true n mostBytes (sym judged ∙ not-false b h)
+
 -- ── the loop ──
 
 -- what the walk over a text asks: bytes, and a table that knows nothing yet
@@ -104,44 +103,33 @@ pub record TextReady (t l : List ℕ) : Type 0 where
   pub none : view t l ≡ nothing
 
 -- at most `left` pairs are to come from place `from`; those before stand in m
-pub record PairsGoing (t l₀ : List ℕ) (out : List ℕ) (at : ℕ) (l : List ℕ) (left : ℕ) (m : List ℕ) (from behind : ℕ) : Type 0 where
+pub record PairsGoing (t l₀ out l : List ℕ) (left : ℕ) (m : List ℕ) (from behind : ℕ) : Type 0 where
   pub done : Ledger
   pub reads : scan t ≡ andThen (toEnd left bad pairText afterPair (fold afterPair nothing done) t from) (λ more q. got (done ++ more) q)
-  pub laid : Laid out at (putPairs nothing done) m behind
+  pub laid : Laid out 0 (putPairs nothing done) m behind
   pub steady : Steady t l
   pub spelt : Spelt (fold afterPair nothing done)
   pub says : view t l ≡ hexed (fold afterPair nothing done)
   pub inside : from ≤ length t
-  pub block : blockIn l + left ≡ 32
+  pub block : blockIn l + left ≡ mostPairs
   pub long : length l ≡ length l₀
   pub room : length m ≡ length out
 
 -- the whole text was read, and stands as its bytes in m
-pub record FileBuilt (t out : List ℕ) (at : ℕ) (m : List ℕ) (k : Taken) : Type 0 where
+pub record FileBuilt (t out m : List ℕ) (behind : ℕ) : Type 0 where
   pub ledger : Ledger
   pub end : ℕ
   pub reads : scan t ≡ got ledger end
-  pub laid : Laid out at (encode ledger) m (k .at)
+  pub laid : Laid out 0 (encode ledger) m behind
 
-abbrev pub fileBy : List ℕ → List ℕ → ℕ → List ℕ → TextRead → Type 0
-fileBy t out at m (Got k) = FileBuilt t out at m k
-fileBy t out at m Bad = fileOf t ≡ none
-
-pub record PairsBuilt (t out : List ℕ) (at : ℕ) (m : List ℕ) (r : TextRead) : Type 0 where
-  pub told : fileBy t out at m r
-
-alone : {A : Type 0} (o : Out (List A)) → o ≡ andThen o (λ more q. got ([] ++ more) q)
-alone (got a e) = refl
-alone (no n p) = refl
-
-pub pairs-begin : {t l : List ℕ} → TextReady t l → (out : List ℕ) (at : ℕ) → length out ≤ most → at ≤ most → PairsGoing t l out at l 32 out 0 at
+unfoldable pub pairs-begin : {t l : List ℕ} → TextReady t l → (out : List ℕ) → length out ≤ most → PairsGoing t l out l mostPairs out 0 0
 unfolding scan putPairs fold nothing
-pairs-begin {t} {l} R out at h k =
+pairs-begin {t} {l} R out h =
     let block : blockIn l ≡ 0 = ap (λ (u : State). u .block) (R .none) in
     record {
       done = [];
-      reads = alone (toEnd 32 bad pairText afterPair nothing t 0);
-      laid = laid-none h k;
+      reads = alone (toEnd mostPairs bad pairText afterPair nothing t 0);
+      laid = laid-none h (omega arith);
       steady = R .steady;
       spelt = spelt-nothing;
       says = R .none ∙ sym nothing-hexed;
@@ -151,77 +139,62 @@ pairs-begin {t} {l} R out at h k =
       room = refl;
     }
 
-module _ {t l₀ out : List ℕ} {at : ℕ} {l : List ℕ} {left : ℕ} {m : List ℕ} {from behind : ℕ} (G : PairsGoing t l₀ out at l left m from behind) where
-  abbrev s : State
-  s = fold afterPair nothing (G .done)
+module _ {t l₀ out l : List ℕ} {left : ℕ} {m : List ℕ} {from behind : ℕ} (G : PairsGoing t l₀ out l left m from behind) where
+  -- the state that the pairs before lead to
+  abbrev pub here : State
+  here = fold afterPair nothing (G .done)
 
-  pub pairs-done : length t ≤ from → (k : Taken) → k .at ≡ behind → PairsBuilt t out at m (Got k)
+  pub all-read : length t ≤ from → scan t ≡ got (G .done) from
+  all-read le = G .reads ∙ rw (to-end-done here t from left le, append-nil (G .done))
+
+  unfoldable pub pairs-done : length t ≤ from → FileBuilt t out m behind
   unfolding encode
-  pairs-done le k is =
-      record {
-        told =
-            record {
-              ledger = G .done;
-              end = from;
-              reads = G .reads ∙ rw (to-end-done s t from left le, append-nil (G .done));
-              laid = rw is (G .laid);
-            };
-      }
+  pairs-done le = record { ledger = G .done; end = from; reads = all-read le; laid = G .laid }
 
   module _ (lt : from < length t) where
-    pub pairs-many : left ≡ 0 → {m′ : List ℕ} → PairsBuilt t out at m′ Bad
+    pub pairs-many : left ≡ 0 → fileOf t ≡ none
     unfolding fileOf short
-    pairs-many z = record { told = rw (G .reads, to-end-over s t from lt left z) refl }
+    pairs-many z = rw (G .reads, to-end-over here t from lt left z) refl
 
-    module _ (pos : left ≡ 0 → ⊥) where
-      some-left : 0 < left
-      some-left = go left pos
-        where
-          go : (n : ℕ) → (n ≡ 0 → ⊥) → 0 < n
-          go zero p = absurd (p refl)
-          go (suc n) p = omega arith
-
-      pub pair-asks : Bytes t → PairAsks t l from
-      pair-asks bytes = record { state = s; spelt = G .spelt; says = G .says; steady = G .steady; bytes = bytes; inside = G .inside; block = omega (arith, G .block, some-left) }
+    module _ (some : 0 < left) where
+      unfoldable pub pair-asks : Bytes t → PairAsks t l from
+      pair-asks bytes = record { state = here; spelt = G .spelt; says = G .says; steady = G .steady; bytes = bytes; inside = G .inside; block = omega (arith, G .block) }
 
       turn :
           scan t
-          ≡ andThen (andThen (pairText s t from) (λ p e. andThen (toEnd (left - 1) bad pairText afterPair (afterPair s p) t e) (λ more q. got (p ∷ more) q)))
+          ≡ andThen (andThen (pairText here t from) (λ p e. andThen (toEnd (left - 1) bad pairText afterPair (afterPair here p) t e) (λ more q. got (p ∷ more) q)))
           (λ more q. got (G .done ++ more) q)
-      turn = G .reads ∙ ap (λ (o : Out Ledger). andThen o (λ more q. got (G .done ++ more) q)) (to-end-step s t from lt left some-left)
+      turn = G .reads ∙ ap (λ (o : Out Ledger). andThen o (λ more q. got (G .done ++ more) q)) (to-end-step here t from lt left some)
 
-      module _ {m₁ l₁ : List ℕ} {r : TextRead} (P : PairBuilt t l from m behind m₁ r l₁) where
-        pub pairs-bad : r ≡ Bad → {m′ : List ℕ} → PairsBuilt t out at m′ Bad
-        unfolding fileOf short
-        pairs-bad is = record { told = go (subst (λ (x : TextRead). builtBy s t l from m behind m₁ x l₁) is (P .told s (G .spelt) (G .says))) }
-          where
-            over : (p : Pair) → mostBytes < length (putPair s p) → (o : Out Ledger) → short (andThen (andThen o (λ more q. got (p ∷ more) q)) (λ more q. got (G .done ++ more) q)) ≡ none
-            over p h (got more q) = not-short (G .done ++ p ∷ more) q (too-long (G .done) p more h)
-            over p h (no k q) = refl
+      pub pairs-bad : Refused here t from → fileOf t ≡ none
+      unfolding fileOf short
+      pairs-bad (wrong h) = rw (turn, h) refl
+      pairs-bad (tooLong p e h big) = rw (turn, h) (over (toEnd (left - 1) bad pairText afterPair (afterPair here p) t e))
+        where
+          over : (o : Out Ledger) → short (andThen (andThen o (λ more q. got (p ∷ more) q)) (λ more q. got (G .done ++ more) q)) ≡ none
+          over (got more q) = not-short (G .done ++ p ∷ more) q (too-long (G .done) p more big)
+          over (no k q) = refl
 
-            go : Refused s t from → short (scan t) ≡ none
-            go (wrong h) = rw (turn, h) refl
-            go (tooLong p e h big) = rw (turn, h) (over p big (toEnd (left - 1) bad pairText afterPair (afterPair s p) t e))
+      module _ {m₁ l₁ : List ℕ} {k : Taken} (B : Built here t l from m behind m₁ k l₁) where
+        pub state-next : fold afterPair nothing (G .done ++ B .pair ∷ []) ≡ afterPair here (B .pair)
+        state-next = fold-more nothing (G .done) (B .pair)
 
-        pub pairs-next : {k : Taken} → r ≡ Got k → length l₁ ≡ length l → length m₁ ≡ length m → PairsGoing t l₀ out at l₁ (left - 1) m₁ (k .next .at) (k .at)
-        pairs-next {k} is long room =
-            let B : Built s t l from m behind m₁ k l₁ = subst (λ (x : TextRead). builtBy s t l from m behind m₁ x l₁) is (P .told s (G .spelt) (G .says)) in
-            let on : fold afterPair nothing (G .done ++ B .pair ∷ []) ≡ afterPair s (B .pair) = fold-more nothing (G .done) (B .pair) in
+        pub reads-next :
+            scan t
+            ≡ andThen (toEnd (left - 1) bad pairText afterPair (fold afterPair nothing (G .done ++ B .pair ∷ [])) t (k .next .at)) (λ more q. got ((G .done ++ B .pair ∷ []) ++ more) q)
+        reads-next = turn ∙ rw (B .reads, state-next) (one-on (G .done) (B .pair) (toEnd (left - 1) bad pairText afterPair (afterPair here (B .pair)) t (k .next .at)))
+
+        unfoldable pub pairs-next : length l₁ ≡ length l → length m₁ ≡ length m → PairsGoing t l₀ out l₁ (left - 1) m₁ (k .next .at) (k .at)
+        pairs-next long room =
             record {
               done = G .done ++ B .pair ∷ [];
-              reads = turn ∙ rw (B .reads, on) (go (B .pair) (toEnd (left - 1) bad pairText afterPair (afterPair s (B .pair)) t (k .next .at)));
+              reads = reads-next;
               laid = laid-as (laid-then (G .laid) (B .laid)) (puts-one (G .done) (B .pair));
               steady = B .steady;
-              spelt = rw on (B .spelt);
-              says = rw on (B .says);
+              spelt = rw state-next (B .spelt);
+              says = rw state-next (B .says);
               inside = B .inside;
-              block = omega (arith, G .block, B .block, some-left);
+              block = omega (arith, G .block, B .block);
               long = long ∙ G .long;
               room = room ∙ G .room;
             }
-          where
-            go :
-                (p : Pair) (o : Out Ledger)
-                → andThen (andThen o (λ more q. got (p ∷ more) q)) (λ more q. got (G .done ++ more) q) ≡ andThen o (λ more q. got ((G .done ++ p ∷ []) ++ more) q)
-            go p (got more q) = rw (append-assoc (G .done) (p ∷ []) more)
-            go p (no k q) = refl

@@ -1,30 +1,31 @@
 -- The strings of a listed pair: the table has them as they stand in the text, in hex. Assumes nothing.
-use mathlib.Core.Path.{_≡_, refl, sym, ap, _∙_, subst}
-use mathlib.Core.Bool.{Bool, true, false, _&&_}
+use mathlib.Core.Path.{_≡_, refl, sym, ap, _∙_}
+use mathlib.Core.Bool.{true, _&&_}
 use mathlib.Core.List.{List, [], _∷_, _++_, map, map-append, append-assoc, append-nil}
-use Prim.Native.Nat.{ℕ, zero, suc, _+_, _-_, _≤_, _<_}
+use Prim.Native.Nat.{ℕ, _+_, _-_, _≤_, _<_}
 use native.Mathlib.Omega.{arith}
 use lib.ListN.{length}
 use lib.Seq.{slice}
-use Rattle.paper.specs.Reader.{Reader, Out, got, no, andThen, repeat}
+use Rattle.paper.specs.Reader.{got, no, andThen, repeat}
 use Rattle.paper.specs.Lists.{all}
 use Rattle.paper.specs.Listing.{hex}
 use Rattle.paper.specs.Keeps.{bytes?}
 use Rattle.paper.specs.Rules.{withStrings}
 use Rattle.paper.specs.Scan.{readString}
 use Rattle.laws.specs.Bools.{and-split, and-join}
-use Rattle.table.specs.View.{view, said, Said, Holds, Now, stringsIn}
+use Rattle.laws.specs.Loops.{alone, one-on}
+use Rattle.table.specs.View.{said, Said, Holds, Now, stringsIn}
 use Rattle.table.specs.Adds.{addString}
 use Rattle.table.specs.Pushes.{Pushed}
 use Rattle.table.specs.ViewLaws.{pushed-string}
 use Rattle.words.specs.declared.read.Step.{Step}
 use Rattle.words.specs.declared.read.Step.the-variants.{To, Bad}
 use Rattle.words.specs.declared.read.Place.{Place}
-use Rattle.parse.specs.Answers.{StringAt, StringReads, saysString}
+use Rattle.parse.specs.Answers.{StringAt, StringReads}
 use Rattle.parse.specs.declared.StringLine.{StringLine}
 use Rattle.parse.specs.declared.StringLine.the-variants as line
 use Rattle.reader.specs.Strings.{addStrings}
-use Rattle.texts.specs.Exact.{repeat-more, repeat-over}
+use Rattle.texts.specs.Exact.{repeat-some, repeat-over}
 
 -- n strings were read, up to m, and the table l became l′
 pub record Strung (t l : List ℕ) (n at m : ℕ) (l′ : List ℕ) : Type 0 where
@@ -52,10 +53,6 @@ pub record Stringing (t l₀ : List ℕ) (n at₀ : ℕ) (l : List ℕ) (rest at
   pub small : all bytes? done ≡ true
   pub says : said t l ≡ addStrings (said t l₀) (map hex done)
 
-alone : {A : Type 0} (o : Out (List A)) → o ≡ andThen o (λ more q. got ([] ++ more) q)
-alone (got a e) = refl
-alone (no n p) = refl
-
 none-added : (g : Said) → g ≡ addStrings g []
 unfolding addStrings withStrings
 none-added g = rw (append-nil (g .state .strings))
@@ -76,16 +73,9 @@ stringing-start {t} {l} h {n} room at =
 
 module _ {t l₀ : List ℕ} {n at₀ : ℕ} {l : List ℕ} {rest at : ℕ} (g : Stringing t l₀ n at₀ l rest at) where
   module _ (due : 0 < rest) where
-    one-more : repeat rest readString t at ≡ andThen (readString t at) (λ a e. andThen (repeat (rest - 1) readString t e) λ more q. got (a ∷ more) q)
-    one-more = go rest due
-      where
-        go : (j : ℕ) → 0 < j → repeat j readString t at ≡ andThen (readString t at) (λ a e. andThen (repeat (j - 1) readString t e) λ more q. got (a ∷ more) q)
-        go zero h = absurd (omega arith)
-        go (suc j) h = let less : suc j - 1 ≡ j = omega arith in rw less (repeat-more readString j t at)
-
     module _ {a : StringLine} (read : StringReads t at a) where
       pub stringing-bad : a ≡ line.Bad → StringsTold t l₀ n at₀ Bad l
-      stringing-bad is = let R = rw is at (read .says) in record { holds = g .holds; told = g .reads ∙ rw (one-more, R) }
+      stringing-bad is = let R = rw is at (read .says) in record { holds = g .holds; told = g .reads ∙ rw (repeat-some readString t at rest due, R) }
 
       module _ {start end : ℕ} {next : Place} (is : a ≡ line.Got start end next) where
         there : StringAt t at start end (next .at)
@@ -102,19 +92,13 @@ module _ {t l₀ : List ℕ} {n at₀ : ℕ} {l : List ℕ} {rest at : ℕ} (g :
               long = same ∙ g .long;
               room = omega (arith, g .room, p .strings);
               done = g .done ++ there .bytes ∷ [];
-              reads = g .reads ∙ rw (one-more, there .read) (go (there .bytes) (repeat (rest - 1) readString t (next .at)));
+              reads = g .reads ∙ rw (repeat-some readString t at rest due, there .read) (one-on (g .done) (there .bytes) (repeat (rest - 1) readString t (next .at)));
               small = all-snoc (g .done) (there .bytes) (g .small) (there .small);
               says =
                   now .says
                   ∙ rw (g .says, there .spelt) (one-added (said t l₀) (map hex (g .done)) (hex (there .bytes)))
                   ∙ ap (addStrings (said t l₀)) (sym (map-append hex (g .done) (there .bytes ∷ [])));
             }
-          where
-            go :
-                (a : List ℕ) (p : Out (List (List ℕ)))
-                → andThen (andThen p (λ more q. got (a ∷ more) q)) (λ more q. got (g .done ++ more) q) ≡ andThen p (λ more q. got ((g .done ++ a ∷ []) ++ more) q)
-            go a (got more q) = rw (append-assoc (g .done) (a ∷ []) more)
-            go a (no c d) = refl
 
   pub stringing-done : rest ≤ 0 → StringsTold t l₀ n at₀ (To (record { at = at })) l
   stringing-done z =

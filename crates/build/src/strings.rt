@@ -1,5 +1,6 @@
 // The strings of a listed pair. Their hex digits stay in the text, and the table keeps where they stand.
 ghost use Prim.Native.Nat.{_+_, _≤_};
+ghost use Rattle.paper.specs.Bounds.{mostStrings};
 ghost use Rattle.table.specs.View.{Holds, stringsIn};
 ghost use Rattle.build.specs.Strings.{StringsTold};
 use parse::StringLine;
@@ -11,7 +12,7 @@ use words::read::Step;
 // The lines of n strings.
 pub fn strings_text(text: &[u8], p: Place, n: u64, work: &mut [u32]) -> Step
     requires { ⌜ Holds (now text) (now work) ⌝ }
-    requires { ⌜ stringsIn (now work) + n ≤ 1024 ⌝ }
+    requires { ⌜ stringsIn (now work) + n ≤ mostStrings ⌝ }
     ensures { λ r. ⌜ StringsTold (now (text .entry)) (now (work .entry)) n (p .at) r (now (work .exit)) ⌝ }
 {
     let mut at = p.at;

@@ -24,6 +24,7 @@ pub mod Hexed
 pub mod Cells
 pub mod Lines
 pub mod Turns
+pub mod Loops
 pub mod Arrays
 pub mod Built
 pub mod Promises

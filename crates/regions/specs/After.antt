@@ -1,5 +1,5 @@
--- Once the sizes of a region's chunks are put down, all else that the table says is as it was: the second pass may begin, reads
--- what the first one read, and lays as many bytes as the sizes say. Assumes nothing.
+-- Once the sizes of a region's chunks are put down, all else that the table says is as it was, and the sizes say how many bytes
+-- the region has. Assumes nothing.
 use mathlib.Core.Path.{_≡_, refl, sym, ap, _∙_, subst}
 use mathlib.Core.Bool.{true}
 use mathlib.Core.List.{List, [], _∷_, map}
@@ -10,7 +10,7 @@ use lib.ListN.{length}
 use Rattle.paper.specs.Reader.{if_then_else_}
 use Rattle.paper.specs.Lists.{total}
 use Rattle.paper.specs.File.{what}
-use Rattle.paper.specs.Ledger.{Chunk, Due, State, fieldAt}
+use Rattle.paper.specs.Ledger.{Due, State, fieldAt}
 use Rattle.paper.specs.Rules.{entered?}
 use Rattle.paper.specs.Encode.{zip, putChunks}
 use Rattle.lay.specs.Laid.{most}
@@ -20,11 +20,9 @@ use Rattle.reader.specs.Sound.{Sound, Every, Declared, fieldOfDue, any-due}
 use Rattle.walk.specs.Low.{Low}
 use Rattle.walk.specs.Listed.{Listed}
 use Rattle.walk.specs.Region.{sizes}
-use Rattle.texts.specs.Told.{Told}
-use Rattle.texts.specs.declared.TextRead.{TextRead}
-use Rattle.regions.specs.Chunks.{chunksText}
+use Rattle.regions.specs.Chunks.{put-count}
 use Rattle.regions.specs.Sizes.{counted}
-use Rattle.regions.specs.Turns.{RegionReady, Sized, whatDue, regionBytes, RegionTold}
+use Rattle.regions.specs.Turns.{RegionReady, Sized, whatDue, regionBytes}
 use Rattle.regions.specs.Sums.{pieces-length}
 
 -- ── what holds of chunks that are due, whatever their sizes ──
@@ -77,12 +75,6 @@ zip-what [] ns h = refl
 zip-what (d ∷ ds) [] h = absurd (omega arith)
 zip-what (d ∷ ds) (n ∷ ns) h = ap (λ (r : List Due). d ∷ r) (zip-what ds ns (omega arith))
 
-put-count : (s : State) (ds : List Due) (cs : List Chunk) → length cs ≡ length ds → length (putChunks s ds cs) ≡ length ds
-unfolding putChunks
-put-count s [] cs h = refl
-put-count s (d ∷ ds) [] h = absurd (omega arith)
-put-count s (d ∷ ds) (c ∷ cs) h = omega (arith, put-count s ds cs (omega arith))
-
 counted-count : (bs : List (List ℕ)) → length (map counted bs) ≡ length bs
 counted-count [] = refl
 counted-count (b ∷ bs) = omega (arith, counted-count bs)
@@ -113,9 +105,3 @@ module _ {t l : List ℕ} {from e : ℕ} {l′ : List ℕ} (S : Sized t l from e
   sized-length =
       ap (λ (g : Said). min (sizes (g .due)) most) (S .now .says)
       ∙ pieces-length (whatDue l) (putChunks (view t l) (whatDue l) (S .chunks)) pieces-count
-
-  -- the second pass by what the table said before the first
-  pub told-before : {out : List ℕ} {at : ℕ} {m : List ℕ} {r : TextRead} → RegionTold t l′ from out at m r → RegionTold t l from out at m r
-  told-before {out} {at} {m} {r} T =
-      subst (λ (ds : List Due). Told (chunksText (view t l) ds) (regionBytes (view t l) ds) t from out at m r) same-dues
-      (subst (λ (s : State). Told (chunksText s (whatDue l′)) (regionBytes s (whatDue l′)) t from out at m r) same-view T)

@@ -1,15 +1,18 @@
 -- The chunks of a list read one after the other from a text. Assumes nothing.
-use mathlib.Core.Path.{_≡_, refl, ap, _∙_}
-use mathlib.Core.List.{List, [], _∷_, _++_, append-assoc, append-nil}
+use mathlib.Core.Path.{_≡_, refl, sym, ap, _∙_}
+use mathlib.Core.List.{List, [], _∷_, _++_, append-nil}
 use Prim.Native.Nat.{ℕ, zero, suc, _+_, _≤_, _<_}
 use native.Mathlib.Numerals.{add-one}
 use native.Mathlib.Omega.{arith}
-use lib.ListN.{length, getD, drop, drop-of-length-le}
+use lib.ListN.{length, getD, drop, length-append, drop-of-length-le}
 use lib.Seq.{drop-cons}
 use Rattle.paper.specs.Reader.{Reader, Out, got, no, andThen, _>>=_, give, each}
+use Rattle.paper.specs.Lists.{flat}
 use Rattle.paper.specs.Ledger.{Chunk, Due, State}
 use Rattle.paper.specs.Encode.{putChunk, putChunks}
 use Rattle.paper.specs.Scan.{chunkText}
+use Rattle.laws.specs.Laws.{not-got}
+use Rattle.laws.specs.Loops.{alone, one-on}
 
 unfoldable pub chunksText : State → List Due → Reader (List Chunk)
 chunksText s ds = each (λ (u : Unit {0}). chunkText s) (λ u c. u) ds tt
@@ -28,10 +31,6 @@ chunks-more s d ds t at = refl
 pub record Left (s : State) (ds : List Due) (t : List ℕ) (from i : ℕ) (done : List Chunk) (at : ℕ) : Type 0 where
   pub count : length done ≡ i
   pub reads : chunksText s ds t from ≡ andThen (chunksText s (drop i ds) t at) (λ more q. got (done ++ more) q)
-
-alone : (o : Out (List Chunk)) → o ≡ andThen o (λ more q. got ([] ++ more) q)
-alone (got a e) = refl
-alone (no n p) = refl
 
 length-snoc : (cs : List Chunk) (c : Chunk) → length (cs ++ c ∷ []) ≡ length cs + 1
 length-snoc [] c = refl
@@ -58,26 +57,57 @@ module _ {s : State} {ds : List Due} {t : List ℕ} {from i : ℕ} {done : List 
     left-next {c} {e} h =
         record {
           count = length-snoc done c ∙ ap (λ (n : ℕ). n + 1) (g .count);
-          reads = g .reads ∙ rw (one-more, h) (go (chunksText s (drop (i + 1) ds) t e));
+          reads = g .reads ∙ rw (one-more, h) (one-on done c (chunksText s (drop (i + 1) ds) t e));
         }
-      where
-        go :
-            (o : Out (List Chunk))
-            → andThen (andThen o (λ cs q. got (c ∷ cs) q)) (λ more q. got (done ++ more) q) ≡ andThen o (λ more q. got ((done ++ c ∷ []) ++ more) q)
-        go (got more q) = rw (append-assoc done (c ∷ []) more)
-        go (no n p) = refl
 
--- the bytes of one chunk more
+    -- where all of them are read, so is the next, and it stands behind those that were read
+    pub left-one :
+        {cs : List Chunk} {q : ℕ} → chunksText s ds t from ≡ got cs q
+        → (c : Chunk) × (more : List Chunk) × (e : ℕ) × (chunkText s (getD ds i x) t at ≡ got c e) × (done ++ c ∷ more ≡ cs)
+    left-one {cs} {q} is = one (chunkText s (getD ds i x) t at) (sym (g .reads ∙ ap (λ (o : Out (List Chunk)). andThen o (λ more e. got (done ++ more) e)) one-more) ∙ is)
+      where
+        rest :
+            (c : Chunk) (e : ℕ) (o : Out (List Chunk)) → andThen (andThen o (λ more e. got (c ∷ more) e)) (λ more e. got (done ++ more) e) ≡ got cs q
+            → (c′ : Chunk) × (more : List Chunk) × (e′ : ℕ) × (got c e ≡ got c′ e′) × (done ++ c′ ∷ more ≡ cs)
+        rest c e (got more p) h = (c, more, e, refl, cc h)
+        rest c e (no n p) h = not-got h
+
+        one :
+            (o : Out Chunk)
+            → andThen (andThen o (λ c e. andThen (chunksText s (drop (i + 1) ds) t e) (λ more e. got (c ∷ more) e))) (λ more e. got (done ++ more) e) ≡ got cs q
+            → (c : Chunk) × (more : List Chunk) × (e : ℕ) × (o ≡ got c e) × (done ++ c ∷ more ≡ cs)
+        one (got c e) h = rest c e (chunksText s (drop (i + 1) ds) t e) h
+        one (no n p) h = not-got h
+
+-- ── their bytes ──
+
+pub put-count : (s : State) (ds : List Due) (cs : List Chunk) → length cs ≡ length ds → length (putChunks s ds cs) ≡ length ds
+unfolding putChunks
+put-count s [] cs h = refl
+put-count s (d ∷ ds) [] h = absurd (omega arith)
+put-count s (d ∷ ds) (c ∷ cs) h = omega (arith, put-count s ds cs (omega arith))
+
+pub put-none : (s : State) (ds : List Due) → putChunks s ds [] ≡ []
+unfolding putChunks
+put-none s [] = refl
+put-none s (d ∷ ds) = refl
+
+-- one chunk more
 pub put-more :
     (s : State) (ds : List Due) (cs : List Chunk) (i : ℕ) (x : Due) (c : Chunk) → length cs ≡ i → i < length ds
     → putChunks s ds (cs ++ c ∷ []) ≡ putChunks s ds cs ++ putChunk s (getD ds i x) c ∷ []
 unfolding putChunks
 put-more s [] cs i x c h lt = absurd (omega arith)
-put-more s (d ∷ ds) [] zero x c h lt = go ds
-  where
-    go : (es : List Due) → putChunk s d c ∷ putChunks s es [] ≡ putChunk s d c ∷ []
-    go [] = refl
-    go (e ∷ es) = refl
+put-more s (d ∷ ds) [] zero x c h lt = ap (λ (r : List (List ℕ)). putChunk s d c ∷ r) (put-none s ds)
 put-more s (d ∷ ds) [] (suc i) x c h lt = absurd (omega arith)
 put-more s (d ∷ ds) (b ∷ cs) zero x c h lt = absurd (omega arith)
 put-more s (d ∷ ds) (b ∷ cs) (suc i) x c h lt = ap (λ (r : List (List ℕ)). putChunk s d b ∷ r) (put-more s ds cs i x c (omega arith) (omega arith))
+
+-- the first chunks have as many or fewer
+pub put-longer : (s : State) (ds : List Due) (cs more : List Chunk) → length (flat (λ b. b) (putChunks s ds cs)) ≤ length (flat (λ b. b) (putChunks s ds (cs ++ more)))
+unfolding putChunks flat
+put-longer s [] cs more = omega arith
+put-longer s (d ∷ ds) [] more = omega arith
+put-longer s (d ∷ ds) (c ∷ cs) more =
+    let b = putChunk s d c in
+    omega (arith, put-longer s ds cs more, length-append b (flat (λ b. b) (putChunks s ds cs)), length-append b (flat (λ b. b) (putChunks s ds (cs ++ more))))

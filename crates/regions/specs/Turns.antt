@@ -1,16 +1,16 @@
--- The chunks that are due in code: a turn for each, which puts down its size, or lays its bytes. Assumes nothing.
+-- The chunks that are due in code: a turn for each, which puts down its size. Assumes nothing.
 use mathlib.Core.Path.{_≡_, refl, sym, ap, _∙_, subst}
 use mathlib.Core.List.{List, [], _∷_, _++_, map}
 use Prim.Native.Nat.{ℕ, zero, suc, _+_, _≤_, _<_, min}
 use native.Mathlib.Omega.{arith}
 use lib.ListN.{length, getD, List·getD-map, length-map}
-use Rattle.paper.specs.Reader.{Out, got, no}
+use Rattle.paper.specs.Reader.{got, no}
 use Rattle.paper.specs.Lists.{flat}
 use Rattle.paper.specs.File.{what}
 use Rattle.paper.specs.Ledger.{Chunk, Due, State}
 use Rattle.paper.specs.Encode.{zip, putChunk, putChunks}
 use Rattle.paper.specs.Scan.{chunkText}
-use Rattle.lay.specs.Laid.{most, Laid, laid-none, laid-then, laid-as, laid-long}
+use Rattle.lay.specs.Laid.{most}
 use Rattle.table.specs.View.{fldsOf, logOf, duesOf, chunksOf, view, said, Said, Holds, Now, fieldsIn, duesIn}
 use Rattle.table.specs.Answers.{dueIn, noDue}
 use Rattle.table.specs.Sizes.{resized, DueSized}
@@ -21,11 +21,11 @@ use Rattle.words.specs.declared.read.Step.the-variants as step
 use Rattle.reader.specs.Sound.{Sound, Every, Declared}
 use Rattle.walk.specs.Low.{Low}
 use Rattle.walk.specs.Listed.{Listed}
-use Rattle.texts.specs.Told.{Told, takes, refuses, was-got, was-bad, flat-more}
+use Rattle.texts.specs.Told.{Told, was-got, was-bad}
 use Rattle.texts.specs.declared.Taken.{Taken}
 use Rattle.texts.specs.declared.TextRead.{TextRead}
 use Rattle.texts.specs.declared.TextRead.the-variants.{Got, Bad}
-use Rattle.regions.specs.Chunks.{chunksText, Left, left-start, left-done, left-bad, left-next, put-more}
+use Rattle.regions.specs.Chunks.{chunksText, Left, left-start, left-done, left-bad, left-next}
 use Rattle.regions.specs.Sizes.{counted, sizedBy, sized-none, sized-at, sized-same, sized-more, sized-all}
 
 -- what the chunks of a region ask of the table: it is one that a front was read into
@@ -198,16 +198,16 @@ module _ {t l₀ : List ℕ} {from : ℕ} (R : RegionReady t l₀) {l : List ℕ
           declared = subst (λ (d : Due × ℕ). d .0 .field < fieldsIn l) (sym row-same) (omega (arith, own .flds-count, before .flds-count, fields, first .declared));
         }
 
-    module _ {r : Step} {l′ : List ℕ} (C : ChunkSized t l at i r l′) where
-      -- the turn's reading, by what the region began with
-      pub as-first : (e : Out Chunk) → chunkText (view t l) (dueAt l i) t at ≡ e → chunkText (view t l₀) (getD (whatDue l₀) i (what noDue)) t at ≡ e
-      as-first e h =
-          ap (λ (d : Due). chunkText (view t l₀) d t at) (what-at l₀ i ∙ ap (λ (d : Due × ℕ). d .0) (sym row-same))
-          ∙ ap (λ (s : State). chunkText s (dueAt l i) t at) (sym (G .state)) ∙ h
+    -- what is said of the turn's chunk, by what the region began with
+    pub as-first : {X : Type 0} (f : State → Due → X) → f (view t l₀) (getD (whatDue l₀) i (what noDue)) ≡ f (view t l) (dueAt l i)
+    as-first f =
+        ap (λ (d : Due). f (view t l₀) d) (what-at l₀ i ∙ ap (λ (d : Due × ℕ). d .0) (sym row-same))
+        ∙ ap (λ (s : State). f s (dueAt l i)) (sym (G .state))
 
+    module _ {r : Step} {l′ : List ℕ} (C : ChunkSized t l at i r l′) where
       pub sizing-bad : r ≡ step.Bad → RegionSized t l₀ from step.Bad l′
       sizing-bad is =
-          let all = left-bad (G .left) (what noDue) there (as-first (no 20 0) (C .refused is)) in
+          let all = left-bad (G .left) (what noDue) there (as-first (λ s d. chunkText s d t at) ∙ C .refused is) in
           record {
             holds = C .holds;
             long = C .holds .ok .long ∙ sym (R .holds .ok .long);
@@ -225,7 +225,7 @@ module _ {t l₀ : List ℕ} {from : ℕ} (R : RegionReady t l₀) {l : List ℕ
           record {
             holds = C .holds;
             done = G .done ++ c ∷ [];
-            left = left-next (G .left) (what noDue) there (as-first (got c (next .at)) (O .reads));
+            left = left-next (G .left) (what noDue) there (as-first (λ s d. chunkText s d t at) ∙ O .reads);
             state = ap (λ (x : Said). x .state) said-now ∙ G .state;
             due =
                 ap (λ (x : Said). x .due) said-now
@@ -239,57 +239,3 @@ module _ {t l₀ : List ℕ} {from : ℕ} (R : RegionReady t l₀) {l : List ℕ
 
 abbrev pub regionBytes : State → List Due → List Chunk → List ℕ
 regionBytes s ds cs = flat (λ b. b) (putChunks s ds cs)
-
-abbrev pub RegionTold : List ℕ → List ℕ → ℕ → List ℕ → ℕ → List ℕ → TextRead → Type 0
-RegionTold t l from out at m r = Told (chunksText (view t l) (whatDue l)) (regionBytes (view t l) (whatDue l)) t from out at m r
-
--- i of them are laid
-pub record Laying (t l : List ℕ) (from : ℕ) (out : List ℕ) (at : ℕ) (m : List ℕ) (i : ℕ) (k : Taken) : Type 0 where
-  pub long : length m ≡ length out
-  pub done : List Chunk
-  pub left : Left (view t l) (whatDue l) t from i done (k .next .at)
-  pub laid : Laid out at (regionBytes (view t l) (whatDue l) done) m (k .at)
-
-pub put-none : (s : State) (ds : List Due) → putChunks s ds [] ≡ []
-unfolding putChunks
-put-none s [] = refl
-put-none s (d ∷ ds) = refl
-
-unfoldable pub laying-start : (t l : List ℕ) (out : List ℕ) (at : ℕ) (k : Taken) → length out ≤ most → k .at ≤ most → k .at ≡ at → Laying t l (k .next .at) out at out 0 k
-unfolding flat
-laying-start t l out at k h le is =
-    record {
-      long = refl;
-      done = [];
-      left = left-start (view t l) (whatDue l) t (k .next .at);
-      laid = rw is (laid-as (laid-none h (rw is at le)) (sym (ap (flat (λ b. b)) (put-none (view t l) (whatDue l)))));
-    }
-
-module _ {t l : List ℕ} (R : RegionReady t l) {from : ℕ} {out : List ℕ} {at : ℕ} {m : List ℕ} {i : ℕ} {k : Taken} (G : Laying t l from out at m i k) where
-  pub laying-done : duesIn l ≤ i → RegionTold t l from out at m (Got k)
-  laying-done le = takes k (record { value = G .done; reads = left-done (G .left) (omega (arith, what-long (R .holds))); laid = G .laid })
-
-  module _ (lt : i < duesIn l) {m₂ : List ℕ} {a : TextRead} (T : DueTold t l i (k .next .at) m (k .at) m₂ a) where
-    laid-there : i < length (whatDue l)
-    laid-there = omega (arith, what-long (R .holds))
-
-    -- by the list without sizes
-    by-what : Told (chunkText (view t l) (getD (whatDue l) i (what noDue))) (putChunk (view t l) (getD (whatDue l) i (what noDue))) t (k .next .at) m (k .at) m₂ a
-    by-what = subst (λ (u : Due). Told (chunkText (view t l) u) (putChunk (view t l) u) t (k .next .at) m (k .at) m₂ a) (sym (what-at l i)) T
-
-    pub laying-bad : a ≡ Bad → {m₃ : List ℕ} → RegionTold t l from out at m₃ Bad
-    laying-bad is = refuses (left-bad (G .left) (what noDue) laid-there (was-bad by-what is))
-
-    pub laying-next : {k₂ : Taken} → a ≡ Got k₂ → Laying t l from out at m₂ (i + 1) k₂
-    laying-next {k₂} is =
-        let L = was-got by-what is in
-        let s = view t l in
-        let ds = whatDue l in
-        record {
-          long = laid-long (L .laid) ∙ G .long;
-          done = G .done ++ L .value ∷ [];
-          left = left-next (G .left) (what noDue) laid-there (L .reads);
-          laid = laid-as (laid-then (G .laid) (L .laid))
-              (flat-more (λ b. b) (putChunks s ds (G .done)) (putChunk s (getD ds i (what noDue)) (L .value))
-              ∙ ap (flat (λ b. b)) (sym (put-more s ds (G .done) i (what noDue) (L .value) (G .left .count) laid-there)));
-        }

@@ -1,6 +1,6 @@
-// The data region of a listed pair: the lines of its values, chunk by chunk, in two passes. The first judges them and puts
-// down how many bytes each chunk has, as the front of the pair must say where each one ends; the second lays the bytes.
-// Where it is known how long the front will be, one pass does both.
+// The data region of a listed pair: the lines of its values, chunk by chunk. The front of the pair must say where each chunk
+// ends, so the table is told how many bytes each one has: by a pass that only counts them, and by one that lays them, where it
+// is known how long the front will be.
 ghost use mathlib.Core.Path.{_≡_};
 ghost use Prim.Native.Nat.{_+_, _<_, _≤_, min};
 ghost use Rattle.paper.specs.Encode.{putChunk};
@@ -14,8 +14,9 @@ ghost use Rattle.walk.specs.Listed.{Listed};
 ghost use Rattle.walk.specs.Region.{sizes};
 ghost use Rattle.texts.specs.Told.{Told};
 ghost use Rattle.regions.specs.Chunk.{KindTaken};
-ghost use Rattle.regions.specs.Turns.{RegionReady, DueReady, DueTold, ChunkSized, RegionSized, RegionTold};
+ghost use Rattle.regions.specs.Turns.{RegionReady, DueReady, DueTold, ChunkSized, RegionSized};
 ghost use Rattle.regions.specs.Both.{DueLaid, LaidSized};
+use paper::Ledger;
 use table::pushes::size_due;
 use table::rows::DueRow;
 use table::rows::FieldRow;
@@ -47,8 +48,8 @@ fn linked_bytes(
     requires { ⌜ Kinds (kind .kind) (kind .a) (kind .e) × (32 ≤ kind .e) ⌝ }
     ensures { λ r. ⌜ KindTaken n kind (now (work .entry)) (now (text .entry)) (p .at) (now (out .entry)) at (now (out .exit)) r ⌝ }
 {
-    let mut first = [0u32; 1024];
-    let mut last = [0u32; 1024];
+    let mut first = [0u32; Ledger::RANGES as usize];
+    let mut last = [0u32; Ledger::RANGES as usize];
     let k = gather(work, kind.e - 32, &mut first, &mut last);
     chunk_text(
         text,
@@ -159,7 +160,7 @@ pub fn size_chunks(text: &[u8], p: Place, work: &mut [u32]) -> Step
 }
 
 // A sum that stands still at the largest number.
-fn add_up(a: u64, b: u64) -> u64
+pub fn add_up(a: u64, b: u64) -> u64
     ensures { λ r. ⌜ r ≡ min (a + b) most ⌝ }
 {
     if MOST - a < b {
@@ -184,25 +185,6 @@ pub fn region_size(work: &[u32]) -> u64
     sum
 }
 
-// The lines of all chunks that are due, laid as their bytes.
-pub fn lay_chunks(text: &[u8], p: Place, work: &[u32], out: &mut [u8], at: usize) -> TextRead
-    requires { ⌜ RegionReady (now text) (now work) ⌝ }
-    ensures { λ r. ⌜ RegionTold (now (text .entry)) (now (work .entry)) (p .at) (now (out .entry)) at (now (out .exit)) r ⌝ }
-{
-    let n = dues(work);
-    let mut here = Taken { next: p, at };
-    let mut i = 0;
-    while i < n {
-        let a = due_bytes(text, here.next, i, work, out, here.at);
-        let TextRead::Got(k) = a else {
-            return TextRead::Bad;
-        };
-        here = k;
-        i += 1;
-    }
-    TextRead::Got(here)
-}
-
 // The i-th chunk that is due, laid as its bytes, and its size. It gives up at the largest number: a count that stands still
 // says no size.
 fn lay_due(text: &[u8], here: Taken, i: u32, work: &mut [u32], out: &mut [u8]) -> TextRead
@@ -221,7 +203,7 @@ fn lay_due(text: &[u8], here: Taken, i: u32, work: &mut [u32], out: &mut [u8]) -
     TextRead::Got(k)
 }
 
-// The lines of all chunks that are due, laid as their bytes, and each chunk's size in the table: both passes in one.
+// The lines of all chunks that are due, laid as their bytes, and each chunk's size in the table.
 pub fn lay_sized(text: &[u8], p: Place, work: &mut [u32], out: &mut [u8], at: usize) -> TextRead
     requires { ⌜ RegionReady (now text) (now work) ⌝ }
     ensures { λ r. ⌜ LaidSized (now (text .entry)) (now (work .entry)) (p .at) (now (out .entry)) at (now (out .exit)) r (now (work .exit)) ⌝ }

@@ -3,7 +3,7 @@
 use mathlib.Core.Path.{_≡_, refl, sym, _∙_}
 use mathlib.Core.Bool.{Bool, true, false, _&&_}
 use mathlib.Core.List.{List, [], _∷_}
-use Prim.Native.Nat.{ℕ, zero, suc, _+_, _^_, _≤_, _<_}
+use Prim.Native.Nat.{ℕ, zero, suc, _+_, _-_, _^_, _≤_, _<_}
 use native.Mathlib.Omega.{arith}
 use native.Mathlib.Decide.{ℕ-discrete}
 use lib.Dec.{eqb, eqb·zero-suc, eqb·suc-zero, eqb·suc-suc}
@@ -66,6 +66,11 @@ pub repeat-more :
     {A : Type 0} (r : Reader A) (n : ℕ) (t : List ℕ) (at : ℕ) → repeat (suc n) r t at ≡ andThen (r t at) (λ a e. andThen (repeat n r t e) λ l d. got (a ∷ l) d)
 unfolding repeat times each _>>=_ give
 repeat-more r n t at = refl
+
+pub repeat-some :
+    {A : Type 0} (r : Reader A) (t : List ℕ) (at n : ℕ) → 0 < n → repeat n r t at ≡ andThen (r t at) (λ a e. andThen (repeat (n - 1) r t e) λ l d. got (a ∷ l) d)
+repeat-some r t at zero h = absurd (omega arith)
+repeat-some r t at (suc n) h = let less : suc n - 1 ≡ n = omega arith in rw less (repeat-more r n t at)
 
 pub repeat-over : {A : Type 0} (r : Reader A) (t : List ℕ) (at : ℕ) → repeat 0 r t at ≡ got [] at
 unfolding repeat times each give

@@ -1,13 +1,14 @@
 -- What a reading of text gives, laid down as bytes: one reading, and so many of them. Assumes nothing.
 use mathlib.Core.Path.{_≡_, refl, sym, ap, _∙_}
 use mathlib.Core.List.{List, [], _∷_, _++_, append-assoc, append-nil}
-use Prim.Native.Nat.{ℕ, zero, suc, _-_, _≤_, _<_}
+use Prim.Native.Nat.{ℕ, _-_, _≤_, _<_}
 use native.Mathlib.Omega.{arith}
 use lib.ListN.{length}
 use Rattle.paper.specs.Reader.{Reader, Out, got, no as bad, andThen, repeat}
 use Rattle.paper.specs.Lists.{flat}
 use Rattle.lay.specs.Laid.{most, Laid, laid-none, laid-then, laid-as}
-use Rattle.texts.specs.Exact.{repeat-more, repeat-over}
+use Rattle.laws.specs.Loops.{alone, one-on}
+use Rattle.texts.specs.Exact.{repeat-some, repeat-over}
 use Rattle.texts.specs.declared.Taken.{Taken}
 use Rattle.texts.specs.declared.TextRead.{TextRead}
 use Rattle.texts.specs.declared.TextRead.the-variants.{Got, Bad}
@@ -44,10 +45,6 @@ pub record Taking {A : Type 0} (r : Reader A) (w : A → List ℕ) (t : List ℕ
   pub reads : repeat n r t from ≡ andThen (repeat rest r t (o .next .at)) (λ more q. got (done ++ more) q)
   pub laid : Laid l at (flat w done) m (o .at)
 
-alone : {A : Type 0} (o : Out (List A)) → o ≡ andThen o (λ more q. got ([] ++ more) q)
-alone (got a e) = refl
-alone (bad n p) = refl
-
 pub flat-more : {A : Type 0} (w : A → List ℕ) (done : List A) (a : A) → flat w done ++ w a ≡ flat w (done ++ a ∷ [])
 unfolding flat
 flat-more w [] a = sym (append-nil (w a))
@@ -61,15 +58,6 @@ module _ {A : Type 0} (r : Reader A) (w : A → List ℕ) (t : List ℕ) (n : �
 
 module _ {A : Type 0} {r : Reader A} {w : A → List ℕ} {t : List ℕ} {n from : ℕ} {l : List ℕ} {at rest : ℕ} {m : List ℕ} {o : Taken} (g : Taking r w t n from l at rest m o) where
   module _ (due : 0 < rest) where
-    one-more :
-        repeat rest r t (o .next .at)
-        ≡ andThen (r t (o .next .at)) (λ a e. andThen (repeat (rest - 1) r t e) λ more q. got (a ∷ more) q)
-    one-more = go rest due
-      where
-        go : (j : ℕ) → 0 < j → repeat j r t (o .next .at) ≡ andThen (r t (o .next .at)) (λ a e. andThen (repeat (j - 1) r t e) λ more q. got (a ∷ more) q)
-        go zero h = absurd (omega arith)
-        go (suc j) h = let less : suc j - 1 ≡ j = omega arith in rw less (repeat-more r j t (o .next .at))
-
     module _ {m₂ : List ℕ} {x : TextRead} (one : Told r w t (o .next .at) m (o .at) m₂ x) where
       pub taking-next : {k : Taken} → x ≡ Got k → length m₂ ≡ length m → Taking r w t n from l at (rest - 1) m₂ k
       taking-next {k} is kept =
@@ -78,18 +66,12 @@ module _ {A : Type 0} {r : Reader A} {w : A → List ℕ} {t : List ℕ} {n from
             long = kept ∙ g .long;
             fewer = omega (arith, g .fewer);
             done = g .done ++ L .value ∷ [];
-            reads = g .reads ∙ rw (one-more, L .reads) (go (L .value) (repeat (rest - 1) r t (k .next .at)));
+            reads = g .reads ∙ rw (repeat-some r t (o .next .at) rest due, L .reads) (one-on (g .done) (L .value) (repeat (rest - 1) r t (k .next .at)));
             laid = laid-as (laid-then (g .laid) (L .laid)) (flat-more w (g .done) (L .value));
           }
-        where
-          go :
-              (a : A) (p : Out (List A))
-              → andThen (andThen p (λ more q. got (a ∷ more) q)) (λ more q. got (g .done ++ more) q) ≡ andThen p (λ more q. got ((g .done ++ a ∷ []) ++ more) q)
-          go a (got more q) = rw (append-assoc (g .done) (a ∷ []) more)
-          go a (bad c d) = refl
 
       pub taking-bad : x ≡ Bad → {m₃ : List ℕ} → Told (repeat n r) (flat w) t from l at m₃ Bad
-      taking-bad is = refuses (g .reads ∙ rw (one-more, was-bad one is))
+      taking-bad is = refuses (g .reads ∙ rw (repeat-some r t (o .next .at) rest due, was-bad one is))
 
   pub taking-done : rest ≤ 0 → Told (repeat n r) (flat w) t from l at m (Got o)
   taking-done z =

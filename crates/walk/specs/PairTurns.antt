@@ -91,19 +91,12 @@ module _ {f l₀ l : List ℕ} {left at : ℕ} (W : WalkReady f l₀) (G : Pairs
     pairs-many z = record { holds = G .steady .holds; says = sym (G .says ∙ pairs-over left (said f l) f at z lt); steady = tt }
 
     module _ (pos : left ≡ 0 → ⊥) where
-      some-left : 0 < left
-      some-left = go left pos
-        where
-          go : (n : ℕ) → (n ≡ 0 → ⊥) → 0 < n
-          go zero p = absurd (p refl)
-          go (suc n) p = omega arith
-
       pub pair-asks : PairReady f l at
-      pair-asks = record { steady = G .steady; bytes = W .bytes; small = W .small; inside = G .inside; block = omega (arith, G .block, some-left) }
+      pair-asks = record { steady = G .steady; bytes = W .bytes; small = W .small; inside = G .inside; block = omega (arith, G .block, pos) }
 
       module _ {l′ : List ℕ} {a : Step} (one : PairDone f l l′ at a) where
         turn : pairsTo 32 (said f l₀) f 0 ≡ andThen (outSaid f l′ a) (λ g e. pairsTo (left - 1) g f e)
-        turn = G .says ∙ pairs-step left (said f l) f at some-left lt ∙ rw (← one .says) refl
+        turn = G .says ∙ pairs-step left (said f l) f at (omega (arith, pos)) lt ∙ rw (← one .says) refl
 
         pub pairs-no : {e : Refusal} → a ≡ No e → WalkDone f l₀ l′ a
         pairs-no is = rw is (record { holds = one .holds; says = sym (turn ∙ rw is refl); steady = tt })
@@ -112,4 +105,4 @@ module _ {f l₀ l : List ℕ} {left at : ℕ} (W : WalkReady f l₀) (G : Pairs
         pairs-next {c} is long =
             let one′ = rw is at one in
             let next : blockIn l′ ≡ blockIn l + 1 = pair-block (said f l) (said f l′) f at (c .at) (one′ .says) in
-            record { steady = one′ .steady .0; inside = one′ .steady .1; block = omega (arith, G .block, some-left); long = long ∙ G .long; says = turn ∙ rw is refl }
+            record { steady = one′ .steady .0; inside = one′ .steady .1; block = omega (arith, G .block, pos); long = long ∙ G .long; says = turn ∙ rw is refl }

@@ -1,7 +1,6 @@
 use native.Mathlib.Omega.{arith}
 use Rattle.walk.specs.FileLaws.{all-bytes}
 use Rattle.build.specs.Call.{text-ready}
-use Rattle.build.specs.Again.{filled-again, filled-first}
 use borrow.Author.Needs.{needs}
 use Rattle.build.proofs.fill_file.Statement.{statement}
 use Rattle.build.proofs.fill_file.Tie as tie
@@ -9,15 +8,4 @@ use Rattle.build.proofs.fill_file.Tie as tie
 pub fill-file-spec : {M : Type 1} → statement M
 fill-file-spec =
     tie.close
-    (tie.spec
-    (λ c κs. search needs)
-    (λ c κs. (text-ready ((c .before .before .before .before .before .before .before .before .before .before .before) .pre .1) (c .before .before .before .before .before .begin .ensures) (all-bytes ((c .before .before .before .before .before .before .before .before .before .before .before) .args .text .now) (λ i. omega (arith, c .before .before .before .before .before .before .before .before .before .before .shared-slice-known .given i))), (c .before .before .before .before .before .before .before .before .before .before .before) .pre .2))
-    (λ c. search needs)
-    (λ c. search needs)
-    (λ c. search needs)
-    (λ c. filled-again (c .before .before .before .before .before .pairs-again .ensures) (c .if1 .taken))
-    (λ c κs. search needs)
-    (λ c. search needs)
-    (λ c. search needs)
-    (λ c. search needs)
-    (λ c. filled-first (c .before .before .before .before .before .before .before .before .before .before .before .before .before .before .before .pairs-again .kept .1 .1 .1 .0) (c .before .before .before .before .before .before .build-file .ensures)))
+    (tie.spec (λ c κs. search needs) (λ c κs. (text-ready ((c .before .before .before .before .before .before .before .before .before .before) .pre .1) (c .before .before .before .before .begin .ensures) (all-bytes ((c .before .before .before .before .before .before .before .before .before .before) .args .text .now) (λ i. omega (arith, c .before .before .before .before .before .before .before .before .before .shared-slice-known .given i))), (c .before .before .before .before .before .before .before .before .before .before) .pre .2)) (λ c. search needs) (λ c. search needs) (λ c. search needs))

@@ -1,10 +1,15 @@
 -- `regions::lay_due` meets its contract: a law for each of its ways out. Assumes nothing.
 use native.Mathlib.Omega.{arith}
-use Rattle.regions.specs.Both.{due-given-up, due-behind, due-laid}
+use Rattle.regions.specs.Both.{due-not-read, due-behind, due-too-long, due-laid}
 use Rattle.lay.specs.Laid.{most}
 use borrow.Author.Needs.{needs}
 use Rattle.regions.proofs.lay_due.Statement.{statement}
 use Rattle.regions.proofs.lay_due.Tie as tie
+
+-- src/lib.rt:199:9
+returns-2 : tie.Need-returns-2
+unfolding most
+returns-2 c = due-too-long ((c .before .before .before .before .before .before .before .before .before .before .before .before) .pre) (c .before .before .before .before .before .before .due-bytes .ensures) (c .before .before .a .given .1) (omega (arith, c .if1 .taken))
 
 -- src/lib.rt:219:16
 sub-size : tie.Need-sub-size
@@ -25,10 +30,10 @@ lay-due-spec =
     (λ c. search needs)
     (λ c. search needs)
     (λ c. search needs)
-    (λ c. due-given-up ((c .before .before .before .before .before .before .before .before .before .before) .pre))
+    (λ c. due-not-read ((c .before .before .before .before .before .before .before .before .before .before) .pre) (c .before .before .before .before .due-bytes .ensures) (c .enum-told .given .1))
     (λ c. search needs)
     (λ c. search needs)
-    (λ c. due-given-up ((c .before .before .before .before .before .before .before .before .before .before .before .before) .pre))
+    returns-2
     sub-size
     (λ c κs. search needs)
     (λ c. search needs)

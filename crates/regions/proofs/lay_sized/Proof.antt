@@ -1,5 +1,5 @@
 -- `regions::lay_sized` meets its contract. The invariant: the chunks that are left, from here, give the whole. Assumes nothing.
-use Rattle.regions.specs.Both.{Both, both-start, both-given-up, both-next, both-done}
+use Rattle.regions.specs.Both.{Both, both-start, both-bad, both-next, both-done}
 use Rattle.regions.specs.Turns.{sizing-ready}
 use Rattle.lay.specs.Laid.{most}
 use mathlib.Core.Path.{refl, sym, _∙_}
@@ -33,7 +33,7 @@ lay-sized-spec =
     (λ c. search needs)
     (λ c. c .before .before .before .before .before .before .lay-due .ensures .holds .ok .long ∙ sym ((c .before .before .before .before .before .before .before .before .before .before .before .before .before .before .before .before) .pre .holds .ok .long))
     (λ c. c .before .before .before .before .before .before .lay-due .kept .1 .1 .1 .1 .0 ∙ c .before .before .before .before .before .before .before .before .before .before .loop .inv .1 .long)
-    (λ c. both-given-up ((c .before .before .before .before .before .before .before .before .before .before .before .before .before .before .before .before) .pre) (c .before .before .before .before .before .before .before .before .before .before .loop .inv .1) (omega arith) (c .before .before .before .before .before .before .lay-due .ensures))
+    (λ c. both-bad ((c .before .before .before .before .before .before .before .before .before .before .before .before .before .before .before .before) .pre) (c .before .before .before .before .before .before .before .before .before .before .loop .inv .1) (omega arith) (c .before .before .before .before .before .before .lay-due .ensures) (c .enum-told .given .1))
     (λ c. search needs)
     (λ c. search needs)
     (λ c. (omega arith, both-next ((c .before .before .before .before .before .before .before .before .before .before .before .before .before .before .before .before .before) .pre) (c .before .before .before .before .before .before .before .before .before .before .before .loop .inv .1) (omega arith) (c .before .before .before .before .before .before .before .lay-due .ensures) (c .before .a .given .1)))
