@@ -22,8 +22,15 @@ pub mod planted {
 
 /// What the copy does without. The cases are made by the program itself: with
 /// a fault the generator might make others.
-const LEFT_OUT: [&str; 7] = [
-    "big", "examples", "generate", "main", "programs", "tally", "vectors",
+const LEFT_OUT: [&str; 8] = [
+    "big",
+    "examples",
+    "generate",
+    "main",
+    "programs",
+    "questions",
+    "tally",
+    "vectors",
 ];
 
 /// Writes the source with its faults below `folder`. The faults are numbered
