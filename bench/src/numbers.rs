@@ -9,12 +9,12 @@ const REPETITIONS: usize = 60;
 mod proved {
     #[link(name = "pace", kind = "static")]
     extern "C" {
-        fn th_sum_v64(bytes: *const u8, length: usize) -> u64;
+        fn pace_sum_v64(bytes: *const u8, length: usize) -> u64;
     }
 
     pub fn sum(bytes: &[u8]) -> u64 {
         // SAFETY: a Rattle slice is passed as its first byte and its length, and the function only reads it.
-        unsafe { th_sum_v64(bytes.as_ptr(), bytes.len()) }
+        unsafe { pace_sum_v64(bytes.as_ptr(), bytes.len()) }
     }
 }
 

@@ -19,7 +19,7 @@ use Rattle.laws.specs.Bools.{number-split, and-split}
 use Rattle.laws.specs.Hexed.{hexed, Spelt}
 use Rattle.table.specs.View.{view, said, Said, Holds, stringsIn, fieldsIn}
 use Rattle.reader.specs.Sound.{Sound}
-use Rattle.reader.specs.EntryLaws.{strings-sound}
+use Rattle.reader.specs.StringLaws.{strings-sound}
 use Rattle.walk.specs.Blocks.{begins}
 use Rattle.walk.specs.Stand.{AllStand}
 use Rattle.judge.specs.Entries.{EntriesTold, EntriesRead}

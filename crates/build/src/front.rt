@@ -37,7 +37,7 @@ fn few(work: &[u32], n: u64, m: u64) -> bool
     ensures { λ r. ⌜ ((f : List ℕ) → Holds f (now (work .entry)) → r ≡ (number? (stringsRules (view f (now (work .entry)))) n && number? smallRules m)) ⌝ }
 {
     let room = Ledger::STRINGS - (strings(work) as u64);
-    n <= room && m <= Ledger::OBJECTS
+    n <= room && Ledger::is_small(m)
 }
 
 // The front of the pair at p. Kinds are held to the types when all of these are known.

@@ -12,8 +12,8 @@ use Rattle.table.specs.View.{view}
 use Rattle.numbers.specs.declared.Cursor.{Cursor}
 use Rattle.numbers.specs.declared.Refusal.{Refusal}
 use Rattle.walk.specs.FileLaws.{FileRead, toldFile}
-use Rattle.walk.specs.declared.chunks.Step.{Step}
-use Rattle.walk.specs.declared.chunks.Step.the-variants.{Got, No}
+use Rattle.numbers.specs.declared.Step.{Step}
+use Rattle.numbers.specs.declared.Step.the-variants.{Got, No}
 use Rattle.calls.specs.Told.{answerOf, Wrote, wrote-none, countOf, check-got, objects-got, column-got, check-no, objects-no, column-no}
 use Rattle.calls.specs.Column.{Known, sees, ColumnTold}
 use Rattle.calls.specs.declared.replies.Reply.{Reply}

@@ -1,27 +1,28 @@
 // The calls over a lent file: for every input, what is replied and what the lent memory holds afterwards.
-pub mod asks;
-pub mod fills;
+mod asks;
+mod fills;
 pub mod replies;
 
 ghost use mathlib.Core.Path.{_≡_};
 ghost use mathlib.Core.List.{[]};
 ghost use lib.ListN.{length};
+ghost use Rattle.paper.specs.Bounds.{tableLength};
 ghost use Rattle.paper.specs.Calls.{check, objects, column, afterCheck, afterObjects, afterColumn};
 ghost use Rattle.table.specs.Counts.{noughts};
 ghost use Rattle.walk.specs.FileLaws.{FileRead};
 ghost use Rattle.calls.specs.Told.{answerOf, Wrote, after};
 use asks::count_objects;
 use asks::write_column;
+use numbers::Step;
 use paper::Ledger;
 use replies::Reply;
 use table::counts::clear;
-use walk::chunks::Step;
 use walk::pairs::read;
 
 // Behind the reading: the file's own refusal, or what is asked.
 fn objects_read(a: Step, file: &[u8], work: &[u32], name: &[u8]) -> Reply
     requires { ⌜ FileRead (now file) (now work) a ⌝ }
-    ensures { λ r. ⌜ answerOf r ≡ objects (now (name .entry)) 16384 (now (file .entry)) ⌝ }
+    ensures { λ r. ⌜ answerOf r ≡ objects (now (name .entry)) tableLength (now (file .entry)) ⌝ }
 {
     match a {
         Step::Got(_) => count_objects(file, work, name),
@@ -39,7 +40,7 @@ fn column_read(
     out: &mut [i64],
 ) -> Reply
     requires { ⌜ FileRead (now file) (now work) a ⌝ }
-    ensures { λ r. ⌜ Wrote (column (now (owner .entry)) (now (name .entry)) k (length (now (out .entry))) 16384 (now (file .entry))) (now (out .entry)) r (now (out .exit)) ⌝ }
+    ensures { λ r. ⌜ Wrote (column (now (owner .entry)) (now (name .entry)) k (length (now (out .entry))) tableLength (now (file .entry))) (now (out .entry)) r (now (out .exit)) ⌝ }
 {
     match a {
         Step::Got(_) => write_column(file, work, owner, name, k, out),
@@ -50,8 +51,8 @@ fn column_read(
 // The three calls over a table of just the length that reading needs: whatever stood in it, noughts are left.
 
 fn check_in(file: &[u8], table: &mut [u32]) -> Reply
-    requires { ⌜ length (now table) ≡ 16384 ⌝ }
-    ensures { λ r. ⌜ (answerOf r ≡ check 16384 (now (file .entry))) × (now (table .exit) ≡ noughts) ⌝ }
+    requires { ⌜ length (now table) ≡ tableLength ⌝ }
+    ensures { λ r. ⌜ (answerOf r ≡ check tableLength (now (file .entry))) × (now (table .exit) ≡ noughts) ⌝ }
 {
     let a = read(file, table);
     clear(table);
@@ -62,8 +63,8 @@ fn check_in(file: &[u8], table: &mut [u32]) -> Reply
 }
 
 fn objects_in(file: &[u8], name: &[u8], table: &mut [u32]) -> Reply
-    requires { ⌜ length (now table) ≡ 16384 ⌝ }
-    ensures { λ r. ⌜ (answerOf r ≡ objects (now (name .entry)) 16384 (now (file .entry))) × (now (table .exit) ≡ noughts) ⌝ }
+    requires { ⌜ length (now table) ≡ tableLength ⌝ }
+    ensures { λ r. ⌜ (answerOf r ≡ objects (now (name .entry)) tableLength (now (file .entry))) × (now (table .exit) ≡ noughts) ⌝ }
 {
     let a = read(file, table);
     let r = objects_read(a, file, table, name);
@@ -79,8 +80,8 @@ fn column_in(
     table: &mut [u32],
     out: &mut [i64],
 ) -> Reply
-    requires { ⌜ length (now table) ≡ 16384 ⌝ }
-    ensures { λ r. ⌜ Wrote (column (now (owner .entry)) (now (name .entry)) k (length (now (out .entry))) 16384 (now (file .entry))) (now (out .entry)) r (now (out .exit)) × (now (table .exit) ≡ noughts) ⌝ }
+    requires { ⌜ length (now table) ≡ tableLength ⌝ }
+    ensures { λ r. ⌜ Wrote (column (now (owner .entry)) (now (name .entry)) k (length (now (out .entry))) tableLength (now (file .entry))) (now (out .entry)) r (now (out .exit)) × (now (table .exit) ≡ noughts) ⌝ }
 {
     let a = read(file, table);
     let r = column_read(a, file, table, owner, name, k, out);

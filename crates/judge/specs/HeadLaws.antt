@@ -122,6 +122,10 @@ module _ {s : State} {x : Name} (known : Resolved s x) where
 as-listed : {m u : Maybe} → m ≡ u → (b : Bool) → only? b smallRules (option m) ≡ only? b smallRules (option u)
 as-listed is b = ap (λ (u : Maybe). only? b smallRules (option u)) is
 
+-- it fits a cell
+pub small-fits : {n : ℕ} → n ≤ 65535 → n < 2 ^ 32
+small-fits h = omega arith
+
 module _ {b : Bool} {m : Maybe} where
   pub start-lacks : b ≡ true → m ≡ Dash → StartTold b (option m) start.Bad
   unfolding only?

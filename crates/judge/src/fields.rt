@@ -2,6 +2,7 @@
 // entered in the table. Their chunks are due, and have no size yet.
 ghost use Prim.Native.Nat.{_+_, _<_, _≤_};
 ghost use lib.ListN.{length};
+ghost use Rattle.paper.specs.Bounds.{mostFields};
 ghost use Rattle.table.specs.View.{fldsOf, Holds, said, fieldsIn};
 ghost use Rattle.reader.specs.Sound.{Open};
 ghost use Rattle.judge.specs.Fields.{Ready, OldTold, OldsTold, newStep, newsStep, fieldsStep, Stepped};
@@ -54,7 +55,7 @@ fn known_due(work: &mut [u32], t: u32, added: u32)
 fn new_text(text: &[u8], p: Place, work: &mut [u32], t: u32, objects: u32) -> Step
     requires { ⌜ Holds (now text) (now work) ⌝ }
     requires { ⌜ Open (said (now text) (now work)) t (length (fldsOf (now work))) ⌝ }
-    requires { ⌜ fieldsIn (now work) < 128 ⌝ }
+    requires { ⌜ fieldsIn (now work) < mostFields ⌝ }
     ensures { λ r. ⌜ Stepped (now (text .entry)) (now (work .exit)) t r (newStep t objects (said (now (text .entry)) (now (work .entry))) (now (text .entry)) (p .at)) ⌝ }
 {
     let r = new_line(text, p);
@@ -79,7 +80,7 @@ fn new_text(text: &[u8], p: Place, work: &mut [u32], t: u32, objects: u32) -> St
 fn news_text(text: &[u8], p: Place, work: &mut [u32], t: u32, objects: u32, count: u64) -> Step
     requires { ⌜ Holds (now text) (now work) ⌝ }
     requires { ⌜ Open (said (now text) (now work)) t (length (fldsOf (now work))) ⌝ }
-    requires { ⌜ fieldsIn (now work) + count ≤ 128 ⌝ }
+    requires { ⌜ fieldsIn (now work) + count ≤ mostFields ⌝ }
     ensures { λ r. ⌜ Stepped (now (text .entry)) (now (work .exit)) t r (newsStep t objects count (said (now (text .entry)) (now (work .entry))) (now (text .entry)) (p .at)) ⌝ }
 {
     let mut at = p.at;

@@ -90,7 +90,7 @@ fn judged_start(up: u32, start: Maybe) -> StartWord
             if up == 0 {
                 return StartWord::Bad;
             }
-            if Ledger::OBJECTS < n {
+            if !Ledger::is_small(n) {
                 return StartWord::Bad;
             }
             StartWord::Got(n as u32)

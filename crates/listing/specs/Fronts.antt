@@ -19,17 +19,17 @@ use Rattle.table.specs.View.{strsOf, view, said, Said, Holds, stringsIn}
 use Rattle.table.specs.Answers.{Stands}
 use Rattle.table.specs.NameLaws.{part-of}
 use Rattle.table.specs.declared.rows.Span.{Span}
-use Rattle.numbers.specs.Cursors.{Read, was-got, was-refused}
+use Rattle.numbers.specs.Cursors.{Read, was-got, was-refused, noStep, outStep}
 use Rattle.numbers.specs.declared.Cursor.{Cursor}
 use Rattle.numbers.specs.declared.Refusal.{Refusal}
 use Rattle.numbers.specs.declared.Number.{Number}
 use Rattle.numbers.specs.declared.Number.the-variants.{Got, No}
-use Rattle.reader.specs.declared.strings.Step.{Step}
-use Rattle.reader.specs.declared.strings.Step.the-variants as step
+use Rattle.numbers.specs.declared.Step.{Step}
+use Rattle.numbers.specs.declared.Step.the-variants as step
 use Rattle.reader.specs.Sound.{Sound}
 use Rattle.reader.specs.Kinds.{namedBy}
 use Rattle.reader.specs.Fields.{going}
-use Rattle.reader.specs.Strings.{noStep, outStep, Did, addStrings}
+use Rattle.reader.specs.Strings.{Did, addStrings}
 use Rattle.reader.specs.Entries.{entriesGo, frontGo}
 use Rattle.reader.specs.EntryLaws.{Passed, still-sound, front-unstrung, front-uncounted, front-got}
 use Rattle.reader.specs.Runs.{times-many}

@@ -25,8 +25,8 @@ use Rattle.numbers.specs.declared.Refusal.{Refusal}
 use Rattle.values.specs.Filling.{sets-front}
 use Rattle.walk.specs.PairTurns.{WalkReady}
 use Rattle.walk.specs.FileLaws.{FileRead, walk-ready}
-use Rattle.walk.specs.declared.chunks.Step.{Step}
-use Rattle.walk.specs.declared.chunks.Step.the-variants.{Got, No}
+use Rattle.numbers.specs.declared.Step.{Step}
+use Rattle.numbers.specs.declared.Step.the-variants.{Got, No}
 use Rattle.calls.specs.Told.{answerOf, after, Wrote, wrote-none, wrote-all, read-got, read-no}
 use Rattle.calls.specs.Table.{untouched, read-short, noughts-first, read-long}
 use Rattle.calls.specs.Behind.{table-known, refused-file}

@@ -14,10 +14,9 @@ use lines::put_pair;
 use lines::put_string;
 use numbers::Cursor;
 use numbers::Number;
-use reader::ruled::small;
-use reader::strings::Step;
+use numbers::Step;
+use numbers::refused_step;
 use reader::strings::read_strings;
-use reader::strings::refused_step;
 use table::rows::Span;
 use table::rows::string_at;
 use table::rows::strings;
@@ -64,7 +63,7 @@ pub fn print_front(file: &[u8], c: Cursor, work: &mut [u32], out: &mut [u8], at:
             at,
         };
     };
-    let a = small(file, c1);
+    let a = c1.small(file);
     let Number::Got(n, c2) = a else {
         return Printed { read: a, at };
     };

@@ -12,11 +12,11 @@ ghost use Rattle.walk.specs.FileLaws.{FileRead};
 ghost use Rattle.calls.specs.Told.{Wrote, after};
 ghost use Rattle.listing.specs.Text.{FileThere, FilePrinted, TextWritten};
 use calls::replies::Reply;
+use numbers::Step;
 use pairs::print_pairs;
 use paper::Ledger;
 use table::counts::begin;
 use table::counts::clear;
-use walk::chunks::Step;
 use walk::pairs::read;
 
 // The text of an accepted file, as far as there is room, and how long it is.

@@ -1,14 +1,16 @@
 -- What the answer of a cursor says: the outcome of a reading by the definitions. Assumes nothing.
-use mathlib.Core.Path.{_≡_, sym, ap, ap₂, _∙_}
+use mathlib.Core.Path.{_≡_, refl, sym, ap, ap₂, _∙_}
 use mathlib.Core.List.{List}
 use Prim.Native.Nat.{ℕ, _≤_, _<_}
 use native.Mathlib.Omega.{arith}
 use lib.ListN.{length}
-use Rattle.paper.specs.Reader.{Reader, Out, got, no}
+use Rattle.paper.specs.Reader.{Reader, Out, got, no, andThen}
 use Rattle.numbers.specs.declared.Cursor.{Cursor}
 use Rattle.numbers.specs.declared.Refusal.{Refusal}
 use Rattle.numbers.specs.declared.Number.{Number}
 use Rattle.numbers.specs.declared.Number.the-variants.{Got, No}
+use Rattle.numbers.specs.declared.Step.{Step}
+use Rattle.numbers.specs.declared.Step.the-variants as step
 
 abbrev pub outOf : Number → Out ℕ
 outOf (Got x c) = got x (c .at)
@@ -91,3 +93,32 @@ pub answer-no :
     {r : Reader ℕ} {b : ℕ} {f : List ℕ} {at n : ℕ}
     → r f at ≡ no n at → 0 < b → Read r b f at (No (record { number = n; place = at }))
 answer-no h l = record { says = sym h; inside = λ i. i; below = l }
+
+-- ── a step: only the cursor behind what was read is answered ──
+
+-- the outcome with the value v
+abbrev pub outStep : {A : Type 0} → Step → A → Out A
+outStep (step.Got c) v = got v (c .at)
+outStep (step.No e) v = no (e .number) (e .place)
+
+-- where the cursor stands afterwards; of a refusal, its place
+abbrev pub stepPlace : Step → ℕ
+stepPlace (step.Got c) = c .at
+stepPlace (step.No e) = e .place
+
+abbrev pub noStep : Step → Refusal
+noStep (step.Got c) = record { number = 0; place = c .at }
+noStep (step.No e) = e
+
+-- the step goes where the reader `r` goes, and refuses as it does
+pub record Past (r : Reader ℕ) (f : List ℕ) (at : ℕ) (s : Step) : Type 0 where
+  pub says : outStep s (tt {0}) ≡ andThen (r f at) (λ n e. got tt e)
+  pub inside : at ≤ length f → stepPlace s ≤ length f
+
+-- a number that was read, passed over
+module _ {r : Reader ℕ} {b : ℕ} {f : List ℕ} {at : ℕ} {n : Number} (R : Read r b f at n) where
+  pub past-got : {x : ℕ} {c : Cursor} → n ≡ Got x c → Past r f at (step.Got c)
+  past-got h = let S = was-got R h in record { says = rw (S .says) refl; inside = S .inside }
+
+  pub past-no : {e u : Refusal} → n ≡ No e → u ≡ refusalOf n → Past r f at (step.No u)
+  past-no h q = let S = its-refusal R h q in record { says = rw (S .says) refl; inside = S .inside }

@@ -1,4 +1,5 @@
 pub mod Cursors
 pub mod Begun
+pub mod Ruled
 pub mod Signs
 pub mod Lengths

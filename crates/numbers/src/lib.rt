@@ -5,8 +5,10 @@ pub mod write;
 ghost use mathlib.Core.Path.{_≡_};
 ghost use Prim.Native.Nat.{_^_, _≤_, _<_};
 ghost use Rattle.paper.specs.Numbers.{fixed, v64};
-ghost use Rattle.numbers.specs.Cursors.{Read, refusalOf};
+ghost use Rattle.paper.specs.File.{small};
+ghost use Rattle.numbers.specs.Cursors.{Read, Past, refusalOf, noStep};
 ghost use Rattle.numbers.specs.Begun.{Begun};
+use paper::Ledger;
 
 // A place in the bytes, handed on by value.
 pub struct Cursor {
@@ -33,7 +35,13 @@ pub enum Number {
     No(Refusal),
 }
 
-// The refusal of an answer that is one. An answer that is none has number 0, which no rule has.
+// The cursor behind what was read, or the refusal.
+pub enum Step {
+    Got(Cursor),
+    No(Refusal),
+}
+
+// The refusals of answers that are one. An answer that is none has number 0, which no rule has.
 pub fn refused(n: Number) -> Refusal
     ensures { λ r. ⌜ r ≡ refusalOf n ⌝ }
 {
@@ -43,6 +51,18 @@ pub fn refused(n: Number) -> Refusal
             place: c.at,
         },
         Number::No(r) => r,
+    }
+}
+
+pub fn refused_step(s: Step) -> Refusal
+    ensures { λ r. ⌜ r ≡ noStep s ⌝ }
+{
+    match s {
+        Step::Got(c) => Refusal {
+            number: 0,
+            place: c.at,
+        },
+        Step::No(r) => r,
     }
 }
 
@@ -81,9 +101,8 @@ fn fixed_at(s: &[u8], at: usize, width: usize) -> Number
 }
 
 // The v64 that begins at `at` with a byte that another follows, and whose low seven bits are `low`: its other bytes. Each
-// but the ninth has seven bits, and none of them may be 00 where it is the last. It is public for loops over many numbers,
-// which look at the first byte themselves.
-pub fn v64_on(s: &[u8], at: usize, low: u64) -> Number
+// but the ninth has seven bits, and none of them may be 00 where it is the last.
+fn v64_on(s: &[u8], at: usize, low: u64) -> Number
     requires { ⌜ Begun (now s) at low ⌝ }
     ensures { λ r. ⌜ Read v64 (2 ^ 64) (now (s .entry)) at r ⌝ }
 {
@@ -137,6 +156,42 @@ impl Cursor {
             return Number::Got(b, Cursor { at: at + 1 });
         }
         v64_on(s, at, b - 128)
+    }
+
+    // Past a v64 of which nobody asks the value.
+    pub fn past_v64(self, s: &[u8]) -> Step
+        ensures { λ r. ⌜ Past v64 (now (s .entry)) (self .at) r ⌝ }
+    {
+        let at = self.at;
+        if s.len() <= at {
+            return Step::No(Refusal {
+                number: Refusal::SHORT,
+                place: at,
+            });
+        }
+        let b = wide(s[at]);
+        if b < 128 {
+            return Step::Got(Cursor { at: at + 1 });
+        }
+        let a = v64_on(s, at, b - 128);
+        let Number::Got(_, next) = a else {
+            return Step::No(refused(a));
+        };
+        Step::Got(next)
+    }
+
+    // A count, local start or length, which is held to the bound of objects.
+    pub fn small(self, s: &[u8]) -> Number
+        ensures { λ r. ⌜ Read small 65536 (now (s .entry)) (self .at) r ⌝ }
+    {
+        let a = self.v64(s);
+        let Number::Got(n, next) = a else {
+            return a;
+        };
+        if !Ledger::is_small(n) {
+            return refuse(3, self.at);
+        }
+        Number::Got(n, next)
     }
 
     pub fn be1(self, s: &[u8]) -> Number

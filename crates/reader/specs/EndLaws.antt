@@ -10,7 +10,7 @@ use Rattle.paper.specs.Numbers.{fixed, v64}
 use Rattle.paper.specs.Lists.{lastOr}
 use Rattle.paper.specs.Rules.{endRules}
 use Rattle.paper.specs.File.{stringEnd, stringBlock}
-use Rattle.numbers.specs.Cursors.{Read, was-got, was-refused, its-refusal, refusalOf}
+use Rattle.numbers.specs.Cursors.{Read, was-got, was-refused, its-refusal, refusalOf, outStep}
 use Rattle.numbers.specs.declared.Number.{Number}
 use Rattle.numbers.specs.declared.Number.the-variants.{Got, No}
 use Rattle.numbers.specs.declared.Cursor.{Cursor}
@@ -20,11 +20,11 @@ use Rattle.table.specs.View.{view, Said, said, strsOf, Holds, Now, stringsIn}
 use Rattle.table.specs.ViewLaws.{pushed-string}
 use Rattle.table.specs.Adds.{addString}
 use Rattle.laws.specs.Laws.{not-got}
-use Rattle.reader.specs.Ruled.{read-no, read-bad, read-got}
+use Rattle.numbers.specs.Ruled.{read-no, read-bad, read-got}
 use Rattle.reader.specs.Sound.{Sound}
-use Rattle.reader.specs.declared.strings.Step.{Step}
-use Rattle.reader.specs.declared.strings.Step.the-variants as step
-use Rattle.reader.specs.Strings.{outStep, Did, addStrings, ends, piece, pieces, capped, Rising, OneEnd, leftEnd, EndRead, Ended, leftEnds, EndsRead, skipped, Skip}
+use Rattle.numbers.specs.declared.Step.{Step}
+use Rattle.numbers.specs.declared.Step.the-variants as step
+use Rattle.reader.specs.Strings.{Did, addStrings, ends, piece, pieces, capped, Rising, OneEnd, leftEnd, EndRead, Ended, leftEnds, EndsRead, Skip}
 use Rattle.reader.specs.StringLaws.{cap-most, capped-piece, four-on, then-then, ends-step, ends-stop, last-snoc, rising-snoc, pieces-snoc, add-string, add-none, strings-sound, block-no, block-full, block-no-ends, block-no-bytes, block-got}
 
 -- ── one end ──
@@ -202,7 +202,7 @@ module _ {f l : List ℕ} {at : ℕ} (h : Holds f l) (low : at ≤ length f) {a 
             inside = λ lo. sk .inside (rw isb at (es .inside next-inside));
           }
         where
-          go : (t : Ended f l l′ (next .at + 4 * n) n (next .at) last (end .at)) (r : Step) → skipped (take (lastOr 0 (t .list)) (drop (end .at) f)) r ≡ bytes (lastOr 0 (t .list)) f (end .at) → outStep r (said f l′) ≡ wanted
+          go : (t : Ended f l l′ (next .at + 4 * n) n (next .at) last (end .at)) (r : Step) → outStep r (take (lastOr 0 (t .list)) (drop (end .at) f)) ≡ bytes (lastOr 0 (t .list)) f (end .at) → outStep r (said f l′) ≡ wanted
           go t (step.Got c) q = rw (block-got (view f l) f at is-read room (t .read) (t .rises) (t .on) (sym q)) (ap (λ (s : Said). got s (c .at)) (t .says))
           go t (step.No e) q = rw (block-no-bytes (view f l) f at is-read room (t .read) (sym q)) refl
 

@@ -7,9 +7,9 @@ use native.Mathlib.Omega.{arith}
 use lib.ListN.{length, length-append}
 use Rattle.paper.specs.Reader.{Out, got, no, andThen, turned}
 use Rattle.paper.specs.Ledger.{Head, State}
-use Rattle.paper.specs.Rules.{typeOf, withStrings}
+use Rattle.paper.specs.Rules.{typeOf}
 use Rattle.paper.specs.File.{small, stringBlock}
-use Rattle.numbers.specs.Cursors.{Read, placeOf, was-got, was-refused}
+use Rattle.numbers.specs.Cursors.{Read, placeOf, was-got, was-refused, noStep}
 use Rattle.numbers.specs.declared.Number.{Number}
 use Rattle.numbers.specs.declared.Number.the-variants.{Got, No}
 use Rattle.numbers.specs.declared.Cursor.{Cursor}
@@ -18,13 +18,14 @@ use Rattle.table.specs.View.{fldsOf, view, Holds, Said, said}
 use Rattle.reader.specs.declared.heads.Top.{Top}
 use Rattle.reader.specs.declared.heads.Topped.{Topped}
 use Rattle.reader.specs.declared.heads.Topped.the-variants as topped
-use Rattle.reader.specs.declared.strings.Step.{Step}
-use Rattle.reader.specs.declared.strings.Step.the-variants as step
+use Rattle.numbers.specs.declared.Step.{Step}
+use Rattle.numbers.specs.declared.Step.the-variants as step
 use Rattle.reader.specs.Sound.{Sound, Open}
 use Rattle.reader.specs.Going.{Going, goHead}
 use Rattle.reader.specs.Fields.{going, fieldsGo, outGoing, Went}
 use Rattle.reader.specs.Heads.{noTop, headOf, addHead, TopEntered}
-use Rattle.reader.specs.Strings.{noStep, outStep, Did, addStrings}
+use Rattle.reader.specs.Strings.{Did, addStrings}
+use Rattle.reader.specs.StringLaws.{strings-sound}
 use Rattle.reader.specs.Entries.{entryGo, entry-is, entriesGo, entries-stop, entries-step, frontGo}
 use Rattle.reader.specs.FrontSteps.{front-is}
 
@@ -100,22 +101,6 @@ module _ {f l₀ l : List ℕ} {named : ℕ → Bool} {at₀ all rest last at : 
         record { holds = one′ .holds; sound = one′ .sound; long = long ∙ g .long; inside = λ lo. one′ .inside (g .inside lo); says = turn ∙ rw is refl }
 
 -- ── the front ──
-
--- strings are no matter of types, fields or chunks
-pub strings-sound : {s : Said} (strings : List (List ℕ)) → Sound s → Sound (addStrings s strings)
-unfolding addStrings withStrings Rattle.paper.specs.Rules.entered? Rattle.paper.specs.Ledger.fieldAt
-strings-sound {s} strings k =
-    record {
-      block = k .block;
-      names = k .names;
-      flds = k .flds;
-      known = k .known;
-      once = k .once;
-      room = k .room;
-      declared = Rattle.reader.specs.Sound.every-map (Rattle.reader.specs.Sound.Declared (s .state)) (Rattle.reader.specs.Sound.Declared (withStrings (s .state) strings)) (λ d x. record { below = x .below; entered = x .entered }) (s .due) (k .declared);
-      apart = k .apart;
-      chunks = k .chunks;
-    }
 
 pub still-sound : {f : List ℕ} (l : List ℕ) {l₁ : List ℕ} {at : ℕ} {a : Step} → Did f l₁ at a (turned (addStrings (said f l)) (stringBlock (view f l) f at)) → {c : Cursor} → a ≡ step.Got c → Sound (said f l) → Sound (said f l₁)
 still-sound {f} l {l₁} {at} did {c} is k = let D = rw is at did in go (stringBlock (view f l) f at) (D .says)

@@ -20,7 +20,8 @@ use Rattle.numbers.specs.declared.Number.the-variants.{Got, No}
 use Rattle.numbers.specs.declared.Cursor.{Cursor}
 use Rattle.numbers.specs.declared.Refusal.{Refusal}
 use Rattle.table.specs.View.{kindFrom}
-use Rattle.reader.specs.Ruled.{Judged, judged-bad, judged-got, read-no, read-bad, read-got}
+use Rattle.numbers.specs.Ruled.{read-no, read-bad, read-got}
+use Rattle.reader.specs.Ruled.{Judged, judged-bad, judged-got}
 
 module _ {f : List ℕ} {at : ℕ} {a : Number} (read : Read v64 (2 ^ 64) f at a) where
   -- ── the number of restrictions ──

@@ -27,7 +27,7 @@ use Rattle.table.specs.Answers.{Stands}
 use Rattle.table.specs.Asks.{found}
 use Rattle.table.specs.declared.names.Found.{Found}
 use Rattle.table.specs.declared.names.Found.the-variants.{At, Nothing}
-use Rattle.reader.specs.Ruled.{ruled-is}
+use Rattle.numbers.specs.Ruled.{ruled-is}
 use Rattle.reader.specs.declared.heads.Name.{Name}
 use Rattle.reader.specs.declared.heads.Named.{Named}
 use Rattle.reader.specs.declared.heads.Named.the-variants as named

@@ -35,7 +35,7 @@ use Rattle.reader.specs.Kinds.{
   KindReadBy,
   KindReads,
 }
-use Rattle.reader.specs.Ruled.{read-no, read-bad, read-got, ruled-is}
+use Rattle.numbers.specs.Ruled.{read-no, read-bad, read-got, ruled-is}
 
 differ : {X : Type 0} → _≡_ {A = ℕ} 0 1 → X
 differ z = absurd (omega arith)

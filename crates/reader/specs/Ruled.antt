@@ -1,16 +1,14 @@
--- A number that is held to rules, and one that was read and is: the ways out, once for all rules. Assumes nothing.
+-- A number that is held to rules, wherever it comes from: the ways out, once for all rules. Assumes nothing.
 use mathlib.Core.Path.{_≡_, refl, sym, ap, _∙_}
 use mathlib.Core.Bool.{true, false}
 use mathlib.Core.List.{List, [], _∷_}
 use Prim.Native.Nat.{ℕ, _≤_, _<_, _^_}
 use native.Mathlib.Omega.{arith}
 use lib.ListN.{length}
-use borrow.Author.Tests.{le-leb, lt-leb}
-use Rattle.paper.specs.Reader.{if_then_else_, Reader, Out, got, no, andThen, hold, must, Rule, _orNo_}
+use Rattle.paper.specs.Reader.{Reader, Out, got, no, hold, must, Rule, _orNo_}
 use Rattle.paper.specs.Numbers.{v64, number}
-use Rattle.paper.specs.Rules.{smallRules}
-use Rattle.paper.specs.File.{small}
-use Rattle.numbers.specs.Cursors.{Read, outOf, placeOf, valueOf, was-got, was-refused}
+use Rattle.numbers.specs.Cursors.{Read, outOf, placeOf, valueOf, was-got}
+use Rattle.numbers.specs.Ruled.{ruled-is, read-no}
 use Rattle.numbers.specs.declared.Number.{Number}
 use Rattle.numbers.specs.declared.Number.the-variants.{Got, No}
 use Rattle.numbers.specs.declared.Cursor.{Cursor}
@@ -52,32 +50,9 @@ module _ (rules : ℕ → List Rule) {n at next : ℕ} where
 -- ── a number that was read ──
 
 module _ {r : Reader ℕ} {b : ℕ} {f : List ℕ} {at : ℕ} {a : Number} (read : Read r b f at a) (rules : ℕ → List Rule) where
-  -- what the rules make of an answer
-  pub ruled-no : {e : Refusal} → a ≡ No e → must r rules f at ≡ no (e .number) (e .place)
-  unfolding must
-  ruled-no is = rw (was-refused read is .says)
-
-  pub ruled-is : {n : ℕ} {c : Cursor} → a ≡ Got n c → must r rules f at ≡ hold (rules n) at (got n (c .at))
-  unfolding must
-  ruled-is is = rw (was-got read is .says)
-
-  -- the answer itself, where it is a refusal
-  pub read-no : {d : ℕ} {e : Refusal} → 0 < d → a ≡ No e → Read (must r rules) d f at a
-  read-no {d} {e} pos is =
-      let R = was-refused read is in
-      rw is (record { says = sym (ruled-no is); inside = R .inside; below = pos })
-
-  -- a broken rule
-  pub read-bad : {d n k : ℕ} {c : Cursor} → 0 < d → a ≡ Got n c → hold {A = ℕ} (rules n) at (got n (c .at)) ≡ no k at → Read (must r rules) d f at (No (record { number = k; place = at }))
-  read-bad pos is h = record { says = sym (ruled-is is ∙ h); inside = λ lo. lo; below = pos }
-
-  -- all rules hold
-  pub read-got : {d n : ℕ} {c : Cursor} → n < d → a ≡ Got n c → hold {A = ℕ} (rules n) at (got n (c .at)) ≡ got n (c .at) → Read (must r rules) d f at (Got n c)
-  read-got lt is h = record { says = sym (ruled-is is ∙ h); inside = was-got read is .inside; below = lt }
-
   -- what is made of a number, wherever it comes from, is made of one that was read
   pub read-judged : {n : ℕ} {c : Cursor} → a ≡ Got n c → {j : Number} → Judged rules n at (c .at) j → {d : ℕ} → valueOf j < d → Read (must r rules) d f at j
-  read-judged is j lt = record { says = j .says ∙ sym (ruled-is is); inside = λ lo. j .inside (length f) lo (was-got read is .inside lo); below = lt }
+  read-judged is j lt = record { says = j .says ∙ sym (ruled-is read rules is); inside = λ lo. j .inside (length f) lo (was-got read is .inside lo); below = lt }
 
 module _ {f : List ℕ} {at : ℕ} {a : Number} (read : Read v64 (2 ^ 64) f at a) (rules : ℕ → List Rule) where
   pub number-no : {e : Refusal} → a ≡ No e → {d : ℕ} → 0 < d → Read (number rules) d f at a
@@ -87,18 +62,3 @@ module _ {f : List ℕ} {at : ℕ} {a : Number} (read : Read v64 (2 ^ 64) f at a
   pub number-judged : {n : ℕ} {c : Cursor} → a ≡ Got n c → {j : Number} → Judged rules n at (c .at) j → {d : ℕ} → valueOf j < d → Read (number rules) d f at j
   unfolding number
   number-judged is j lt = read-judged read rules is j lt
-
--- ── a count, local start or length ──
-
-module _ {f : List ℕ} {at : ℕ} {a : Number} (read : Read v64 (2 ^ 64) f at a) where
-  pub small-no : {e : Refusal} → a ≡ No e → Read small 65536 f at a
-  unfolding small number
-  small-no is = read-no read smallRules (omega arith) is
-
-  pub small-big : {n : ℕ} {c : Cursor} → a ≡ Got n c → 65535 < n → Read small 65536 f at (No (record { number = 3; place = at }))
-  unfolding small number smallRules
-  small-big {n} is lt = read-bad read smallRules (omega arith) is (rw (lt-leb n 65535 lt))
-
-  pub small-got : {n : ℕ} {c : Cursor} → a ≡ Got n c → n ≤ 65535 → Read small 65536 f at (Got n c)
-  unfolding small number smallRules
-  small-got {n} is le = read-got read smallRules (omega arith) is (rw (le-leb n 65535 le))

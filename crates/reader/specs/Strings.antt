@@ -8,29 +8,14 @@ use Rattle.paper.specs.Reader.{if_then_else_, Reader, Out, got, no, times, byte
 use Rattle.paper.specs.Lists.{lastOr}
 use Rattle.paper.specs.Rules.{withStrings}
 use Rattle.paper.specs.File.{stringEnd}
-use Rattle.numbers.specs.Cursors.{Read, placeOf}
+use Rattle.numbers.specs.Cursors.{Read, placeOf, outStep, stepPlace}
 use Rattle.numbers.specs.declared.Number.{Number}
 use Rattle.numbers.specs.declared.Number.the-variants as number
-use Rattle.numbers.specs.declared.Refusal.{Refusal}
+use Rattle.numbers.specs.declared.Step.{Step}
 use Rattle.table.specs.View.{Holds, Said, said}
 use Rattle.table.specs.Adds.{addString}
-use Rattle.reader.specs.declared.strings.Step.{Step}
-use Rattle.reader.specs.declared.strings.Step.the-variants.{Got, No}
 
 -- ── a step that reads into the table ──
-
-abbrev pub outStep : Step → Said → Out Said
-outStep (Got c) g = got g (c .at)
-outStep (No e) g = no (e .number) (e .place)
-
--- where the cursor stands afterwards; of a refusal, its place
-abbrev pub stepPlace : Step → ℕ
-stepPlace (Got c) = c .at
-stepPlace (No e) = e .place
-
-abbrev pub noStep : Step → Refusal
-noStep (Got c) = record { number = 0; place = c .at }
-noStep (No e) = e
 
 -- the step answered r and left the table l, and that is the outcome o
 pub record Did (f l : List ℕ) (at : ℕ) (r : Step) (o : Out Said) : Type 0 where
@@ -99,10 +84,6 @@ pub record EndsRead (f l l′ : List ℕ) (b n at : ℕ) (r : Number) : Type 0 w
   pub left : leftEnds f l l′ b n at r
 
 -- a run of n bytes was passed over
-abbrev pub skipped : List ℕ → Step → Out (List ℕ)
-skipped bs (Got c) = got bs (c .at)
-skipped bs (No e) = no (e .number) (e .place)
-
 pub record Skip (f : List ℕ) (at n : ℕ) (r : Step) : Type 0 where
-  pub says : skipped (take n (drop at f)) r ≡ bytes n f at
+  pub says : outStep r (take n (drop at f)) ≡ bytes n f at
   pub inside : at ≤ length f → stepPlace r ≤ length f

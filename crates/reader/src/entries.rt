@@ -14,12 +14,11 @@ use super::heads::Topped;
 use super::heads::enter_head;
 use super::heads::refused_top;
 use super::kinds::Named;
-use super::ruled::small;
-use super::strings::Step;
 use super::strings::read_strings;
-use super::strings::refused_step;
 use numbers::Cursor;
 use numbers::Number;
+use numbers::Step;
+use numbers::refused_step;
 
 pub fn entry(file: &[u8], c: Cursor, work: &mut [u32], end: u64, named: Named) -> Number
     requires { ⌜ Holds (now file) (now work) × Sound (said (now file) (now work)) ⌝ }
@@ -63,7 +62,7 @@ pub fn front(file: &[u8], c: Cursor, work: &mut [u32], named: Named) -> Number
     let Step::Got(after_strings) = s else {
         return Number::No(refused_step(s));
     };
-    let a = small(file, after_strings);
+    let a = after_strings.small(file);
     let Number::Got(n, next) = a else {
         return a;
     };

@@ -4,6 +4,7 @@ ghost use mathlib.Core.Path.{_≡_};
 ghost use mathlib.Core.List.{List};
 ghost use Prim.Native.Nat.{ℕ, _+_, _^_, _<_, _≤_};
 ghost use lib.ListN.{length};
+ghost use Rattle.paper.specs.Bounds.{mostFields};
 ghost use Rattle.paper.specs.Numbers.{number};
 ghost use Rattle.paper.specs.Rules.{fieldCountRules, fieldNameRules, valuesDue};
 ghost use Rattle.paper.specs.File.{endOffset};
@@ -198,7 +199,7 @@ pub fn add_field(work: &mut [u32], t: u32, kind: Kind, name: u64, objects: u32, 
     requires { ⌜ Ok (now work) ⌝ }
     requires { ⌜ (1 ≤ name) × (name ≤ stringsIn (now work)) ⌝ }
     requires { ⌜ kind .first ≤ 32 ⌝ }
-    requires { ⌜ (fieldsIn (now work) < 128) × (duesIn (now work) < 128) ⌝ }
+    requires { ⌜ (fieldsIn (now work) < mostFields) × (duesIn (now work) < mostFields) ⌝ }
     ensures { λ _. ⌜ FieldAdded t objects name kind size (now (work .entry)) (now (work .exit)) ⌝ }
 {
     let text = table::rows::string_at(work, (name - 1) as u32);
@@ -229,7 +230,7 @@ fn new_field(
 ) -> Number
     requires { ⌜ Holds (now file) (now work) ⌝ }
     requires { ⌜ Open (said (now file) (now work)) t (length (fldsOf (now work))) ⌝ }
-    requires { ⌜ fieldsIn (now work) < 128 ⌝ }
+    requires { ⌜ fieldsIn (now work) < mostFields ⌝ }
     ensures { λ r. ⌜ Went (now (file .entry)) (now (work .exit)) t (length (fldsOf (now (work .exit)))) (c .at) r (newGo (named? named) t objects (going (now (file .entry)) (now (work .entry)) end) (now (file .entry)) (c .at)) ⌝ }
 {
     let a = no_restrictions(file, c);
@@ -266,7 +267,7 @@ fn new_fields(
 ) -> Number
     requires { ⌜ Holds (now file) (now work) ⌝ }
     requires { ⌜ Open (said (now file) (now work)) t (length (fldsOf (now work))) ⌝ }
-    requires { ⌜ fieldsIn (now work) + count ≤ 128 ⌝ }
+    requires { ⌜ fieldsIn (now work) + count ≤ mostFields ⌝ }
     ensures { λ r. ⌜ Went (now (file .entry)) (now (work .exit)) t (length (fldsOf (now (work .exit)))) (c .at) r (newsGo (named? named) t objects count (going (now (file .entry)) (now (work .entry)) end) (now (file .entry)) (c .at)) ⌝ }
 {
     let mut at = c.at;

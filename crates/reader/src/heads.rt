@@ -17,7 +17,6 @@ ghost use Rattle.table.specs.Asks.{found};
 ghost use Rattle.reader.specs.Sound.{Sound};
 ghost use Rattle.reader.specs.Heads.{foundBelow, Known, Resolved, NamePlaced, NameJudged, NameRead, noName, SuperPlaced, SuperJudged, SuperRead, AboveRead, noAbove, DueRead, CountJudged, TopRead, Placed, noTop, rangeFor, Declares, TypeEntered, Enterable, Entered, TopEntered};
 use super::ruled::no_restrictions;
-use super::ruled::small;
 use numbers::Cursor;
 use numbers::Number;
 use numbers::Refusal;
@@ -278,7 +277,7 @@ fn local_start(file: &[u8], c: Cursor, up: u32) -> Number
     if up == 0 {
         return Number::Got(0, c);
     }
-    small(file, c)
+    c.small(file)
 }
 
 // The bound of objects, which only the counts of base types add up to: all others are objects of these too.
@@ -286,13 +285,13 @@ fn few_objects(work: &[u32], up: u32, n: u64) -> bool
     requires { ⌜ Ok (now work) ⌝ }
     ensures { λ r. ⌜ ((f : List ℕ) → r ≡ fewObjects? (view f (now (work .entry))) (maybe up) n) ⌝ }
 {
-    if Ledger::OBJECTS < n {
+    if !Ledger::is_small(n) {
         return false;
     }
     if up != 0 {
         return true;
     }
-    (objects_in_all(work) as u64) + n <= Ledger::OBJECTS
+    Ledger::is_small((objects_in_all(work) as u64) + n)
 }
 
 // The range of n objects from `start` lies within that of the super type up - 1 and behind those of all earlier siblings;

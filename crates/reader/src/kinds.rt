@@ -4,10 +4,8 @@ ghost use mathlib.Core.Bool.{Bool};
 ghost use Prim.Native.Nat.{ℕ, _^_, _≤_};
 ghost use Rattle.paper.specs.Numbers.{number};
 ghost use Rattle.paper.specs.Rules.{elementKindRules};
-ghost use Rattle.paper.specs.File.{small};
 ghost use Rattle.numbers.specs.Cursors.{Read};
 ghost use Rattle.reader.specs.Kinds.{named?, bitsOf, constantOf, arrayOf, manyOf, KindReadBy, KindReads, refusalOfKind};
-use super::ruled::small;
 use numbers::Cursor;
 use numbers::Number;
 use numbers::Refusal;
@@ -124,7 +122,7 @@ fn constant(file: &[u8], c: Cursor, k: u64) -> KindRead
 fn array(file: &[u8], c: Cursor, named: Named) -> KindRead
     ensures { λ r. ⌜ KindReadBy (arrayOf (named? named)) (named? named) (now (file .entry)) (c .at) r ⌝ }
 {
-    let a = small(file, c);
+    let a = c.small(file);
     let Number::Got(length, next) = a else {
         return KindRead::No(refused(a));
     };

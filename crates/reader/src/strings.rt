@@ -3,36 +3,19 @@
 ghost use mathlib.Core.Path.{_≡_};
 ghost use Prim.Native.Nat.{_+_, _<_, _≤_};
 ghost use lib.ListN.{length};
+ghost use Rattle.paper.specs.Bounds.{mostStrings};
 ghost use Rattle.paper.specs.Reader.{turned};
 ghost use Rattle.paper.specs.File.{stringBlock};
 ghost use Rattle.table.specs.View.{view, said, Holds, stringsIn};
-ghost use Rattle.reader.specs.Strings.{noStep, capped, EndRead, EndsRead, Skip, Did, addStrings};
+ghost use Rattle.reader.specs.Strings.{capped, EndRead, EndsRead, Skip, Did, addStrings};
 use numbers::Cursor;
 use numbers::Number;
 use numbers::Refusal;
+use numbers::Step;
 use numbers::refused;
 use paper::Ledger;
 use table::pushes::push_string;
 use table::rows::strings;
-
-// What was read is in the table, and the cursor stands behind it; or the refusal.
-pub enum Step {
-    Got(Cursor),
-    No(Refusal),
-}
-
-// The refusal of a step that is one. A step that is none has number 0, which no rule has.
-pub fn refused_step(s: Step) -> Refusal
-    ensures { λ r. ⌜ r ≡ noStep s ⌝ }
-{
-    match s {
-        Step::Got(c) => Refusal {
-            number: 0,
-            place: c.at,
-        },
-        Step::No(r) => r,
-    }
-}
 
 // The place `base + e`, or the end of the file if that comes first. An end can be far behind the file's: that is refused
 // only when the bytes are read, after all ends, and until then the table must hold it.
@@ -53,7 +36,7 @@ fn place_in(file: &[u8], base: usize, e: u64) -> u32
 // The end of a string that begins where the one before it ends, at `prev`. Ends do not fall.
 fn read_end(file: &[u8], c: Cursor, prev: u64, base: usize, work: &mut [u32]) -> Number
     requires { ⌜ Holds (now file) (now work) ⌝ }
-    requires { ⌜ stringsIn (now work) < 1024 ⌝ }
+    requires { ⌜ stringsIn (now work) < mostStrings ⌝ }
     ensures { λ r. ⌜ EndRead (now (file .entry)) (now (work .entry)) (now (work .exit)) base prev (c .at) r ⌝ }
 {
     let at = c.at;
@@ -76,7 +59,7 @@ fn read_end(file: &[u8], c: Cursor, prev: u64, base: usize, work: &mut [u32]) ->
 // The ends of n strings, whose bytes begin at `base`: the last of them, 0 if there is none.
 fn read_ends(file: &[u8], c: Cursor, n: u64, base: usize, work: &mut [u32]) -> Number
     requires { ⌜ Holds (now file) (now work) ⌝ }
-    requires { ⌜ stringsIn (now work) + n ≤ 1024 ⌝ }
+    requires { ⌜ stringsIn (now work) + n ≤ mostStrings ⌝ }
     ensures { λ r. ⌜ EndsRead (now (file .entry)) (now (work .entry)) (now (work .exit)) base n (c .at) r ⌝ }
 {
     let mut at = c.at;

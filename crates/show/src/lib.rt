@@ -18,7 +18,6 @@ use lay::put;
 use lay::put_bytes;
 use numbers::Cursor;
 use numbers::Number;
-use values::chunks::list_length;
 use values::columns::Value;
 use values::columns::Valued;
 use values::columns::read_value;
@@ -143,7 +142,7 @@ fn put_list(part: &[u8], c: Cursor, e: u64, out: &mut [u8], at: usize) -> Behind
     requires { ⌜ elementKind? e ≡ true ⌝ }
     ensures { λ r. ⌜ Shows e (list e) valueLine (now (part .entry)) (c .at) (now (out .entry)) at (now (out .exit)) r ⌝ }
 {
-    let a = list_length(part, c);
+    let a = c.small(part);
     let Number::Got(m, next) = a else {
         return Behind { next: c, at };
     };

@@ -178,7 +178,7 @@ fn list_text(
         return TextRead::Bad;
     };
     let m = tabs_left(t, elements);
-    if Ledger::OBJECTS < m {
+    if !Ledger::is_small(m) {
         return TextRead::Bad;
     }
     let behind = put_v64(out, at, m);

@@ -6,18 +6,18 @@ use Prim.Native.Nat.{ℕ, zero, suc, _+_, _-_, _*_, _/_, _^_, _≤_, _<_}
 use native.Mathlib.Omega.{arith}
 use native.Mathlib.Nat.{add-zero, zero-mul, suc-mul, div-mul-le-self, div-add-mod', mod-lt, mul-le-mul-right}
 use lib.Dec.{eqb}
-use lib.ListN.{length, getD}
-use lib.Seq.{drop-cons}
+use lib.ListN.{length}
 use borrow.Author.Tests.{le-leb, lt-leb, eq-eqb, ne-eqb}
-use Rattle.paper.specs.Reader.{if_then_else_, Reader, got, no, _>>=_, give, hold, must, _orNo_, bytes, repeat}
-use Rattle.paper.specs.Numbers.{highFirst, fixed, v64, number}
+use Rattle.paper.specs.Reader.{if_then_else_, Reader, got, no, _>>=_, give, must, _orNo_, bytes, repeat}
+use Rattle.paper.specs.Numbers.{fixed, v64, number}
 use Rattle.paper.specs.Rules.{boolRules}
-use Rattle.numbers.specs.Cursors.{Read, was-got, was-refused}
+use Rattle.numbers.specs.Cursors.{Read}
+use Rattle.numbers.specs.Ruled.{read-no, read-bad, read-got}
 use Rattle.numbers.specs.declared.Cursor.{Cursor}
 use Rattle.numbers.specs.declared.Refusal.{Refusal}
 use Rattle.numbers.specs.declared.Number.{Number}
 use Rattle.numbers.specs.declared.Number.the-variants.{Got, No}
-use Rattle.values.specs.Pass.{forget, Passed, pass-none, pass-more}
+use Rattle.values.specs.Pass.{forget, Passed, read-passed, pass-none, pass-more}
 
 -- ── a v64 that is held to one rule ──
 
@@ -27,19 +27,17 @@ ruled ok why = number (λ n. (ok n orNo why) ∷ [])
 module _ (ok : ℕ → Bool) (why bound : ℕ) {f : List ℕ} {at : ℕ} {a : Number} (R : Read v64 (2 ^ 64) f at a) where
   -- there is none
   pub ruled-cut : {e : Refusal} → a ≡ No e → 0 < bound → Read (ruled ok why) bound f at a
-  unfolding number must
-  ruled-cut is h =
-      let W = was-refused R is in
-      rw is (record { says = sym (rw (W .says)); inside = W .inside; below = h })
+  unfolding number
+  ruled-cut is h = read-no R _ h is
 
   module _ {n : ℕ} {c : Cursor} (is : a ≡ Got n c) where
     pub ruled-taken : ok n ≡ true → n < bound → Read (ruled ok why) bound f at (Got n c)
-    unfolding number must
-    ruled-taken t h = let W = was-got R is in record { says = sym (rw (W .says, t)); inside = W .inside; below = h }
+    unfolding number
+    ruled-taken t h = read-got R _ h is (rw t)
 
     pub ruled-refused : ok n ≡ false → 0 < bound → Read (ruled ok why) bound f at (No (record { number = why; place = at }))
-    unfolding number must
-    ruled-refused t h = let W = was-got R is in record { says = sym (rw (W .says, t)); inside = λ i. i; below = h }
+    unfolding number
+    ruled-refused t h = read-bad R _ h is (rw t)
 
 -- ── a number of a fixed width ──
 
@@ -77,31 +75,22 @@ module _ (w : ℕ) (f : List ℕ) where
 
 -- ── a bool ──
 
-module _ (f : List ℕ) (p : ℕ) where
-  pub byte-there : p < length f → fixed 1 f p ≡ got (getD f p 0) (p + 1)
-  unfolding fixed bytes _>>=_ give if_then_else_ highFirst
-  byte-there h = rw (le-leb (p + 1) (length f) (omega arith), drop-cons f p 0 h) (ap (λ (n : ℕ). got n (p + 1)) (omega arith))
+module _ {bound : ℕ} {f : List ℕ} {at : ℕ} {a : Number} (R : Read (fixed 1) bound f at a) where
+  pub bool-cut : {e : Refusal} → a ≡ No e → Passed (must (fixed 1) boolRules) f at a
+  bool-cut is = read-passed (read-no R boolRules {d = 1} (omega arith) is)
 
-  pub bool-cut : length f ≤ p → forget (must (fixed 1) boolRules f p) ≡ no 1 p
-  unfolding must forget
-  bool-cut h = rw (fixed-cut 1 f p (omega arith))
+  module _ {b : ℕ} {c : Cursor} (is : a ≡ Got b c) where
+    pub bool-false : b ≡ 0 → Passed (must (fixed 1) boolRules) f at (Got b c)
+    unfolding boolRules
+    bool-false h = read-passed (read-got R boolRules {d = suc b} (omega arith) is (rw (eq-eqb b 0 h)))
 
-  module _ (room : p < length f) where
-    bool-by : (t : Bool) → (eqb (getD f p 0) 0 || eqb (getD f p 0) 255) ≡ t → must (fixed 1) boolRules f p ≡ hold ((t orNo 13) ∷ []) p (got (getD f p 0) (p + 1))
-    unfolding must boolRules
-    bool-by t h = rw (byte-there room, h)
+    pub bool-true : b ≡ 255 → Passed (must (fixed 1) boolRules) f at (Got b c)
+    unfolding boolRules
+    bool-true h = read-passed (read-got R boolRules {d = suc b} (omega arith) is (rw h))
 
-    pub bool-false : getD f p 0 ≡ 0 → forget (must (fixed 1) boolRules f p) ≡ got tt (p + 1)
-    unfolding forget
-    bool-false h = ap forget (bool-by true (rw (eq-eqb (getD f p 0) 0 h)))
-
-    pub bool-true : getD f p 0 ≡ 255 → forget (must (fixed 1) boolRules f p) ≡ got tt (p + 1)
-    unfolding forget
-    bool-true h = ap forget (bool-by true (rw h))
-
-    pub bool-wrong : (getD f p 0 ≡ 0 → ⊥) → (getD f p 0 ≡ 255 → ⊥) → forget (must (fixed 1) boolRules f p) ≡ no 13 p
-    unfolding forget
-    bool-wrong h k = ap forget (bool-by false (rw (ne-eqb (getD f p 0) 0 h, ne-eqb (getD f p 0) 255 k)))
+    pub bool-wrong : (b ≡ 0 → ⊥) → (b ≡ 255 → ⊥) → Passed (must (fixed 1) boolRules) f at (No (record { number = 13; place = at }))
+    unfolding boolRules
+    bool-wrong h k = read-passed (read-bad R boolRules {d = 1} (omega arith) is (rw (ne-eqb b 0 h, ne-eqb b 255 k)))
 
 -- ── how many numbers of a width have room ──
 

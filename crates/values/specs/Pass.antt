@@ -7,11 +7,13 @@ use native.Mathlib.Omega.{arith}
 use native.Mathlib.Nat.{zero-add, suc-add, zero-mul, suc-mul, add-comm}
 use lib.ListN.{length}
 use Rattle.paper.specs.Reader.{Reader, Out, got, no, andThen, _>>=_, give, hold, must, Rule, each, times, repeat}
-use Rattle.numbers.specs.Cursors.{outOf, placeOf, Read}
+use Rattle.numbers.specs.Cursors.{outOf, placeOf, Read, outStep, noStep, Past}
 use Rattle.numbers.specs.declared.Cursor.{Cursor}
 use Rattle.numbers.specs.declared.Refusal.{Refusal}
 use Rattle.numbers.specs.declared.Number.{Number}
 use Rattle.numbers.specs.declared.Number.the-variants.{Got, No}
+use Rattle.numbers.specs.declared.Step.{Step}
+use Rattle.numbers.specs.declared.Step.the-variants as step
 
 -- an outcome without its value
 unfoldable pub forget : {A : Type 0} → Out A → Out (Unit {0})
@@ -168,3 +170,19 @@ module _ {A : Type 0} {r : Reader A} {f : List ℕ} {m from rest at : ℕ} (R : 
       pub running-no : {e : Refusal} → a ≡ No e → Passed (repeat m r) f from a
       unfolding forget
       running-no {e} is = let P = rw is at one in rw is (running-out (e .number) (e .place) (sym (P .says)) (P .inside))
+
+-- the same, where only the cursor behind one is answered
+module _ {r : Reader ℕ} {f : List ℕ} {m from rest at : ℕ} (R : Running r f m from rest at) (due : 0 < rest) {a : Step} (one : Past r f at a) where
+  went : outStep a tt ≡ forget (r f at)
+  unfolding forget
+  went = one .says ∙ go (r f at)
+    where
+      go : (o : Out ℕ) → andThen o (λ n e. got (tt {0}) e) ≡ forget o
+      go (got n e) = refl
+      go (no n p) = refl
+
+  pub running-past : {c : Cursor} → a ≡ step.Got c → Running r f m from (rest - 1) (c .at)
+  running-past {c} is = running-on R due (c .at) (sym went ∙ ap (λ (s : Step). outStep s tt) is) (rw is at one .inside)
+
+  pub running-stop : {e u : Refusal} → a ≡ step.No e → u ≡ noStep a → Passed (repeat m r) f from (No u)
+  running-stop {e} is same = rw (same, is) (running-out R due (e .number) (e .place) (sym went ∙ ap (λ (s : Step). outStep s tt) is) (rw is at one .inside))

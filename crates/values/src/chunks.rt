@@ -5,8 +5,6 @@ ghost use Prim.Native.Nat.{_<_, _≤_};
 ghost use lib.ListN.{length};
 ghost use Rattle.paper.specs.Reader.{repeat};
 ghost use Rattle.paper.specs.Rules.{elementKind?};
-ghost use Rattle.paper.specs.File.{small};
-ghost use Rattle.numbers.specs.Cursors.{Read};
 ghost use Rattle.values.specs.Pass.{Passed};
 ghost use Rattle.values.specs.Listed.{Fixed, widthOf};
 ghost use Rattle.values.specs.Items.{Checked};
@@ -18,8 +16,6 @@ use crate::runs::string_numbers;
 use crate::runs::v64s;
 use numbers::Cursor;
 use numbers::Number;
-use numbers::Refusal;
-use paper::Ledger;
 
 // The width in bytes of i8 to i64, f32 and f64.
 fn width(k: u64) -> u64
@@ -55,25 +51,8 @@ pub fn elements(
         14 => string_numbers(part, c, m, strings),
         32..=18446744073709551615 => references(part, c, m, first, last),
         // No element has such a kind.
-        _ => Number::Got(0, c),
+        0..=5 | 15..=31 => Number::Got(0, c),
     }
-}
-
-// The length of an array that gives its own.
-pub fn list_length(part: &[u8], c: Cursor) -> Number
-    ensures { λ r. ⌜ Read small 65536 (now (part .entry)) (c .at) r ⌝ }
-{
-    let a = c.v64(part);
-    let Number::Got(n, next) = a else {
-        return a;
-    };
-    if Ledger::OBJECTS < n {
-        return Number::No(Refusal {
-            number: 3,
-            place: c.at,
-        });
-    }
-    Number::Got(n, next)
 }
 
 // An array that gives its own length, and then its elements of kind e.
@@ -81,7 +60,7 @@ fn list(part: &[u8], c: Cursor, e: u64, strings: u64, first: &[u32], last: &[u32
     requires { ⌜ (elementKind? e ≡ true) × (c .at ≤ length (now part)) × (length (now first) ≡ length (now last)) ⌝ }
     ensures { λ r. ⌜ Passed (listOf strings (now (first .entry)) (now (last .entry)) e) (now (part .entry)) (c .at) r ⌝ }
 {
-    let a = list_length(part, c);
+    let a = c.small(part);
     let Number::Got(n, next) = a else {
         return a;
     };
@@ -93,18 +72,17 @@ fn lists(part: &[u8], n: u64, e: u64, strings: u64, first: &[u32], last: &[u32])
     requires { ⌜ (elementKind? e ≡ true) × (length (now first) ≡ length (now last)) ⌝ }
     ensures { λ r. ⌜ Passed (repeat n (listOf strings (now (first .entry)) (now (last .entry)) e)) (now (part .entry)) 0 r ⌝ }
 {
-    let mut at: usize = 0;
+    let mut here = Cursor { at: 0 };
     let mut rest = n;
     while 0 < rest {
-        let here = Cursor { at };
         let a = list(part, here, e, strings, first, last);
         let Number::Got(_, next) = a else {
             return a;
         };
-        at = next.at;
+        here = next;
         rest -= 1;
     }
-    Number::Got(0, Cursor { at })
+    Number::Got(0, here)
 }
 
 // The n values of a chunk, whose kind has the first number k, a constant's bits or an array's length a, and the last number

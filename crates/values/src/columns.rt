@@ -111,19 +111,19 @@ pub fn fill(part: &[u8], k: u64, out: &mut [i64], at: usize) -> usize
     ensures { λ r. ⌜ Filled k (now (part .entry)) (now (out .entry)) at (now (out .exit)) r ⌝ }
 {
     let mut p = at;
-    let mut from: usize = 0;
-    while from < part.len() {
+    let mut from = Cursor { at: 0 };
+    while from.at < part.len() {
         // Neither is met where the values keep the rules and there is room for them.
         if out.len() <= p {
             return p;
         }
-        let a = read_value(part, Cursor { at: from }, k);
+        let a = read_value(part, from, k);
         let Valued::Got(v, next) = a else {
             return p;
         };
         out[p] = store(v);
         p += 1;
-        from = next.at;
+        from = next;
     }
     p
 }

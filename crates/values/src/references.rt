@@ -109,16 +109,15 @@ pub fn references(part: &[u8], c: Cursor, m: u64, first: &[u32], last: &[u32]) -
     requires { ⌜ length (now first) ≡ length (now last) ⌝ }
     ensures { λ r. ⌜ Passed (repeat m (linked (someObject (now (first .entry)) (now (last .entry))))) (now (part .entry)) (c .at) r ⌝ }
 {
-    let mut at = c.at;
+    let mut here = c;
     let mut rest = m;
     while 0 < rest {
-        let here = Cursor { at };
         let a = reference(part, here, first, last);
         let Number::Got(_, next) = a else {
             return a;
         };
-        at = next.at;
+        here = next;
         rest -= 1;
     }
-    Number::Got(0, Cursor { at })
+    Number::Got(0, here)
 }

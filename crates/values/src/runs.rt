@@ -11,34 +11,32 @@ ghost use Rattle.values.specs.Items.{linked, atMost};
 use numbers::Cursor;
 use numbers::Number;
 use numbers::Refusal;
-use numbers::v64_on;
+use numbers::Step;
+use numbers::refused_step;
 
 // m bools, each of which is 00 or FF.
 pub fn bools(part: &[u8], c: Cursor, m: u64) -> Number
     ensures { λ r. ⌜ Passed (repeat m (must (fixed 1) boolRules)) (now (part .entry)) (c .at) r ⌝ }
 {
-    let mut at = c.at;
+    let mut here = c;
     let mut rest = m;
     while 0 < rest {
-        if part.len() <= at {
-            return Number::No(Refusal {
-                number: 1,
-                place: at,
-            });
-        }
-        let b = part[at];
+        let a = here.be1(part);
+        let Number::Got(b, next) = a else {
+            return a;
+        };
         if b != 0 {
             if b != 255 {
                 return Number::No(Refusal {
                     number: 13,
-                    place: at,
+                    place: here.at,
                 });
             }
         }
-        at += 1;
+        here = next;
         rest -= 1;
     }
-    Number::Got(0, Cursor { at })
+    Number::Got(0, here)
 }
 
 // m numbers of a fixed width, which are there or not: none of them needs a look.
@@ -65,32 +63,21 @@ pub fn fixed_widths(part: &[u8], c: Cursor, m: u64, width: u64) -> Number
     })
 }
 
-// m numbers of one byte or more. A number of one byte costs no call: most have no more.
+// m numbers of one byte or more.
 pub fn v64s(part: &[u8], c: Cursor, m: u64) -> Number
     ensures { λ r. ⌜ Passed (repeat m v64) (now (part .entry)) (c .at) r ⌝ }
 {
-    let mut at = c.at;
+    let mut here = c;
     let mut rest = m;
     while 0 < rest {
-        if part.len() <= at {
-            return Number::No(Refusal {
-                number: Refusal::SHORT,
-                place: at,
-            });
-        }
-        let b = part[at] as u64;
-        rest -= 1;
-        if b < 128 {
-            at += 1;
-            continue;
-        }
-        let a = v64_on(part, at, b - 128);
-        let Number::Got(_, next) = a else {
-            return a;
+        let a = here.past_v64(part);
+        let Step::Got(next) = a else {
+            return Number::No(refused_step(a));
         };
-        at = next.at;
+        here = next;
+        rest -= 1;
     }
-    Number::Got(0, Cursor { at })
+    Number::Got(0, here)
 }
 
 // A v64 that is at most `most`, as the number of one of so many strings is, or 0.
@@ -114,16 +101,15 @@ pub fn number_up_to(part: &[u8], c: Cursor, most: u64) -> Number
 pub fn string_numbers(part: &[u8], c: Cursor, m: u64, strings: u64) -> Number
     ensures { λ r. ⌜ Passed (repeat m (linked (atMost strings))) (now (part .entry)) (c .at) r ⌝ }
 {
-    let mut at = c.at;
+    let mut here = c;
     let mut rest = m;
     while 0 < rest {
-        let here = Cursor { at };
         let a = number_up_to(part, here, strings);
         let Number::Got(_, next) = a else {
             return a;
         };
-        at = next.at;
+        here = next;
         rest -= 1;
     }
-    Number::Got(0, Cursor { at })
+    Number::Got(0, here)
 }

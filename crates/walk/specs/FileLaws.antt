@@ -26,8 +26,8 @@ use Rattle.walk.specs.Listed.{Listed}
 use Rattle.walk.specs.Blocks.{Between}
 use Rattle.walk.specs.PairLaws.{Steady, outSaid}
 use Rattle.walk.specs.PairTurns.{WalkReady, WalkDone}
-use Rattle.walk.specs.declared.chunks.Step.{Step}
-use Rattle.walk.specs.declared.chunks.Step.the-variants.{Got, No}
+use Rattle.numbers.specs.declared.Step.{Step}
+use Rattle.numbers.specs.declared.Step.the-variants.{Got, No}
 
 -- ── what reading a file comes to ──
 

@@ -29,8 +29,8 @@ use Rattle.reader.specs.EntryLaws.{Passed}
 use Rattle.walk.specs.Steps.{stepOf}
 use Rattle.walk.specs.Blocks.{begins, front-block}
 use Rattle.walk.specs.PairLaws.{PairReady, Fronted, lateOf, late-front, state-is, chunks-are}
-use Rattle.walk.specs.declared.chunks.Step.{Step}
-use Rattle.walk.specs.declared.chunks.Step.the-variants.{Got, No}
+use Rattle.numbers.specs.declared.Step.{Step}
+use Rattle.numbers.specs.declared.Step.the-variants.{Got, No}
 
 -- what it asks of the table l, which has rows of a front that was read, and had so many before
 pub record LateReady (f l : List ℕ) (before : Counts) (at : ℕ) : Type 0 where

@@ -21,7 +21,7 @@ use Rattle.numbers.specs.declared.Cursor.{Cursor}
 use Rattle.numbers.specs.declared.Refusal.{Refusal}
 use Rattle.numbers.specs.declared.Number.{Number}
 use Rattle.numbers.specs.declared.Number.the-variants as number
-use Rattle.numbers.specs.Cursors.{refusalOf as refusalOfNumber}
+use Rattle.numbers.specs.Cursors.{refusalOf as refusalOfNumber, outStep}
 use Rattle.table.specs.View.{fldsOf, logOf, duesOf, chunksOf, view, said, Said, Holds, Now, fieldsIn, blockIn}
 use Rattle.table.specs.Counts.{nextBlock, Next}
 use Rattle.values.specs.Pass.{forget}
@@ -41,8 +41,8 @@ use Rattle.walk.specs.Stand.{stands?, AllStand, new-fields-stand}
 use Rattle.walk.specs.Dues.{Declared, front-declared}
 use Rattle.walk.specs.RegionTurns.{RegionReady, RegionChecked, region-ends}
 use Rattle.walk.specs.Blocks.{blockOfRange, Between, begins, front-block, front-past, closes}
-use Rattle.walk.specs.declared.chunks.Step.{Step}
-use Rattle.walk.specs.declared.chunks.Step.the-variants.{Got, No}
+use Rattle.numbers.specs.declared.Step.{Step}
+use Rattle.numbers.specs.declared.Step.the-variants.{Got, No}
 
 -- ── what a pair finds and leaves ──
 
@@ -62,8 +62,7 @@ pub record PairReady (f l : List ℕ) (at : ℕ) : Type 0 where
   pub block : blockIn l < 32
 
 abbrev pub outSaid : List ℕ → List ℕ → Step → Out Said
-outSaid f l (Got c) = got (said f l) (c .at)
-outSaid f l (No e) = no (e .number) (e .place)
+outSaid f l r = outStep r (said f l)
 
 abbrev pub steadyAfter : List ℕ → List ℕ → Step → Type 0
 steadyAfter f l (Got c) = Steady f l × (c .at ≤ length f)

@@ -20,8 +20,8 @@ use Rattle.table.specs.View.{said, Said, Holds, blockIn}
 use Rattle.walk.specs.Pairs.{saidAfter, pairTo, pairsTo}
 use Rattle.walk.specs.Blocks.{front-block}
 use Rattle.walk.specs.PairLaws.{Steady, PairReady, PairDone, outSaid, steadyAfter}
-use Rattle.walk.specs.declared.chunks.Step.{Step}
-use Rattle.walk.specs.declared.chunks.Step.the-variants.{Got, No}
+use Rattle.numbers.specs.declared.Step.{Step}
+use Rattle.numbers.specs.declared.Step.the-variants.{Got, No}
 
 -- ── the definitions' side ──
 

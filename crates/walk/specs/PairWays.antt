@@ -21,8 +21,8 @@ use Rattle.walk.specs.Stand.{AllStand}
 use Rattle.walk.specs.RegionTurns.{RegionReady, RegionChecked}
 use Rattle.walk.specs.PairLaws.{PairReady, PairDone, Fronted, fronted, pair-short, pair-late, pair-ready, pair-refused, pair-got}
 use Rattle.walk.specs.LateLaws.{LateReady, LateDone, late-ready, late-says}
-use Rattle.walk.specs.declared.chunks.Step.{Step}
-use Rattle.walk.specs.declared.chunks.Step.the-variants.{Got, No}
+use Rattle.numbers.specs.declared.Step.{Step}
+use Rattle.numbers.specs.declared.Step.the-variants.{Got, No}
 
 -- the front was read up to c, with a data region of so many bytes
 module _ {f l : List ℕ} {at : ℕ} (R : PairReady f l at) {l₁ : List ℕ} {a : Number} (passed : Passed f l₁ at a (frontGo (namedBy false 0) (said f l) f at)) {size : ℕ} {c : Cursor} (is : a ≡ number.Got size c) where

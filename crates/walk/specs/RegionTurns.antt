@@ -26,8 +26,8 @@ use Rattle.walk.specs.Low.{Low}
 use Rattle.walk.specs.Listed.{Listed}
 use Rattle.walk.specs.Dues.{Declared, declared-at}
 use Rattle.walk.specs.Steps.{stepOf}
-use Rattle.walk.specs.declared.chunks.Step.{Step}
-use Rattle.walk.specs.declared.chunks.Step.the-variants.{Got, No}
+use Rattle.numbers.specs.declared.Step.{Step}
+use Rattle.numbers.specs.declared.Step.the-variants.{Got, No}
 
 -- ── one chunk and then the others, without their values ──
 

@@ -15,7 +15,7 @@ use Rattle.table.specs.View.{kindFrom, fldsOf, logOf, view, Holds, stringsIn}
 use Rattle.table.specs.Answers.{fieldIn, dueIn}
 use Rattle.table.specs.declared.rows.DueRow.{DueRow}
 use Rattle.table.specs.declared.rows.FieldRow.{FieldRow}
-use Rattle.numbers.specs.Cursors.{outOf, placeOf}
+use Rattle.numbers.specs.Cursors.{outOf, placeOf, outStep}
 use Rattle.numbers.specs.declared.Cursor.{Cursor}
 use Rattle.numbers.specs.declared.Refusal.{Refusal}
 use Rattle.numbers.specs.declared.Number.{Number}
@@ -23,13 +23,12 @@ use Rattle.numbers.specs.declared.Number.the-variants as number
 use Rattle.values.specs.Pass.{forget}
 use Rattle.values.specs.Chunks.{ChunkChecked}
 use Rattle.walk.specs.Gather.{Gathered}
-use Rattle.walk.specs.declared.chunks.Step.{Step}
-use Rattle.walk.specs.declared.chunks.Step.the-variants.{Got, No}
+use Rattle.numbers.specs.declared.Step.{Step}
+use Rattle.numbers.specs.declared.Step.the-variants.{Got, No}
 
 -- an outcome of which only the next place is answered
 abbrev pub stepOf : Step → Out (Unit {0})
-stepOf (Got c) = got tt (c .at)
-stepOf (No e) = no (e .number) (e .place)
+stepOf r = outStep r tt
 
 -- ── the values, by the numbers of the table ──
 

@@ -16,6 +16,8 @@ ghost use Rattle.walk.specs.Steps.{stepOf, Valued};
 use numbers::Cursor;
 use numbers::Number;
 use numbers::Refusal;
+use numbers::Step;
+use paper::Ledger;
 use table::rows::DueRow;
 use table::rows::FieldRow;
 use table::rows::field_at;
@@ -23,12 +25,6 @@ use table::rows::range_at;
 use table::rows::ranges;
 use table::rows::strings;
 use values::chunks::chunk_values;
-
-// The cursor behind what was checked, or the refusal.
-pub enum Step {
-    Got(Cursor),
-    No(Refusal),
-}
 
 // The ranges of type t, which come at the front of the two lists in the log's order: the i-th begins behind object first[i]
 // and ends with object last[i]. The answer is how many there are. A type that is not declared has none, so t has no bound.
@@ -58,8 +54,8 @@ fn linked_values(part: &[u8], n: u32, kind: FieldRow, work: &[u32]) -> Number
     requires { ⌜ Kinds (kind .kind) (kind .a) (kind .e) × (32 ≤ kind .e) ⌝ }
     ensures { λ r. ⌜ Valued n (kind .kind) (kind .a) (kind .e) (now (work .entry)) (now (part .entry)) r ⌝ }
 {
-    let mut first = [0u32; 1024];
-    let mut last = [0u32; 1024];
+    let mut first = [0u32; Ledger::RANGES as usize];
+    let mut last = [0u32; Ledger::RANGES as usize];
     let k = gather(work, kind.e - 32, &mut first, &mut last);
     chunk_values(
         part,

@@ -1,16 +1,17 @@
 // A pair, and pair after pair to the end of the file.
 ghost use mathlib.Core.Path.{_≡_};
 ghost use lib.ListN.{length};
+ghost use Rattle.paper.specs.Bounds.{tableLength};
 ghost use Rattle.walk.specs.PairLaws.{PairReady, PairDone};
 ghost use Rattle.walk.specs.LateLaws.{LateReady, LateDone};
 ghost use Rattle.walk.specs.PairTurns.{WalkReady, WalkDone};
 ghost use Rattle.walk.specs.FileLaws.{FileRead};
-use crate::chunks::Step;
 use crate::region::kinds_stand;
 use crate::region::region;
 use numbers::Cursor;
 use numbers::Number;
 use numbers::Refusal;
+use numbers::Step;
 use numbers::refused;
 use paper::Ledger;
 use reader::entries::front;
@@ -102,10 +103,13 @@ pub fn pairs(file: &[u8], work: &mut [u32]) -> Step
 
 // A file, read into the table, whatever stood in it.
 pub fn read(file: &[u8], work: &mut [u32]) -> Step
-    requires { ⌜ length (now work) ≡ 16384 ⌝ }
+    requires { ⌜ length (now work) ≡ tableLength ⌝ }
     ensures { λ r. ⌜ FileRead (now (file .entry)) (now (work .exit)) r ⌝ }
 {
-    if Ledger::BYTES < file.len() as u64 {
+    let ledger = Ledger {
+        bytes: file.len() as u64,
+    };
+    if !ledger.fits() {
         return Step::No(Refusal {
             number: 3,
             place: 0,

@@ -2,9 +2,9 @@
 ghost use Rattle.table.specs.View.{Ok};
 ghost use Rattle.walk.specs.Stand.{Standing, AllStand};
 ghost use Rattle.walk.specs.RegionTurns.{DueAt, TurnDone, RegionReady, RegionChecked};
-use crate::chunks::Step;
 use crate::chunks::chunk;
 use numbers::Cursor;
+use numbers::Step;
 use table::pushes::push_chunk;
 use table::rows::FieldRow;
 use table::rows::due_at;

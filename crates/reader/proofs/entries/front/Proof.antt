@@ -2,12 +2,6 @@ use borrow.Author.Needs.{needs}
 use Rattle.reader.specs.EntryLaws.{front-unstrung, still-sound, front-uncounted, front-got}
 use Rattle.reader.proofs.entries.front.Statement.{statement}
 use Rattle.reader.proofs.entries.front.Tie as tie
-use Rattle.reader.proofs.entries.front.Reads as reads
-use Rattle.reader.proofs.entries.front.Lts as lts
-use Rattle.reader.proofs.entries.entries.Reads as entries-reads
-use Rattle.reader.proofs.ruled.small.Reads as small-reads
-use Rattle.reader.proofs.strings.read_strings.Reads as read-strings-reads
-use Rattle.reader.proofs.strings.refused_step.Reads as refused-step-reads
 
 -- src/entries.rt:62:9
 read-strings-requires : tie.Need-read-strings-requires

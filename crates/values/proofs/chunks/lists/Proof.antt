@@ -6,10 +6,10 @@ use Rattle.values.proofs.chunks.lists.Statement.{statement}
 use Rattle.values.proofs.chunks.lists.Tie as tie
 
 abbrev Inv-loop : tie.InvT-loop
-Inv-loop part n e strings first last at₀ rest₀ at rest = Running (listOf strings first last e) part n 0 rest at
+Inv-loop part n e strings first last here₀ rest₀ here rest = Running (listOf strings first last e) part n 0 rest (here .at)
 
 abbrev μ-loop : tie.MeasureT-loop
-μ-loop part n e strings first last at₀ rest₀ at rest = rest
+μ-loop part n e strings first last here₀ rest₀ here rest = rest
 
 pub lists-spec : {M : Type 1} → statement M
 lists-spec =

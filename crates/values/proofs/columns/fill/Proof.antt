@@ -11,7 +11,7 @@ use Rattle.values.proofs.columns.fill.Statement.{statement}
 use Rattle.values.proofs.columns.fill.Tie as tie
 
 abbrev Inv-loop : tie.InvT-loop
-Inv-loop part k out₀ at p₀ from₀ out p from = Filling k part out₀ at out p from
+Inv-loop part k out₀ at p₀ from₀ out p from = Filling k part out₀ at out p (from .at)
 
 abbrev μ-loop : tie.MeasureT-loop
 μ-loop part k out₀ at p₀ from₀ out p from = length out₀ - p
@@ -27,18 +27,18 @@ fill-spec =
     Inv-loop
     μ-loop
     (λ c. fill-start _ _ _ _)
-    (λ c. c .before .before .loop .inv .long)
-    (λ c. fill-full (c .before .before .loop .inv) (c .before .loop-test .taken) (c .if1 .taken))
-    (λ c κs. (c .before .before .before .before) .pre)
+    (λ c. c .before .before .before .loop .inv .long)
+    (λ c. fill-full (c .before .before .before .loop .inv) (c .before .if1 .taken) (c .if2 .taken))
+    (λ c κs. (c .before .before .before .before .before) .pre)
     (λ c. search needs)
     (λ c. search needs)
-    (λ c. c .before .before .before .before .before .loop .inv .long)
-    (λ c. fill-cut (c .before .before .before .before .before .loop .inv) (c .before .before .before .before .loop-test .taken) (c .before .before .read-value .ensures) (c .enum-told .given .1))
+    (λ c. c .before .before .before .before .before .before .loop .inv .long)
+    (λ c. fill-cut (c .before .before .before .before .before .before .loop .inv) (c .before .before .before .before .if1 .taken) (c .before .before .read-value .ensures) (c .enum-told .given .1))
     store-requires
     (λ c. search needs)
     (λ c. search needs)
     (λ c. omega arith)
-    (λ c. omega (arith, c .before .before .before .before .before .before .before .loop .inv .long))
-    (λ c. fill-next (c .before .before .before .before .before .before .before .loop .inv) (c .before .before .before .before .before .before .loop-test .taken) (c .before .before .before .before .read-value .ensures) (c .before .before .a .given .1) (toZ-ofZ (record { sfits = c .store .ok }) ∙ c .store .ensures))
-    (λ c. c .before .loop .inv .long)
-    (λ c. fill-done (c .before .loop .inv) (c .loop-test .left)))
+    (λ c. omega (arith, c .before .before .before .before .before .before .before .before .loop .inv .long))
+    (λ c. fill-next (c .before .before .before .before .before .before .before .before .loop .inv) (c .before .before .before .before .before .before .if1 .taken) (c .before .before .before .before .read-value .ensures) (c .before .before .a .given .1) (toZ-ofZ (record { sfits = c .store .ok }) ∙ c .store .ensures))
+    (λ c. c .before .before .loop .inv .long)
+    (λ c. fill-done (c .before .before .loop .inv) (c .if1 .left)))

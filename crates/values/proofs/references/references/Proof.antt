@@ -5,10 +5,10 @@ use Rattle.values.proofs.references.references.Statement.{statement}
 use Rattle.values.proofs.references.references.Tie as tie
 
 abbrev Inv-loop : tie.InvT-loop
-Inv-loop part m first last at₀ rest₀ at rest = Running (linked (someObject first last)) part m at₀ rest at
+Inv-loop part m first last here₀ rest₀ here rest = Running (linked (someObject first last)) part m (here₀ .at) rest (here .at)
 
 abbrev μ-loop : tie.MeasureT-loop
-μ-loop part m first last at₀ rest₀ at rest = rest
+μ-loop part m first last here₀ rest₀ here rest = rest
 
 pub references-spec : {M : Type 1} → statement M
 references-spec =

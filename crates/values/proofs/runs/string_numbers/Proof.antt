@@ -5,10 +5,10 @@ use Rattle.values.proofs.runs.string_numbers.Statement.{statement}
 use Rattle.values.proofs.runs.string_numbers.Tie as tie
 
 abbrev Inv-loop : tie.InvT-loop
-Inv-loop part m strings at₀ rest₀ at rest = Running (linked (atMost strings)) part m at₀ rest at
+Inv-loop part m strings here₀ rest₀ here rest = Running (linked (atMost strings)) part m (here₀ .at) rest (here .at)
 
 abbrev μ-loop : tie.MeasureT-loop
-μ-loop part m strings at₀ rest₀ at rest = rest
+μ-loop part m strings here₀ rest₀ here rest = rest
 
 pub string-numbers-spec : {M : Type 1} → statement M
 string-numbers-spec =
