@@ -1,11 +1,13 @@
 -- The number that a column is asked with, by the numbers of its field's kind. Assumes nothing.
 use mathlib.Core.Path.{_≡_}
+use mathlib.Core.Logic.{_⊎_, inl, inr}
 use Prim.Native.Nat.{ℕ, _≤_, _<_}
 use native.Mathlib.Omega.{arith}
 use native.Mathlib.Nat.{lt-of-not-le}
 use native.Mathlib.Decide.{decLe}
 use borrow.Author.Tests.{le-leb, lt-ltb, le-ltb}
 use Rattle.paper.specs.Reader.{if_then_else_}
+use Rattle.paper.specs.Ledger.{plain}
 use Rattle.paper.specs.Calls.{asked}
 use Rattle.table.specs.View.{kindFrom}
 use Rattle.values.specs.Chunks.{kind-array, kind-many, kind-plain}
@@ -27,11 +29,20 @@ module _ (k e : ℕ) where
   unfolding asked
   asked-many h l a = rw (kind-many k a e h l)
 
-  module _ (h : 4 < k) (x : k ≡ 15 → ⊥) (y : 17 ≤ k → 19 < k) where
-    pub asked-plain : e < 32 → (a : ℕ) → e ≡ asked (kindFrom k a e)
-    unfolding asked if_then_else_
-    asked-plain lt a = rw (kind-plain k a e h x y, lt-ltb e 32 lt)
+  -- the others are plain
+  pub asked-as-plain : 4 < k → (k ≡ 15 → ⊥) → (17 ≤ k → 19 < k) → {r : ℕ} → r ≡ asked (plain e) → (a : ℕ) → r ≡ asked (kindFrom k a e)
+  asked-as-plain h x y is a = rw (kind-plain k a e h x y) is
 
-    pub asked-reference : 32 ≤ e → (a : ℕ) → 32 ≡ asked (kindFrom k a e)
-    unfolding asked if_then_else_
-    asked-reference le a = rw (kind-plain k a e h x y, le-ltb e 32 le)
+  -- also in the single gaps
+  pub asked-in-gap : (k ≡ 5) ⊎ (k ≡ 16) → {r : ℕ} → r ≡ asked (plain e) → (a : ℕ) → r ≡ asked (kindFrom k a e)
+  asked-in-gap (inl five) is = asked-as-plain (omega arith) (λ q. omega arith) (λ q. omega arith) is
+  asked-in-gap (inr sixteen) is = asked-as-plain (omega arith) (λ q. omega arith) (λ q. omega arith) is
+
+module _ (e : ℕ) where
+  pub asked-plain : e < 32 → e ≡ asked (plain e)
+  unfolding asked if_then_else_
+  asked-plain lt = rw (lt-ltb e 32 lt)
+
+  pub asked-type : 32 ≤ e → 32 ≡ asked (plain e)
+  unfolding asked if_then_else_
+  asked-type le = rw (le-ltb e 32 le)

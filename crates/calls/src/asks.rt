@@ -3,6 +3,7 @@ ghost use mathlib.Core.Path.{_≡_};
 ghost use Prim.Native.Nat.{ℕ, _≤_};
 ghost use mathlib.Core.Bool.{_&&_};
 ghost use lib.Dec.{leb, eqb};
+ghost use Rattle.paper.specs.Ledger.{plain};
 ghost use Rattle.paper.specs.Calls.{asked};
 ghost use Rattle.table.specs.View.{kindFrom, view, Holds};
 ghost use Rattle.calls.specs.Told.{answerOf, countOf};
@@ -18,15 +19,30 @@ use table::rows::field_at;
 use values::columns::fill_constant;
 use values::constants::constant_of;
 
+// The number that a column of a plain kind is asked with: its own, and 32 for all that name a type.
+fn asked_plain(e: u64) -> u64
+    ensures { λ r. ⌜ r ≡ asked (plain e) ⌝ }
+{
+    if e < 32 {
+        return e;
+    }
+    32
+}
+
 // The number that a column of such a kind is asked with.
 fn asked_with(k: u32, e: u64) -> u64
     ensures { λ r. ⌜ ((a : ℕ) → r ≡ asked (kindFrom k a e)) ⌝ }
 {
+    let plain = asked_plain(e);
     match k {
         0..=4 => k as u64,
+        6 | 7..=10 | 11..=14 => plain,
+        // Arrays have no column: nobody can ask with 33.
         15 => 33,
         17..=19 => 33,
-        _ => { if e < 32 { e } else { 32 } }
+        32..=4294967295 => plain,
+        // No field has such a kind.
+        5 | 16 | 20 | 21..=31 => plain,
     }
 }
 

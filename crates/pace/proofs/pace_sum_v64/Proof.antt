@@ -27,5 +27,5 @@ pace-sum-v64-spec =
     (λ c. summing-no (c .before .before .before .before .loop .inv .2) (omega arith) (c .before .before .v64 .ensures) (c .enum-told .given .1))
     (λ c. omega arith)
     (λ c. omega arith)
-    (λ c. (omega arith, c .before .before .before .before .before .before .loop .inv .1, summing-next (c .before .before .before .before .before .before .loop .inv .2) (omega arith) (c .before .before .before .before .v64 .ensures) (c .before .before .x .given .1) (c .wrapping-add-u64 .wraps) (omega arith)))
+    (λ c. (omega arith, c .before .before .before .before .before .before .loop .inv .1, summing-next (c .before .before .before .before .before .before .loop .inv .2) (omega arith) (c .before .before .before .before .v64 .ensures) (c .before .before .x .given .1) (c .wrapping-add-u64 .ensures) (omega arith)))
     (λ c. summing-done (c .before .loop .inv .2) (omega arith)))
