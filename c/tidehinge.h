@@ -74,7 +74,9 @@ int64_t th_objects(const uint8_t *file, size_t file_length, const uint8_t *type,
  *   12, 13     f32, f64: the bits; those of an f32 as a number from 0 up
  *   14         string: its number in the file, from 1, or 0 for none
  *   32         reference to any type: the object's number, from 1, or 0 for none
- * Any other number gives TH_OTHER_KIND. */
+ * Any other number gives TH_OTHER_KIND. So does every number asked of an annotation (kind 5), of an
+ * array, list or set (15, 17 to 19) or of a map (20): these have no column, and th_listing shows
+ * them. */
 int64_t th_column(const uint8_t *file, size_t file_length, const uint8_t *type, size_t type_length,
                   const uint8_t *field, size_t field_length, uint64_t kind, uint32_t *work,
                   size_t work_length, int64_t *out, size_t out_length);

@@ -124,21 +124,40 @@ fn row_of_build(name: &'static str, make: Maker, part: u64) -> Row {
     }
 }
 
+/// Maps from strings to v64, as from controllers to ports.
+fn maps_of_two(part: u64) -> Vec<u8> {
+    big::maps(2, part)
+}
+
+/// Maps from strings to maps from v64 to maps from i8 to references.
+fn maps_of_four(part: u64) -> Vec<u8> {
+    big::maps(4, part)
+}
+
 fn rows() -> Vec<Row> {
-    let checks: [(&str, Maker); 3] = [
+    let checks: [(&str, Maker); 6] = [
         ("check v64 values, a byte", big::v64_values),
         ("check mixed kinds, a byte", big::mixed_kinds),
         ("check references, a byte", big::references),
+        ("check annotations, a byte", big::annotations),
+        ("check maps, 2 types, a byte", maps_of_two),
+        ("check maps, 4 types, a byte", maps_of_four),
     ];
-    let listings: [(&str, Maker); 3] = [
+    let listings: [(&str, Maker); 6] = [
         ("list v64 values, a byte", big::v64_values),
         ("list mixed kinds, a byte", big::mixed_kinds),
         ("list references, a byte", big::references),
+        ("list annotations, a byte", big::annotations),
+        ("list maps, 2 types, a byte", maps_of_two),
+        ("list maps, 4 types, a byte", maps_of_four),
     ];
-    let builds: [(&str, Maker); 3] = [
+    let builds: [(&str, Maker); 6] = [
         ("build v64 values, a byte", big::v64_values),
         ("build mixed kinds, a byte", big::mixed_kinds),
         ("build references, a byte", big::references),
+        ("build annotations, a byte", big::annotations),
+        ("build maps, 2 types, a byte", maps_of_two),
+        ("build maps, 4 types, a byte", maps_of_four),
     ];
     let mut rows = Vec::new();
     for (name, make) in checks {

@@ -65,6 +65,7 @@ pub const WAYS: &[Way] = &[
     Way { name: "value past its kind", damage: value_past_its_kind },
     Way { name: "reference", damage: reference },
     Way { name: "array length", damage: array_length },
+    Way { name: "map size", damage: map_size },
     Way { name: "old or new", damage: old_or_new },
     Way { name: "unknown kind", damage: unknown_kind },
     Way { name: "other kind", damage: other_kind },
@@ -432,7 +433,8 @@ fn width(element: Element) -> Option<u32> {
         Element::I16 => Some(2),
         Element::I32 => Some(4),
         Element::I64 | Element::V64 => Some(8),
-        Element::F32 | Element::F64 | Element::Text | Element::Object(_) => None,
+        Element::F32 | Element::F64 => None,
+        Element::Annotation | Element::Text | Element::Object(_) => None,
     }
 }
 
@@ -462,14 +464,27 @@ fn value_past_its_kind(random: &mut Random, sheet: &Sheet) -> Option<Vec<u8>> {
     Some(sheet.with(at, new.to_string().as_bytes()))
 }
 
+fn is_reference(role: Role) -> bool {
+    use Element::{Annotation, Object, Text};
+    matches!(role, Role::Element(Annotation | Text | Object(_)))
+}
+
 fn reference(random: &mut Random, sheet: &Sheet) -> Option<Vec<u8>> {
-    let word = a_word(random, sheet, |role| {
-        matches!(role, Role::Element(Element::Text | Element::Object(_)))
-    })?;
+    let word = a_word(random, sheet, is_reference)?;
     Some(match random.below(6) {
         0 => sheet.with(word, b"-1"),
         1 => sheet.with(word, (sheet.strings + 1).to_string().as_bytes()),
         2 => sheet.with(word, random.below(20).to_string().as_bytes()),
+        _ => other_number(random, sheet, word),
+    })
+}
+
+/// Another size than a map has keys.
+fn map_size(random: &mut Random, sheet: &Sheet) -> Option<Vec<u8>> {
+    let word = a_word(random, sheet, |role| role == Role::Size)?;
+    Some(match random.below(6) {
+        0 => sheet.with(word, u64::MAX.to_string().as_bytes()),
+        1 => sheet.with(word, b"65536"),
         _ => other_number(random, sheet, word),
     })
 }
@@ -513,8 +528,8 @@ fn old_or_new(random: &mut Random, sheet: &Sheet) -> Option<Vec<u8>> {
 }
 
 /// Kinds that no field has, and kinds that lack a number or have one too many.
-const NO_KINDS: [&str; 30] = [
-    "5",
+const NO_KINDS: [&str; 39] = [
+    "5,5",
     "16",
     "20",
     "21",
@@ -531,17 +546,26 @@ const NO_KINDS: [&str; 30] = [
     "15",
     "15,3",
     "15,3,",
-    "15,3,5",
+    "15,3,4",
     "15,65536,7",
     "15,3,17,7",
     "17",
     "17,",
-    "17,5",
+    "17,4",
     "17,17",
+    "17,20",
     "18,0",
     "19,15",
     "19,31",
     "17,7,7",
+    "20,2",
+    "20,2,7",
+    "20,2,7,7,7",
+    "20,1,7",
+    "20,9,7,7,7,7,7,7,7,7,7",
+    "20,2,7,4",
+    "20,2,17,7",
+    "20,2,7,20",
     "18446744073709551615",
     "0,128",
 ];
@@ -549,10 +573,11 @@ const NO_KINDS: [&str; 30] = [
 fn unknown_kind(random: &mut Random, sheet: &Sheet) -> Option<Vec<u8>> {
     let word = a_word(random, sheet, |role| role == Role::Kind)?;
     let no_type = (32 + sheet.types).to_string();
-    let kind = match random.below(8) {
+    let kind = match random.below(9) {
         0 => no_type,
         1 => format!("17,{no_type}"),
         2 => (21 + random.below(11)).to_string(),
+        3 => format!("20,2,14,{no_type}"),
         _ => random.pick(&NO_KINDS).to_string(),
     };
     Some(sheet.with(word, kind.as_bytes()))
@@ -561,12 +586,13 @@ fn unknown_kind(random: &mut Random, sheet: &Sheet) -> Option<Vec<u8>> {
 /// Another kind of the paper, whose values the lines may be or not.
 fn other_kind(random: &mut Random, sheet: &Sheet) -> Option<Vec<u8>> {
     let word = a_word(random, sheet, |role| role == Role::Kind)?;
-    let element = 6 + random.below(9);
-    let kind = match random.below(6) {
+    let element = 5 + random.below(10);
+    let kind = match random.below(7) {
         0 => format!("{},{element}", 17 + random.below(3)),
         1 => format!("15,{},{element}", random.below(4)),
         2 => format!("{},{}", random.below(5), random.below(3)),
         3 => (32 + random.below(sheet.types)).to_string(),
+        4 => format!("20,2,{element},{}", 5 + random.below(10)),
         _ => element.to_string(),
     };
     Some(sheet.with(word, kind.as_bytes()))

@@ -22,11 +22,15 @@ pub const TEXTS: &[Large] = &[
     Large { group: AT, name: "1048576 bytes, a string", make: || padded(STRING, FILE) },
     Large { group: AT, name: "1048576 bytes, values", make: || padded(&values(100_000), FILE) },
     Large { group: AT, name: "1048576 bytes, arrays", make: || padded(&arrays(15), FILE) },
+    Large { group: AT, name: "1048576 bytes, annotations", make: || padded(&annotations(7), FILE) },
+    Large { group: AT, name: "1048576 bytes, maps", make: || padded(&maps(7), FILE) },
     Large { group: AT, name: "1048576 bytes, two pairs", make: || padded(&two_pairs(), FILE) },
     Large { group: AT, name: "1048576 bytes, the last two an empty pair", make: || then_empty(FILE - 2) },
     Large { group: BEYOND, name: "1048577 bytes, a string", make: || padded(STRING, FILE + 1) },
     Large { group: BEYOND, name: "1048577 bytes, values", make: || padded(&values(100_000), FILE + 1) },
     Large { group: BEYOND, name: "1048577 bytes, arrays", make: || padded(&arrays(15), FILE + 1) },
+    Large { group: BEYOND, name: "1048577 bytes, annotations", make: || padded(&annotations(7), FILE + 1) },
+    Large { group: BEYOND, name: "1048577 bytes, maps", make: || padded(&maps(7), FILE + 1) },
     Large { group: BEYOND, name: "1048577 bytes, two pairs", make: || padded(&two_pairs(), FILE + 1) },
     Large { group: BEYOND, name: "1048577 bytes, the last two an empty pair", make: || then_empty(FILE - 1) },
     Large { group: BEYOND, name: "1048578 bytes, the last two an empty pair", make: || then_empty(FILE) },
@@ -41,6 +45,14 @@ pub const TEXTS: &[Large] = &[
     Large { group: LONG, name: "a million elements", make: || value(&"1\t".repeat(MILLION)) },
     Large { group: LONG, name: "an array of a million elements", make: || array_of(MILLION) },
     Large { group: LONG, name: "an array of 65536 elements", make: || array_of(65_536) },
+    Large { group: LONG, name: "an array of a million annotations", make: || one("17,5", &"\t1\t1".repeat(MILLION)) },
+    Large { group: LONG, name: "a map of a million keys", make: || one("20,2,7,7", &format!("\t{MILLION}{}", "\t1\t1".repeat(MILLION))) },
+    Large { group: LONG, name: "a map of 65536 keys", make: || one("20,2,7,7", &format!("\t65536{}", "\t1\t1".repeat(65_536))) },
+    Large { group: LONG, name: "a map of 65536 keys within a map", make: || one("20,3,7,7,7", &format!("\t1\t1\t65536{}", "\t1\t1".repeat(65_536))) },
+    Large { group: LONG, name: "a map of 65535 keys, one of them missing", make: || one("20,2,7,7", &format!("\t65535{}", "\t1\t1".repeat(65_534))) },
+    Large { group: LONG, name: "a map of a million empty maps", make: || one("20,3,7,7,7", &format!("\t{MILLION}{}", "\t1\t0".repeat(MILLION))) },
+    Large { group: LONG, name: "a million digits as a map's size", make: || one("20,2,7,7", &("\t1".to_string() + &"0".repeat(MILLION))) },
+    Large { group: LONG, name: "a map of a million types", make: || kind(&format!("20,{MILLION}{}", ",7".repeat(MILLION))) },
     Large { group: LONG, name: "a million digits as a number of strings", make: || strings(&("1".to_string() + &"0".repeat(MILLION))) },
     Large { group: LONG, name: "a million digits as a kind", make: || kind(&"1".repeat(MILLION)) },
     Large { group: LONG, name: "a kind of a million commas", make: || kind(&"1,".repeat(MILLION)) },
@@ -93,6 +105,21 @@ fn arrays(count: usize) -> String {
     head + &line.repeat(count)
 }
 
+/// So many arrays of 65,535 annotations, each of two bytes.
+fn annotations(count: usize) -> String {
+    let head = format!("pair\t2\t1\nstr\tPAD\nstr\t61\ntype\t2\t0\t-\t{count}\t1\nnew\t17,5\t2\n");
+    let line = format!("val{}\n", "\t2\t1".repeat(65_535));
+    head + &line.repeat(count)
+}
+
+/// So many maps of 65,535 keys, each with its value in two bytes.
+fn maps(count: usize) -> String {
+    let head =
+        format!("pair\t2\t1\nstr\tPAD\nstr\t61\ntype\t2\t0\t-\t{count}\t1\nnew\t20,2,7,7\t2\n");
+    let line = format!("val\t65535{}\n", "\t-1\t1".repeat(65_535));
+    head + &line.repeat(count)
+}
+
 fn two_pairs() -> String {
     values(50_000).replace(PAD, "") + STRING
 }
@@ -138,8 +165,12 @@ fn value(word: &str) -> Vec<u8> {
 }
 
 fn array_of(length: usize) -> Vec<u8> {
-    let elements = "\t1".repeat(length);
-    format!("pair\t1\t1\nstr\t61\ntype\t1\t0\t-\t1\t1\nnew\t17,7\t1\nval{elements}\n").into()
+    one("17,7", &"\t1".repeat(length))
+}
+
+/// One object with one value of this kind; each of its words stands behind a tab.
+fn one(kind: &str, words: &str) -> Vec<u8> {
+    format!("pair\t1\t1\nstr\t61\ntype\t1\t0\t-\t1\t1\nnew\t{kind}\t1\nval{words}\n").into()
 }
 
 #[cfg(test)]

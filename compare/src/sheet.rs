@@ -24,8 +24,10 @@ pub enum Role {
     Fields,
     Kind,
     FieldName,
-    /// An element of a value.
+    /// An element of a value, or one of the two words of an annotation.
     Element(Element),
+    /// How many keys a map has.
+    Size,
 }
 
 /// A word: where it stands, and what it says.
@@ -43,7 +45,7 @@ pub struct Sheet {
     pub words: Vec<Word>,
     /// Decimals, a minus included, also those that are a part of a kind.
     pub numbers: Vec<Range<usize>>,
-    /// The lines of array values.
+    /// The lines of arrays and maps.
     pub arrays: Vec<Range<usize>>,
     pub pairs: usize,
     pub strings: u64,
@@ -100,7 +102,7 @@ impl Sheet {
     }
 
     /// Takes a line apart. `values` says what the value lines hold, in their order.
-    fn line(&mut self, line: Range<usize>, values: &mut impl Iterator<Item = (Form, Element)>) {
+    fn line(&mut self, line: Range<usize>, values: &mut impl Iterator<Item = Kind>) {
         let words = fields(&self.text, line.start..line.end - 1);
         let roles: &[Role] = match self.bytes(&words[0]) {
             b"pair" => &[Role::Strings, Role::Entries],
@@ -111,16 +113,43 @@ impl Sheet {
             }
             b"new" => &[Role::Kind, Role::FieldName],
             b"val" => {
-                let (form, element) = values.next().expect("a value is due");
-                if form != Form::Single {
+                let kind = values.next().expect("a value is due");
+                if !is_single(kind) {
                     self.arrays.push(line);
                 }
-                &vec![Role::Element(element); words.len() - 1]
+                &self.value(kind, &words[1..])
             }
             _ => &[],
         };
         for (at, &role) in words[1..].iter().zip(roles) {
             self.word(at.clone(), role);
+        }
+    }
+
+    /// What the words of a value say.
+    fn value(&self, kind: Kind, words: &[Range<usize>]) -> Vec<Role> {
+        match kind {
+            Kind::Constant { .. } => Vec::new(),
+            Kind::Stored { element, .. } => vec![Role::Element(element); words.len()],
+            Kind::Map(types) => {
+                let mut roles = Vec::new();
+                self.map(types.elements(), words, &mut roles);
+                roles
+            }
+        }
+    }
+
+    /// What the words say that stand for the types that are left; `roles` has those before them.
+    fn map(&self, types: &[Element], words: &[Range<usize>], roles: &mut Vec<Role>) {
+        let (&first, rest) = types.split_first().expect("a type is left");
+        if rest.is_empty() {
+            return element(first, roles);
+        }
+        let keys = self.number(&words[roles.len()]);
+        roles.push(Role::Size);
+        for _ in 0..keys.expect("a size is a number") {
+            element(first, roles);
+            self.map(rest, words, roles);
         }
     }
 
@@ -140,12 +169,30 @@ impl Sheet {
     }
 }
 
-/// What each value line of a listing holds.
-fn values(ledger: &Ledger<'_>) -> Vec<(Form, Element)> {
+/// Whether a value of this kind is one element.
+fn is_single(kind: Kind) -> bool {
+    match kind {
+        Kind::Stored { form, .. } => form == Form::Single,
+        Kind::Constant { .. } | Kind::Map(_) => false,
+    }
+}
+
+/// The words of one element.
+fn element(element: Element, roles: &mut Vec<Role>) {
+    let words = match element {
+        Element::Annotation => 2,
+        _ => 1,
+    };
+    roles.extend(vec![Role::Element(element); words]);
+}
+
+/// The kind of each value line of a listing.
+fn values(ledger: &Ledger<'_>) -> Vec<Kind> {
     let mut values = Vec::new();
     for chunk in &ledger.chunks {
-        if let Kind::Stored { form, element } = ledger.fields[chunk.field].kind {
-            values.extend((0..chunk.values).map(|_| (form, element)));
+        match ledger.fields[chunk.field].kind {
+            Kind::Constant { .. } => {}
+            kind => values.extend((0..chunk.values).map(|_| kind)),
         }
     }
     values
@@ -238,6 +285,21 @@ mod tests {
         assert_eq!(sheet.arrays.len(), 1);
     }
 
+    /// A map from bool to maps from annotations to v64: one key, which leads to two.
+    #[test]
+    fn the_words_of_a_map() {
+        let text = "pair\t1\t1\nstr\t61\ntype\t1\t0\t-\t1\t1\nnew\t20,3,6,5,11\t1\n";
+        let sheet = sheet_of(&(text.to_string() + "val\t1\t0\t2\t0\t0\t7\t1\t1\t-8\n"));
+        let value = &sheet.words[sheet.words.len() - 9..];
+        let said = value.iter().map(|word| match word.role {
+            Role::Element(element) => element.number(),
+            Role::Size => 20,
+            other => unreachable!("{other:?}"),
+        });
+        assert_eq!(said.collect::<Vec<_>>(), [20, 6, 20, 5, 5, 11, 5, 5, 11]);
+        assert_eq!(sheet.arrays.len(), 1);
+    }
+
     #[test]
     fn every_line_of_a_value_is_known() {
         let files = generate::files(SEED, 100).into_iter();
@@ -245,7 +307,7 @@ mod tests {
         let sheets: Vec<Sheet> = small.filter_map(|case| Sheet::of(&case.bytes)).collect();
         assert!(sheets.len() > 100);
         for sheet in sheets {
-            let elements = sheet.words_of(|role| matches!(role, Role::Element(_)));
+            let elements = sheet.words_of(|role| matches!(role, Role::Element(_) | Role::Size));
             let tabs = sheet.lines_of(b"val").into_iter().map(|line| {
                 let line = sheet.bytes(&line).iter();
                 line.filter(|&&byte| byte == b'\t').count()

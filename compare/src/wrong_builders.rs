@@ -607,7 +607,7 @@ fn takes_unknown_kinds() {
     let faults: [Build; 2] = [
         |t, w, f| {
             lenient(t, w, f, |text| {
-                v64_for(text, |kind| matches!(kind, 5 | 16 | 20..=31))
+                v64_for(text, |kind| matches!(kind, 16 | 20..=31))
             })
         },
         |t, w, f| lenient(t, w, f, |text| v64_for(text, |kind| kind >= 32)),

@@ -6,7 +6,7 @@
 use crate::draft::{self, kind_bytes, wide, EntryDraft, FieldDraft, PairDraft};
 use crate::generate::random::Random;
 use crate::generate::{Case, SEED};
-use crate::kind::{Element, Form, Kind};
+use crate::kind::{Element, Form, Kind, MapTypes};
 use crate::v64;
 
 /// The parts of the full size that the files come in.
@@ -24,11 +24,15 @@ type Maker = fn(u64) -> Vec<u8>;
 
 /// All files at all sizes, the smallest of each first.
 pub fn files() -> Vec<Case> {
-    let makers: [(&str, Maker); 4] = [
+    let makers: [(&str, Maker); 8] = [
         ("v64 values", v64_values),
         ("mixed kinds", mixed_kinds),
         ("references to a subtype over 32 pairs", references),
         ("a column of v64 values", column),
+        ("annotations under many names", annotations),
+        ("maps of two types", |part| maps(2, part)),
+        ("maps of three types", |part| maps(3, part)),
+        ("maps of four types", |part| maps(4, part)),
     ];
     let mut cases = Vec::new();
     for (label, make) in makers {
@@ -60,8 +64,8 @@ fn v64_fields(fields: usize, objects: u64) -> Vec<u8> {
     draft::write(&[world.pair(objects)])
 }
 
-/// About a megabyte of values of all kinds over eight pairs, divided by
-/// `part`.
+/// About a megabyte of values of all kinds but annotations and maps over
+/// eight pairs, divided by `part`.
 pub fn mixed_kinds(part: u64) -> Vec<u8> {
     let mut random = Random::new(SEED);
     let plain = (6..=14).filter_map(Element::of).map(single);
@@ -93,6 +97,35 @@ pub fn references(part: u64) -> Vec<u8> {
     draft::write(&pairs)
 }
 
+/// About a megabyte of annotations, of which each names the base type by
+/// another string than the one before it, divided by `part`.
+pub fn annotations(part: u64) -> Vec<u8> {
+    let mut random = Random::new(SEED);
+    let kinds = vec![single(Element::Annotation); 4];
+    let mut world = World::new(&mut random, &kinds);
+    let mut pair = world.pair(65_535 / part);
+    let again = NAMES - 1;
+    pair.strings.extend(vec![TYPE.to_vec(); again as usize]);
+    draft::write(&[pair])
+}
+
+/// By how many strings the base type is named where annotations are.
+const NAMES: u64 = 100;
+
+/// About a megabyte of maps of two to four types, divided by `part`. A map has
+/// two keys in the mean, so one more type makes a value twice as long.
+pub fn maps(types: usize, part: u64) -> Vec<u8> {
+    let mut random = Random::new(SEED);
+    let number = types as u32;
+    let types = MapTypes::new(&MAP[..types]);
+    let kinds = [Kind::Map(types.expect("no map has one type"))];
+    let mut world = World::new(&mut random, &kinds);
+    draft::write(&[world.pair(130_000 / 2u64.pow(number - 1) / part)])
+}
+
+/// The types of the maps, from the first on.
+const MAP: [Element; 4] = [Element::Text, Element::V64, Element::I8, Element::Object(1)];
+
 fn single(element: Element) -> Kind {
     Kind::Stored {
         form: Form::Single,
@@ -109,6 +142,8 @@ struct World<'a> {
     /// Where the subtype's objects lie: first number and count.
     ranges: Vec<(u64, u64)>,
     strings: u64,
+    /// How many annotations there are so far.
+    annotations: u64,
 }
 
 impl<'a> World<'a> {
@@ -119,6 +154,7 @@ impl<'a> World<'a> {
             objects: 0,
             ranges: Vec::new(),
             strings: 0,
+            annotations: 0,
         }
     }
 
@@ -160,23 +196,45 @@ impl<'a> World<'a> {
 
     fn chunk(&mut self, kind: Kind, values: u64) -> Vec<u8> {
         let mut chunk = Vec::new();
-        if let Kind::Stored { form, element } = kind {
-            for _ in 0..values {
-                let length = match form {
-                    Form::Single => 1,
-                    Form::Fixed(length) => length,
-                    Form::Sized(_) => {
-                        let length = self.random.below(5);
-                        v64::write(&mut chunk, length);
-                        length
-                    }
-                };
-                for _ in 0..length {
-                    self.element(element, &mut chunk);
-                }
+        for _ in 0..values {
+            match kind {
+                Kind::Constant { .. } => {}
+                Kind::Stored { form, element } => self.stored(form, element, &mut chunk),
+                Kind::Map(types) => self.map(types.elements(), &mut chunk),
             }
         }
         chunk
+    }
+
+    fn stored(&mut self, form: Form, element: Element, out: &mut Vec<u8>) {
+        let length = match form {
+            Form::Single => 1,
+            Form::Fixed(length) => length,
+            Form::Sized(_) => self.size(out),
+        };
+        for _ in 0..length {
+            self.element(element, out);
+        }
+    }
+
+    /// What stands for the types that are left.
+    fn map(&mut self, types: &[Element], out: &mut Vec<u8>) {
+        match *types {
+            [] => {}
+            [last] => self.element(last, out),
+            [key, ref rest @ ..] => {
+                for _ in 0..self.size(out) {
+                    self.element(key, out);
+                    self.map(rest, out);
+                }
+            }
+        }
+    }
+
+    fn size(&mut self, out: &mut Vec<u8>) -> u64 {
+        let size = self.random.below(5);
+        v64::write(out, size);
+        size
     }
 
     fn element(&mut self, element: Element, out: &mut Vec<u8>) {
@@ -192,6 +250,16 @@ impl<'a> World<'a> {
                 v64::write(out, value);
             }
             Element::Text => v64::write(out, bits % (self.strings + 1)),
+            Element::Annotation => {
+                // The other names stand behind those of the fields.
+                let name = match self.annotations % NAMES {
+                    0 => 1,
+                    again => self.strings + again,
+                };
+                self.annotations += 1;
+                v64::write(out, name);
+                v64::write(out, 1 + bits % self.objects);
+            }
             Element::Object(0) => v64::write(out, bits % (self.objects + 1)),
             Element::Object(_) => {
                 let &(first, count) = self.random.pick(&self.ranges);

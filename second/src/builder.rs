@@ -9,7 +9,7 @@
 
 use crate::bounds;
 use crate::draft::{kind_bytes, wide, EntryDraft, FieldDraft, PairDraft, Written};
-use crate::kind::{constant_width, Element, Form, Kind};
+use crate::kind::{constant_width, Element, Form, Kind, MapTypes, MAP_TYPES};
 use crate::names::{Name, Names};
 use crate::text::{unhex, Text};
 use crate::v64;
@@ -190,6 +190,7 @@ impl Builder<'_> {
         let number = self.text.decimal()?;
         let form = match number {
             0..=4 => return self.constant(number as u8),
+            20 => return self.map_kind(),
             15 => {
                 self.text.word(b",")?;
                 let length = self.text.decimal()?;
@@ -212,6 +213,20 @@ impl Builder<'_> {
         Some(Kind::Stored { form, element })
     }
 
+    fn map_kind(&mut self) -> Option<Kind> {
+        self.text.word(b",")?;
+        let number = self.text.decimal()?;
+        if !MAP_TYPES.contains(&number) {
+            return None;
+        }
+        let mut types = Vec::new();
+        for _ in 0..number {
+            self.text.word(b",")?;
+            types.push(Element::of(self.text.decimal()?)?);
+        }
+        MapTypes::new(&types).map(Kind::Map)
+    }
+
     fn constant(&mut self, number: u8) -> Option<Kind> {
         self.text.word(b",")?;
         let width = match number {
@@ -227,10 +242,12 @@ impl Builder<'_> {
         let fields = pair.entries.iter_mut().flat_map(|entry| &mut entry.fields);
         let mut room = bounds::FILE;
         for (field, due) in fields.zip(due) {
-            if let Kind::Stored { form, element } = due.kind {
-                field.chunk = self.chunk(form, element, due.values, room)?;
-                room -= field.chunk.len();
-            }
+            field.chunk = match due.kind {
+                Kind::Constant { .. } => Vec::new(),
+                Kind::Stored { form, element } => self.chunk(form, element, due.values, room)?,
+                Kind::Map(types) => self.maps(types.elements(), due.values, room)?,
+            };
+            room -= field.chunk.len();
         }
         Some(())
     }
@@ -263,8 +280,45 @@ impl Builder<'_> {
         Some(chunk)
     }
 
+    /// Reads the lines of a chunk of maps, of at most `room` bytes.
+    fn maps(&mut self, types: &[Element], values: u64, room: usize) -> Option<Vec<u8>> {
+        let mut chunk = Vec::new();
+        for _ in 0..values {
+            self.text.word(b"val")?;
+            self.map(types, &mut chunk)?;
+            self.text.newline()?;
+            if chunk.len() > room {
+                return None;
+            }
+        }
+        Some(chunk)
+    }
+
+    /// Reads what stands for the types that are left: a size and as many
+    /// keys, each with what it leads to, as long as there are two. A size is
+    /// only believed as far as its keys are there.
+    fn map(&mut self, types: &[Element], out: &mut Vec<u8>) -> Option<()> {
+        let (&first, rest) = types.split_first()?;
+        if rest.is_empty() {
+            self.text.tab()?;
+            return self.element(first, out);
+        }
+        let keys = self.text.field()?;
+        v64::write(out, keys);
+        for _ in 0..keys {
+            self.text.tab()?;
+            self.element(first, out)?;
+            self.map(rest, out)?;
+        }
+        Some(())
+    }
+
     fn element(&mut self, element: Element, out: &mut Vec<u8>) -> Option<()> {
         match element {
+            Element::Annotation => {
+                v64::write(out, self.text.decimal()?);
+                v64::write(out, self.text.field()?);
+            }
             Element::Bool => out.push(match self.text.decimal()? {
                 0 => 0x00,
                 1 => 0xFF,

@@ -9,10 +9,12 @@ pub fn answers(kind: Kind, asked: u64) -> bool {
     match kind {
         Kind::Constant { number, .. } => asked == u64::from(number),
         Kind::Stored { form, element } => match (form, element) {
+            (Form::Single, Element::Annotation) => false,
             (Form::Single, Element::Object(_)) => asked == REFERENCE,
             (Form::Single, plain) => asked == plain.number(),
             (Form::Fixed(_) | Form::Sized(_), _) => false,
         },
+        Kind::Map(_) => false,
     }
 }
 
@@ -22,6 +24,7 @@ pub fn fill(ledger: &Ledger<'_>, field: usize, out: &mut [i64]) {
     let element = match ledger.fields[field].kind {
         Kind::Constant { value, .. } => return out.fill(value),
         Kind::Stored { element, .. } => element,
+        Kind::Map(_) => unreachable!("no column is asked of maps"),
     };
     let mut rest = out;
     for chunk in ledger.chunks.iter().filter(|chunk| chunk.field == field) {
@@ -41,6 +44,7 @@ fn decode(part: &[u8], element: Element, out: &mut [i64]) {
         Element::F32 => wide::<4>(part, out, |bits| bits as i64),
         Element::I64 | Element::F64 => wide::<8>(part, out, |bits| bits as i64),
         Element::V64 | Element::Text | Element::Object(_) => numbers(part, out),
+        Element::Annotation => unreachable!("no column is asked of annotations"),
     }
 }
 

@@ -4,7 +4,7 @@
 //! of strings, entries and fields are worked out. The builder drafts what a
 //! listing says, the generator drafts good files and wrong ones.
 
-use crate::kind::{constant_width, Form, Kind};
+use crate::kind::{constant_width, Kind};
 use crate::v64;
 
 /// A field as an entry gives it.
@@ -145,18 +145,14 @@ pub fn write(pairs: &[PairDraft]) -> Vec<u8> {
 
 /// The bytes a kind has in a new field.
 pub fn kind_bytes(kind: Kind) -> Vec<u8> {
-    let mut out = v64::coded(kind.number());
+    let mut out = Vec::new();
+    for number in kind.numbers() {
+        v64::write(&mut out, number);
+    }
     match kind {
         Kind::Constant { number: 4, value } => v64::write(&mut out, value as u64),
         Kind::Constant { number, value } => wide(&mut out, value as u64, constant_width(number)),
-        Kind::Stored { form, element } => {
-            if let Form::Fixed(length) = form {
-                v64::write(&mut out, length);
-            }
-            if form != Form::Single {
-                v64::write(&mut out, element.number());
-            }
-        }
+        Kind::Stored { .. } | Kind::Map(_) => {}
     }
     out
 }

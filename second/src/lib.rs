@@ -21,6 +21,7 @@ pub mod kind;
 pub mod ledger;
 mod listing;
 pub mod names;
+mod pools;
 pub mod programs;
 pub mod questions;
 pub mod reader;

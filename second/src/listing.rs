@@ -65,95 +65,117 @@ fn entry_lines(ledger: &Ledger<'_>, entry: &Entry, out: &mut Vec<u8>) {
 }
 
 fn kind(out: &mut Vec<u8>, kind: Kind) {
-    decimal(out, kind.number());
-    match kind {
-        Kind::Constant { value, .. } => {
+    for (index, number) in kind.numbers().into_iter().enumerate() {
+        if index > 0 {
             out.push(b',');
-            signed_decimal(out, value);
         }
-        Kind::Stored { form, element } => {
-            if let Form::Fixed(length) = form {
-                out.push(b',');
-                decimal(out, length);
-            }
-            if form != Form::Single {
-                out.push(b',');
-                decimal(out, element.number());
-            }
-        }
+        decimal(out, number);
+    }
+    if let Kind::Constant { value, .. } = kind {
+        out.push(b',');
+        signed_decimal(out, value);
     }
 }
 
 /// The lines of a checked chunk.
 fn values(ledger: &Ledger<'_>, chunk: &Chunk, out: &mut Vec<u8>) {
-    let (form, element) = match ledger.fields[chunk.field].kind {
-        Kind::Constant { .. } => return,
-        Kind::Stored { form, element } => (form, element),
-    };
-    let page = Page {
-        part: ledger.part(chunk),
-        form,
-        values: chunk.values,
-    };
+    let part = ledger.part(chunk);
+    match ledger.fields[chunk.field].kind {
+        Kind::Constant { .. } => {}
+        Kind::Stored { form, element } => stored(part, form, element, chunk.values, out),
+        Kind::Map(types) => maps(part, types.elements(), chunk.values, out),
+    }
+}
+
+/// One line a value: an element, or an array of them.
+fn stored(part: &[u8], form: Form, element: Element, values: u64, out: &mut Vec<u8>) {
+    let mut at = 0;
+    for _ in 0..values {
+        out.extend_from_slice(b"val");
+        let (length, next) = match form {
+            Form::Single => (1, at),
+            Form::Fixed(length) => (length, at),
+            Form::Sized(_) => number(part, at),
+        };
+        at = next;
+        for _ in 0..length {
+            at = field(part, element, at, out);
+        }
+        out.push(b'\n');
+    }
+}
+
+/// One line a map.
+fn maps(part: &[u8], types: &[Element], values: u64, out: &mut Vec<u8>) {
+    let mut at = 0;
+    for _ in 0..values {
+        out.extend_from_slice(b"val");
+        at = map(part, types, at, out);
+        out.push(b'\n');
+    }
+}
+
+/// What stands for the types that are left: a size and its keys, each with
+/// what it leads to, as long as there are two; the last is an element.
+fn map(part: &[u8], types: &[Element], at: usize, out: &mut Vec<u8>) -> usize {
+    let (&first, rest) = types.split_first().expect("a type is left");
+    if rest.is_empty() {
+        return field(part, first, at, out);
+    }
+    let (keys, mut at) = number(part, at);
+    out.push(b'\t');
+    decimal(out, keys);
+    for _ in 0..keys {
+        at = field(part, first, at, out);
+        at = map(part, rest, at, out);
+    }
+    at
+}
+
+/// Prints the element that begins at an offset, behind a tab; answers where
+/// the next one begins.
+fn field(part: &[u8], element: Element, at: usize, out: &mut Vec<u8>) -> usize {
+    out.push(b'\t');
     match element {
-        Element::Bool => page.wide::<1>(out, |out, byte| decimal(out, byte & 1)),
-        Element::I8 => page.wide::<1>(out, |out, bits| signed_decimal(out, signed(bits, 1))),
-        Element::I16 => page.wide::<2>(out, |out, bits| signed_decimal(out, signed(bits, 2))),
-        Element::I32 => page.wide::<4>(out, |out, bits| signed_decimal(out, signed(bits, 4))),
-        Element::I64 => page.wide::<8>(out, |out, bits| signed_decimal(out, bits as i64)),
-        Element::F32 => page.wide::<4>(out, |out, bits| hex(out, &(bits as u32).to_be_bytes())),
-        Element::F64 => page.wide::<8>(out, |out, bits| hex(out, &bits.to_be_bytes())),
-        Element::V64 => page.numbers(out, |out, value| signed_decimal(out, value as i64)),
-        Element::Text | Element::Object(_) => page.numbers(out, decimal),
-    }
-}
-
-/// The values of one chunk.
-struct Page<'a> {
-    part: &'a [u8],
-    form: Form,
-    values: u64,
-}
-
-impl Page<'_> {
-    /// Elements of a fixed width, printed from their bits.
-    fn wide<const WIDTH: usize>(&self, out: &mut Vec<u8>, one: impl Fn(&mut Vec<u8>, u64)) {
-        self.lines(out, |out, part, at| {
-            let mut low = [0; 8];
-            low[8 - WIDTH..].copy_from_slice(&part[at..at + WIDTH]);
-            one(out, u64::from_be_bytes(low));
-            at + WIDTH
-        });
-    }
-
-    /// Elements that are v64 numbers.
-    fn numbers(&self, out: &mut Vec<u8>, one: impl Fn(&mut Vec<u8>, u64)) {
-        self.lines(out, |out, part, at| {
-            let (value, next) = v64::read(part, at).expect("the chunk is checked");
-            one(out, value);
+        Element::Annotation => {
+            let (name, second) = number(part, at);
+            let (object, next) = number(part, second);
+            decimal(out, name);
+            out.push(b'\t');
+            decimal(out, object);
             next
-        });
-    }
-
-    /// One line a value; `one` prints the element that begins at an offset
-    /// and answers where the next one does.
-    fn lines(&self, out: &mut Vec<u8>, one: impl Fn(&mut Vec<u8>, &[u8], usize) -> usize) {
-        let mut at = 0;
-        for _ in 0..self.values {
-            out.extend_from_slice(b"val");
-            let (length, next) = match self.form {
-                Form::Single => (1, at),
-                Form::Fixed(length) => (length, at),
-                Form::Sized(_) => v64::read(self.part, at).expect("the chunk is checked"),
-            };
-            at = next;
-            for _ in 0..length {
-                out.push(b'\t');
-                at = one(out, self.part, at);
-            }
-            out.push(b'\n');
+        }
+        Element::Bool => wide::<1>(part, at, |byte| decimal(out, byte & 1)),
+        Element::I8 => wide::<1>(part, at, |bits| signed_decimal(out, signed(bits, 1))),
+        Element::I16 => wide::<2>(part, at, |bits| signed_decimal(out, signed(bits, 2))),
+        Element::I32 => wide::<4>(part, at, |bits| signed_decimal(out, signed(bits, 4))),
+        Element::I64 => wide::<8>(part, at, |bits| signed_decimal(out, bits as i64)),
+        Element::F32 => wide::<4>(part, at, |bits| hex(out, &(bits as u32).to_be_bytes())),
+        Element::F64 => wide::<8>(part, at, |bits| hex(out, &bits.to_be_bytes())),
+        Element::V64 => {
+            let (value, next) = number(part, at);
+            signed_decimal(out, value as i64);
+            next
+        }
+        Element::Text | Element::Object(_) => {
+            let (value, next) = number(part, at);
+            decimal(out, value);
+            next
         }
     }
+}
+
+/// Prints an element of a fixed width from its bits.
+fn wide<const WIDTH: usize>(part: &[u8], at: usize, print: impl FnOnce(u64)) -> usize {
+    let mut low = [0; 8];
+    low[8 - WIDTH..].copy_from_slice(&part[at..at + WIDTH]);
+    print(u64::from_be_bytes(low));
+    at + WIDTH
+}
+
+/// A v64 of a checked chunk, and where the next thing begins.
+fn number(part: &[u8], at: usize) -> (u64, usize) {
+    v64::read(part, at).expect("the chunk is checked")
 }
 
 fn decimal_or_dash(out: &mut Vec<u8>, value: Option<u64>) {

@@ -4,9 +4,10 @@ use std::ops::Range;
 
 use crate::bounds;
 use crate::cursor::{Cursor, Found};
-use crate::kind::{constant_width, signed, Element, Form, Kind};
+use crate::kind::{constant_width, signed, Element, Form, Kind, MapTypes, MAP_TYPES};
 use crate::ledger::{Chunk, Entry, Field, Ledger, Pair, Type};
 use crate::names::Name;
+use crate::pools::Pools;
 use crate::refusal::*;
 use crate::values;
 
@@ -70,8 +71,9 @@ impl<'f> Reader<'f> {
         }
         self.region(first_chunk, &block.ends)?;
         self.reference_kinds(&block.references)?;
+        let pools = self.pools(first_chunk);
         for chunk in &self.ledger.chunks[first_chunk..] {
-            values::check(&self.ledger, chunk)?;
+            values::check(&self.ledger, &pools, chunk)?;
         }
         self.ledger.pairs.push(Pair {
             strings,
@@ -270,6 +272,7 @@ impl<'f> Reader<'f> {
         let number = self.cursor.v64()?;
         let form = match number.value {
             constant @ 0..=4 => return self.constant(constant as u8),
+            20 => return self.map(block),
             15 => {
                 let length = self.cursor.v64()?;
                 length.refuse_if(length.value > bounds::OBJECTS, LIMIT)?;
@@ -282,16 +285,21 @@ impl<'f> Reader<'f> {
             Form::Single => number,
             Form::Fixed(_) | Form::Sized(_) => self.cursor.v64()?,
         };
-        let Some(known) = Element::of(element.value) else {
-            return element.refuse(KIND);
-        };
-        if let Element::Object(_) = known {
-            block.references.push(element);
+        let element = block.element(element)?;
+        Ok(Kind::Stored { form, element })
+    }
+
+    /// Reads the types of a map.
+    fn map(&mut self, block: &mut Block) -> Result<Kind, Refusal> {
+        let number = self.cursor.v64()?;
+        number.refuse_if(!MAP_TYPES.contains(&number.value), KIND)?;
+        let mut types = Vec::new();
+        for _ in 0..number.value {
+            let element = self.cursor.v64()?;
+            types.push(block.element(element)?);
         }
-        Ok(Kind::Stored {
-            form,
-            element: known,
-        })
+        let types = MapTypes::new(&types).ok_or(Refusal::at(KIND, number.place))?;
+        Ok(Kind::Map(types))
     }
 
     fn constant(&mut self, number: u8) -> Result<Kind, Refusal> {
@@ -346,6 +354,18 @@ impl<'f> Reader<'f> {
         Ok(())
     }
 
+    /// What annotations in the chunks of this block can lead to. All types
+    /// and objects of the block are known by now, and no later ones.
+    fn pools(&mut self, first_chunk: usize) -> Pools {
+        let chunks = &self.ledger.chunks[first_chunk..];
+        let fields = &self.ledger.fields;
+        let mut kinds = chunks.iter().map(|chunk| fields[chunk.field].kind);
+        match kinds.any(|kind| kind.elements().contains(&Element::Annotation)) {
+            true => Pools::of(&mut self.ledger),
+            false => Pools::default(),
+        }
+    }
+
     /// Tests that every reference kind of the block has its type.
     fn reference_kinds(&self, references: &[Found]) -> Result<(), Refusal> {
         let past = crate::kind::REFERENCE + self.ledger.types.len() as u64;
@@ -357,6 +377,17 @@ impl<'f> Reader<'f> {
 }
 
 impl Block {
+    /// The element kind of a number; one from 32 upwards is tested later.
+    fn element(&mut self, number: Found) -> Result<Element, Refusal> {
+        let Some(known) = Element::of(number.value) else {
+            return number.refuse(KIND);
+        };
+        if let Element::Object(_) = known {
+            self.references.push(number);
+        }
+        Ok(known)
+    }
+
     /// Whether a subtype's range keeps the range rules under its super type.
     fn admits(&self, upper: usize, local: Local) -> bool {
         if local.count == 0 {

@@ -95,7 +95,28 @@ fn features(ledger: &Ledger<'_>) -> Vec<String> {
     let links = links(ledger);
     has("references forward", links.iter().any(|link| link.forward));
     has("references to subtypes", links.iter().any(|link| link.sub));
-    for number in (0..=19).chain([REFERENCE]) {
+    let kinds = || {
+        ledger
+            .chunks
+            .iter()
+            .map(|c| (ledger.fields[c.field].kind, c))
+    };
+    has(
+        "annotations that lead somewhere",
+        kinds().any(|(kind, chunk)| leads(ledger, kind, chunk)),
+    );
+    has(
+        "maps that have keys",
+        kinds().any(|(kind, chunk)| {
+            let full = ledger.part(chunk).iter().any(|&byte| byte != 0);
+            matches!(kind, Kind::Map(_)) && full
+        }),
+    );
+    has(
+        "maps of maps",
+        kinds().any(|(kind, _)| matches!(kind, Kind::Map(types) if types.elements().len() > 2)),
+    );
+    for number in (0..=20).chain([REFERENCE]) {
         let there = ledger.fields.iter().any(|field| {
             let kind = field.kind.number().min(REFERENCE);
             kind == number
@@ -103,6 +124,15 @@ fn features(ledger: &Ledger<'_>) -> Vec<String> {
         has(&format!("kind {number:02}"), there);
     }
     found
+}
+
+/// Whether a chunk of single annotations has one that is not null.
+fn leads(ledger: &Ledger<'_>, kind: Kind, chunk: &Chunk) -> bool {
+    let annotations = Kind::Stored {
+        form: Form::Single,
+        element: Element::Annotation,
+    };
+    kind == annotations && ledger.part(chunk).iter().any(|&byte| byte != 0)
 }
 
 /// Whether an entry gives a known type with objects a new field.

@@ -27,11 +27,14 @@ fn every_refusal_of_a_file_comes_up() {
             "count-0 entries",
             "references forward",
             "references to subtypes",
+            "annotations that lead somewhere",
+            "maps that have keys",
+            "maps of maps",
         ] {
             let count = tally.features.get(&format!("with {feature}"));
             assert!(count.is_some_and(|&count| count > 20), "{feature}");
         }
-        for kind in (0..=4).chain(6..=15).chain(17..=19).chain([32]) {
+        for kind in (0..=15).chain(17..=20).chain([32]) {
             let count = tally.features.get(&format!("with kind {kind:02}"));
             assert!(count.is_some_and(|&count| count > 5), "kind {kind}");
         }
@@ -121,8 +124,17 @@ fn big_files_are_accepted_and_as_large_as_they_should_be() {
     for case in big::files() {
         assert_eq!(number(&case.bytes), 0, "{}", case.label);
     }
-    for whole in [big::v64_values(1), big::mixed_kinds(1), big::references(1)] {
-        assert!(whole.len() > 800_000, "{}", whole.len());
+    let lengths = [
+        big::v64_values(1).len(),
+        big::mixed_kinds(1).len(),
+        big::references(1).len(),
+        big::annotations(1).len(),
+        big::maps(2, 1).len(),
+        big::maps(3, 1).len(),
+        big::maps(4, 1).len(),
+    ];
+    for length in lengths {
+        assert!(length > 800_000, "{length}");
     }
     let file = big::column(1);
     let values = common::column(&file, big::TYPE, big::FIELD, 11).unwrap();

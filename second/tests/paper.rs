@@ -115,6 +115,14 @@ fn kinds_of_several_numbers_are_joined_by_commas() {
     let file = bytes("01 00000001 61 01 01 00 01 00 01 00 04 FF*9 01 00");
     assert_eq!(listing(&file).as_deref(), Ok(text.as_bytes()));
     assert_eq!(build(text.as_bytes()), Ok(file));
+    // A map leads from strings to maps from v64 to i8: two keys, the first of
+    // which leads to one key, the second to none.
+    let text = "pair\t1\t1\nstr\t61\ntype\t1\t0\t-\t1\t1\nnew\t20,3,14,11,7\t1\n\
+        val\t2\t1\t1\t-1\t5\t0\t0\n";
+    let file =
+        bytes("01 00000001 61 01 01 00 01 00 01 00 14 03 0E 0B 07 01 0F 02 01 01 FF*9 05 00 00");
+    assert_eq!(listing(&file).as_deref(), Ok(text.as_bytes()));
+    assert_eq!(build(text.as_bytes()), Ok(file));
 }
 
 #[test]
@@ -161,6 +169,8 @@ fn other_kinds_are_refused() {
     let constant = bytes("P 01 01 00 01 00 01 00 04 05 02 00");
     let array = bytes("P 01 01 00 01 00 01 00 11 0B 02 01 00");
     let fixed = bytes("P 01 01 00 01 00 01 00 0F 01 0B 02 01 00");
+    let annotation = bytes("P 01 01 00 01 00 01 00 05 02 02 01 01");
+    let map = bytes("P 01 01 00 01 00 01 00 14 02 0B 0B 02 01 00");
     let reference = bytes("P 02 01 00 01 00 00 02 00 01 00 01 00 21 02 01 00");
     assert_eq!(column(&constant, b"a", b"b", 11), Err(18));
     for kind in (0..64).chain([65_535, 1 << 32, u64::MAX]) {
@@ -168,6 +178,8 @@ fn other_kinds_are_refused() {
         assert_eq!(asked.is_ok(), kind == 4, "{kind}");
         assert_eq!(column(&array, b"a", b"b", kind), Err(18));
         assert_eq!(column(&fixed, b"a", b"b", kind), Err(18));
+        assert_eq!(column(&annotation, b"a", b"b", kind), Err(18));
+        assert_eq!(column(&map, b"a", b"b", kind), Err(18));
         let asked = column(&reference, b"b", b"b", kind);
         assert_eq!(asked.is_ok(), kind == 32, "{kind}");
     }
@@ -179,6 +191,11 @@ fn sixteen_to_eighteen_in_their_order() {
     assert_eq!(column(&e, b"datum", b"x", 99), Err(16));
     assert_eq!(column(&e, b"date", b"x", 99), Err(17));
     assert_eq!(column(&e, b"date", b"date", 99), Err(18));
+    for kind in [5, 20] {
+        assert_eq!(column(&e, b"datum", b"x", kind), Err(16));
+        assert_eq!(column(&e, b"date", b"x", kind), Err(17));
+        assert_eq!(column(&e, b"date", b"date", kind), Err(18));
+    }
     assert_eq!(column(&e[..36], b"datum", b"x", 99), Err(1));
     assert_eq!(objects(&e[..36], b"datum"), Err(1));
     // A string of that name is not a type of that name.

@@ -16,8 +16,8 @@ type Wrong = (u8, usize);
 #[derive(Clone)]
 struct Field {
     name: Vec<u8>,
-    /// Kind, then length or element kind where there are any; a constant's
-    /// value is left out.
+    /// Kind, then length, number of types and element kinds where there are
+    /// any; a constant's value is left out.
     kind: Vec<u64>,
 }
 
@@ -117,6 +117,18 @@ impl Plain {
             let first = before + entry.start + 1;
             (first..first + entry.count).contains(&number)
         })
+    }
+
+    /// Whether an annotation is null, or names a base type by the bytes of a
+    /// string and one of its objects.
+    fn leads_somewhere(&self, number: u64, object: u64) -> bool {
+        match self.string(number) {
+            Some(name) => {
+                let declared = self.types().contains(&name);
+                declared && self.above(name).is_none() && self.has_object(name, object)
+            }
+            None => number == 0 && object == 0,
+        }
     }
 
     fn range_rule(&self, block: usize, above: &[u8], start: u64, count: u64) -> bool {
@@ -328,29 +340,39 @@ fn new_field(
     restrictions(file, at)?;
     let (kind, place) = v64(file, at, file.len(), 1)?;
     let mut numbers = vec![kind];
-    let mut element = (kind, place);
+    let mut elements = 0;
     match kind {
         0..=3 => skip(at, file.len(), 1 << kind, 1)?,
         4 => drop(v64(file, at, file.len(), 1)?),
-        5 | 16 | 20..=31 => return Err((10, place)),
-        15 | 17..=19 => {
-            if kind == 15 {
-                let (length, place) = v64(file, at, file.len(), 1)?;
-                if length > 65_535 {
-                    return Err((3, place));
-                }
-                numbers.push(length);
+        16 | 21..=31 => return Err((10, place)),
+        15 => {
+            let (length, place) = v64(file, at, file.len(), 1)?;
+            if length > 65_535 {
+                return Err((3, place));
             }
-            element = v64(file, at, file.len(), 1)?;
-            numbers.push(element.0);
-            if matches!(element.0, 0..=5 | 15..=31) {
-                return Err((10, element.1));
-            }
+            numbers.push(length);
+            elements = 1;
         }
+        17..=19 => elements = 1,
+        20 => {
+            let (types, place) = v64(file, at, file.len(), 1)?;
+            if !(2..=8).contains(&types) {
+                return Err((10, place));
+            }
+            numbers.push(types);
+            elements = types;
+        }
+        32.. => kinds.push((kind, place)),
         _ => {}
     }
-    if element.0 >= 32 {
-        kinds.push(element);
+    for _ in 0..elements {
+        let (element, place) = v64(file, at, file.len(), 1)?;
+        match element {
+            0..=4 | 15..=31 => return Err((10, place)),
+            32.. => kinds.push((element, place)),
+            _ => {}
+        }
+        numbers.push(element);
     }
     let (number, place) = v64(file, at, file.len(), 1)?;
     let name = plain.string(number).ok_or((5, place))?.clone();
@@ -388,13 +410,52 @@ fn value(
             }
             Ok(())
         }
+        [20, _, ref types @ ..] => map(plain, file, at, end, types),
         [single] => one(plain, file, at, end, single),
         _ => unreachable!("kinds have these forms"),
     }
 }
 
+/// A map, by a list of how many keys are still due in it and in the maps
+/// within it that are begun.
+fn map(plain: &Plain, file: &[u8], at: &mut usize, end: usize, types: &[u64]) -> Result<(), Wrong> {
+    let mut due = Vec::new();
+    loop {
+        // A size stands at the beginning, and behind a key with two types left.
+        let (size, place) = v64(file, at, end, 12)?;
+        if size > 65_535 {
+            return Err((3, place));
+        }
+        due.push(size);
+        loop {
+            let level = due.len();
+            match due.last_mut() {
+                None => return Ok(()),
+                Some(0) => {
+                    due.pop();
+                    continue;
+                }
+                Some(keys) => *keys -= 1,
+            }
+            one(plain, file, at, end, types[level - 1])?;
+            if level + 1 < types.len() {
+                break;
+            }
+            one(plain, file, at, end, types[level])?;
+        }
+    }
+}
+
 fn one(plain: &Plain, file: &[u8], at: &mut usize, end: usize, kind: u64) -> Result<(), Wrong> {
     match kind {
+        5 => {
+            let (name, place) = v64(file, at, end, 12)?;
+            let (object, _) = v64(file, at, end, 12)?;
+            match plain.leads_somewhere(name, object) {
+                true => Ok(()),
+                false => Err((14, place)),
+            }
+        }
         6 => {
             let place = *at;
             skip(at, end, 1, 12)?;

@@ -34,6 +34,16 @@ fn print_and_build_of_e() {
     assert_eq!(run(&["program-build"], b""), (0, Vec::new()));
 }
 
+/// The example with annotations and maps, as it is made and as it is listed.
+#[test]
+fn print_and_build_of_the_slots() {
+    let slots = include_bytes!("../../examples/slots.skill");
+    let listing = include_bytes!("../../examples/slots.listing");
+    assert_eq!(run(&["example-slots"], b""), (0, slots.to_vec()));
+    assert_eq!(run(&["program-print"], slots), (0, listing.to_vec()));
+    assert_eq!(run(&["program-build"], listing), (0, slots.to_vec()));
+}
+
 #[test]
 fn refusals_of_the_programs() {
     let refused = |number: u8| (1, format!("refused\t{number}\n").into_bytes());

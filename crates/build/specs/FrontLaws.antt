@@ -4,9 +4,10 @@ use mathlib.Core.Bool.{Bool, true, false, _&&_}
 use mathlib.Core.List.{List, [], _∷_, _++_, map, map-append, append-nil}
 use Prim.Native.Nat.{ℕ, zero, suc, _+_, _-_, _≤_, _<_}
 use native.Mathlib.Omega.{arith}
-use lib.ListN.{length, drop, length-take, length-drop}
+use lib.ListN.{length, drop, length-map, length-take, length-drop}
 use lib.Seq.{drop-append-seam}
 use Rattle.paper.specs.Reader.{Out, got, no, times, repeat}
+use Rattle.paper.specs.Bounds.{mostTypes}
 use Rattle.paper.specs.Lists.{flat, fold, all}
 use Rattle.paper.specs.Ledger.{New, Entry, Pair, Range, Field, Due, State}
 use Rattle.paper.specs.Rules.{smallRules, stringsRules, withStrings, afterHead, afterNew, afterEntry, dues, kindsStand?, afterFront}
@@ -22,7 +23,8 @@ use Rattle.table.specs.View.{view, said, Said, strsOf, fldsOf, logOf, duesOf, c
 use Rattle.reader.specs.Counting.{Keys}
 use Rattle.reader.specs.Sound.{Sound}
 use Rattle.reader.specs.Strings.{addStrings}
-use Rattle.walk.specs.Low.{Low, entries-low}
+use Rattle.laws.specs.Pools.{Pooled, entries-pooled, strings-pooled}
+use Rattle.lookups.specs.Low.{Low, entries-low}
 use Rattle.walk.specs.Listed.{Listed, entries-listed}
 use Rattle.walk.specs.Blocks.{blockOfRange, front-block, front-past}
 use Rattle.walk.specs.Stand.{stands?, AllStand, new-fields-stand}
@@ -59,10 +61,21 @@ pub record Fronted (t l : List ℕ) (s : State) (at m from to : ℕ) (l′ : Lis
   pub holds : Holds t l′
   pub sound : Sound (said t l′)
   pub low : Low 0 (logOf l′)
+  pub pooled : Pooled (view t l′)
   pub listed : Listed (fldsOf l′)
   pub past : Keys blockOfRange (blockIn l′ + 1) (logOf l′)
   pub begins : at ≤ length t
   pub inside : to ≤ length t
+
+-- ── names in hex are as many ──
+
+hexed-pooled : (s : State) → Pooled s → Pooled (hexed s)
+unfolding hexed
+hexed-pooled s P = record { even = length-map (s .typeNames) hex ∙ P .even; sofar = P .sofar; pools = P .pools }
+
+unhexed-pooled : (s : State) → Pooled (hexed s) → Pooled s
+unfolding hexed
+unhexed-pooled s P = record { even = sym (length-map (s .typeNames) hex) ∙ P .even; sofar = P .sofar; pools = P .pools }
 
 -- ── entries say nothing of strings ──
 
@@ -132,8 +145,11 @@ module _ {t l : List ℕ} {at : ℕ} (A : PairAsks t l at) (s : State) (S : Spel
             let back : afterFront (hexed s) (map hex ss) es ≡ view t l₂ = afterFront-hexed s S ss (each-back ss (D .small)) es ∙ sym state-is in
             let count : fieldsIn l ≡ length (hexed s .fields) = sym (A .steady .holds .ok .flds-count) ∙ ap (λ (u : State). length (u .fields)) is in
             let told : all (stands? (view t l₂)) (drop (fieldsIn l) (fldsOf l₂)) ≡ kindsStand? (view t l₂) es =
-            rw count (subst (λ (u : State). all (stands? u) (drop (length (hexed s .fields)) (u .fields)) ≡ kindsStand? u es) back (new-fields-stand (hexed s) (map hex ss) es)) in
+            rw count (subst (λ (u : State). all (stands? u) (drop (length (hexed s .fields)) (u .fields)) ≡ kindsStand? u es) back (new-fields-stand (hexed s) (map hex ss) es (few back))) in
             T .says t H ∙ told ∙ ap (λ (u : State). kindsStand? u es) state-is ∙ kindsStand-hexed (afterFront s ss es) es
+          where
+            few : afterFront (hexed s) (map hex ss) es ≡ view t l₂ → length (afterFront (hexed s) (map hex ss) es .typeNames) ≤ mostTypes
+            few back = rw back (omega (arith, H .names-count, H .ok .types-fit))
 
         pub fronted-no-kinds : AllStand l₂ (fieldsIn l) false → pairText s t at ≡ no 20 0
         fronted-no-kinds T = pair-no-kinds s t at h₁ h₂ (D .reads) read (sym (stood T))
@@ -147,6 +163,7 @@ module _ {t l : List ℕ} {at : ℕ} (A : PairAsks t l at) (s : State) (S : Spel
             let flds : fldsOf l₂ ≡ afterFront s ss es .fields = ap (λ (u : State). u .fields) state-is in
             let block : blockIn l₂ ≡ s .block = ap (λ (u : State). u .block) state-is ∙ front-block s ss es in
             let low : Low 0 (s .log) = subst (λ (u : State). Low 0 (u .log)) is (A .steady .low) in
+            let pooled : Pooled s = unhexed-pooled s (subst Pooled is (A .steady .pooled)) in
             let listed : Listed (s .fields) = subst (λ (u : State). Listed (u .fields)) is (A .steady .listed) in
             let past : Keys blockOfRange (s .block) (s .log) = subst (λ (u : State). Keys blockOfRange (u .block) (u .log)) is (A .steady .between .past) in
             let count : stringsIn l ≡ length (map hex (s .strings)) = sym (A .steady .holds .strs-count) ∙ ap (λ (u : State). length (u .strings)) is in
@@ -169,6 +186,7 @@ module _ {t l : List ℕ} {at : ℕ} (A : PairAsks t l at) (s : State) (S : Spel
               holds = H;
               sound = sound;
               low = rw log (entries-low es (withStrings s ss) kept low);
+              pooled = subst Pooled (sym state-is) (hexed-pooled (afterFront s ss es) (entries-pooled es (withStrings s ss) kept (strings-pooled s ss pooled)));
               listed = rw flds (entries-listed es (withStrings s ss) kept listed);
               past = rw (log, block) (front-past s ss es past);
               begins = A .inside;

@@ -21,6 +21,8 @@ use Rattle.table.specs.View.{view, said, Said, duesOf, chunksOf}
 use Rattle.table.specs.Counts.{nextBlock, Next}
 use Rattle.walk.specs.Region.{sizes}
 use Rattle.walk.specs.Blocks.{closes, front-block}
+use Rattle.laws.specs.Pools.{Pooled, closed-pooled}
+use Rattle.lookups.specs.Low.{Low}
 use Rattle.walk.specs.PairLaws.{Steady}
 use Rattle.judge.specs.Fields.{unsized}
 use Rattle.texts.specs.declared.Taken.{Taken}
@@ -74,14 +76,14 @@ module _ {t l : List ℕ} {at : ℕ} {s : State} (S : Spelt s) {m from to : ℕ}
   ds = dues (withStrings s ss) es
 
   pub region-ready : RegionReady t l₁
-  region-ready = record { holds = F .holds; sound = F .sound; low = F .low; listed = F .listed }
+  region-ready = record { holds = F .holds; sound = F .sound; low = F .low; pooled = F .pooled; listed = F .listed }
 
   dues-what : whatDue l₁ ≡ ds
   dues-what = ap (map (λ (d : Due × ℕ). d .0)) (F .due) ∙ what-unsized ds
 
   region-as : (e : ℕ) → chunksText (view t l₁) (whatDue l₁) t e ≡ regionText s ss es t e
   unfolding chunksText regionText
-  region-as e = rw (dues-what, F .state, chunkText-hexed s₂) refl
+  region-as e = rw (dues-what, F .state, chunkText-hexed s₂ (spelt-front s S ss (each-back ss (F .small)) es)) refl
 
   bytes-as : (cs : List Chunk) → putChunks (view t l₁) (whatDue l₁) cs ≡ putChunks s₂ ds cs
   bytes-as cs = rw (dues-what, F .state) (putChunks-hexed s₂ ds cs)
@@ -194,7 +196,8 @@ module _ {t l : List ℕ} {at : ℕ} {s : State} (S : Spelt s) {m from to : ℕ}
             record {
               holds = N .says t (sized .now .holds) .holds;
               between = rw closing (closes (F .sound) (F .past) [] (omega arith));
-              low = subst (λ (g : Said). Rattle.walk.specs.Low.Low 0 (g .state .log)) (sym closing) (F .low);
+              low = subst (λ (g : Said). Low 0 (g .state .log)) (sym closing) (F .low);
+              pooled = subst (λ (g : Said). Pooled (g .state)) (sym closing) (closed-pooled (view t l₁) (F .pooled));
               listed = subst (λ (g : Said). Rattle.walk.specs.Listed.Listed (g .state .fields)) (sym closing) (F .listed);
             }
 

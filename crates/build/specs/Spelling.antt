@@ -11,7 +11,7 @@ use Rattle.paper.specs.Rules.{typeOf, afterHead, knownDue, fieldCountRules, aft
 use Rattle.paper.specs.Listing.{oldLine}
 use Rattle.paper.specs.Encode.{putValue, putChunk, putChunks}
 use Rattle.paper.specs.Keeps.{number?, hold?, head?, new-field?, value?}
-use Rattle.paper.specs.Scan.{heed, literal, readType, readNew, readValue, newText, entryText, elementsKind, valueText, chunkText}
+use Rattle.paper.specs.Scan.{heed, literal, readType, readNew, readLine, newText, entryText, valueText, chunkText}
 use Rattle.laws.specs.Hexed.{hexed, Spelt, head-hexed, knownDue-hexed, typeOf-hexed, afterHead-hexed, fieldCountRules-hexed, new-field-hexed, afterNew-hexed, afterEntry-hexed, spelt-head, spelt-new, spelt-entry, fieldAt-hexed, value-hexed}
 
 -- ── so many readings, each of which is the same ──
@@ -81,11 +81,11 @@ entriesText-hexed n s S f at = times-hexed entryText afterEntry f (λ s S. entry
 
 -- ── chunks ──
 
-pub chunkText-hexed : (s : State) → _≡_ {A = Due → Reader Chunk} (chunkText (hexed s)) (chunkText s)
+pub chunkText-hexed : (s : State) → Spelt s → _≡_ {A = Due → Reader Chunk} (chunkText (hexed s)) (chunkText s)
 unfolding chunkText valueText
-chunkText-hexed s = fun-ext λ d.
+chunkText-hexed s S = fun-ext λ d.
     rw (fieldAt-hexed s (d .field))
-    (ap (λ (ok : List Element → Bool). repeat (d .values) (readValue (elementsKind (fieldAt s (d .field) .kind)) >>= λ v. heed (ok v) >> give v)) (fun-ext (value-hexed s (fieldAt s (d .field) .kind))))
+    (ap (λ (ok : List Element → Bool). repeat (d .values) (readLine (fieldAt s (d .field) .kind) >>= λ v. heed (ok v) >> give v)) (fun-ext (value-hexed s S (fieldAt s (d .field) .kind))))
 
 pub putChunks-hexed : (s : State) (ds : List Due) (cs : List Chunk) → putChunks (hexed s) ds cs ≡ putChunks s ds cs
 unfolding putChunks putChunk

@@ -14,6 +14,7 @@ use Rattle.paper.specs.Lists.{any, all, total, same, place, placeNamed}
 use Rattle.paper.specs.Ledger.{Kind, constant, plain, array, many, Field, Range, Ledger, State, nothing, typeNamed, fieldNamed, fieldAt, noField, called?, of?, size, objectsOf, holds?, object?}
 use Rattle.paper.specs.File.{file}
 use Rattle.paper.specs.Places.{Spot, spots}
+use Rattle.paper.specs.Rules.{singleKind?}
 use Rattle.paper.specs.Calls.{done, known, objects, column, ask, asked, fieldValues, columnBy, columnOf, overFront}
 use Rattle.laws.specs.Bools.{and-split}
 use Rattle.laws.specs.Says.{Bytes}
@@ -27,7 +28,9 @@ use Rattle.table.specs.declared.rows.FieldRow.{FieldRow}
 use Rattle.table.specs.declared.names.Found.{Found}
 use Rattle.table.specs.declared.names.Found.the-variants.{At, Nothing}
 use Rattle.walk.specs.Few.{linkable-below}
+use Rattle.values.specs.Listed.{other-single}
 use Rattle.walk.specs.Listed.{with-element, row-kinds}
+use Rattle.calls.specs.Kinds.{asked-map, asked-annotation}
 use Rattle.walk.specs.FileLaws.{Accepted}
 use Rattle.calls.specs.Fill.{ColumnReady, ColumnStored}
 use Rattle.calls.specs.Told.{Wrote, wrote-none, wrote-all, objects-got, column-got, countOf, count-some, ask-16, ask-17, ask-18, ask-19, ask-done}
@@ -96,8 +99,15 @@ module _ {f l : List ℕ} {i : ℕ} {row : FieldRow} {n : ℕ} {out : List ℤ} 
     is-plain : StoreReady f l i row n out → kindFrom (row .kind) (row .a) (row .e) ≡ plain (row .e)
     unfolding asked
     is-plain R =
-        with-element (λ x. asked x ≤ 32 → x ≡ plain (row .e)) (row .kind) (row .a) (row .e) h (λ q. absurd (omega arith)) (λ q. absurd (omega arith)) (λ q. refl)
+        with-element (λ x. asked x ≤ 32 → x ≡ plain (row .e)) (row .kind) (row .a) (row .e) h (λ q. absurd (omega arith)) (λ q. absurd (omega arith)) (λ is q. absurd (omega arith)) (λ q. refl)
         (R .columnar)
+
+    -- what has a column is neither a map nor an annotation
+    is-single : StoreReady f l i row n out → singleKind? (row .e) ≡ true
+    is-single R =
+        let kinds = row-kinds (fldsOf l) i (row .owner) (row .kind) (row .a) (row .e) (R .table .accepted .steady .listed) (R .there) (R .row-is) in
+        let none : asked (plain (row .e)) ≤ 32 = rw (is-plain R) at (R .columnar) in
+        other-single (row .e) (kinds .element h (λ is. omega (arith, asked-map (row .kind) (row .e) is (row .a), R .columnar))) (λ is. omega (arith, asked-annotation (row .e) is))
 
     values-of : (R : StoreReady f l i row n out) → columnOf (ledgerOf (R .table)) (R .type) i ≡ fieldValues i nothing (ledgerOf (R .table))
     unfolding columnBy
@@ -109,7 +119,7 @@ module _ {f l : List ℕ} {i : ℕ} {row : FieldRow} {n : ℕ} {out : List ℤ} 
         let all = file-fills f (ledgerOf K) (K .at) i (K .accepted .read) in
         record {
           holds = still-holds K;
-          listed = row-kinds (fldsOf l) i (row .owner) (row .kind) (row .a) (row .e) (K .accepted .steady .listed) (R .there) (R .row-is) .element h;
+          listed = is-single R;
           state = known (ledgerOf K);
           values = fieldValues i nothing (ledgerOf K);
           fills = rw (kind-is R ∙ is-plain R, chunks-are K) at all;

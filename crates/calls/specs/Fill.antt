@@ -11,7 +11,7 @@ use lib.ListN.{length, getD, take, drop, length-append, drop-of-length-le, lengt
 use lib.Seq.{sets, drop-cons}
 use Rattle.paper.specs.Reader.{got, repeat}
 use Rattle.paper.specs.Ledger.{Element, plain, State}
-use Rattle.paper.specs.Rules.{elementKind?}
+use Rattle.paper.specs.Rules.{singleKind?}
 use Rattle.paper.specs.File.{value}
 use Rattle.paper.specs.Places.{Spot}
 use Rattle.paper.specs.Calls.{storedAll, overFront}
@@ -28,7 +28,7 @@ use Rattle.values.specs.Filling.{Fillable, Filled, stored-count, sets-front, se
 
 -- a chunk of the field lies in the file
 pub record ChunkReady (f : List ℕ) (d : ChunkRow) (i k : ℕ) : Type 0 where
-  pub listed : elementKind? k ≡ true
+  pub listed : singleKind? k ≡ true
   pub lies : d .field ≡ i → (d .start ≤ d .end) × (d .end ≤ length f)
 
 -- l has become m, and r is the place behind what was stored
@@ -39,7 +39,7 @@ pub record ChunkStored (f : List ℕ) (d : ChunkRow) (i k : ℕ) (l : List ℤ) 
 -- the values of a field stand at the places that the table has put down, and there is room for them
 pub record ColumnReady (f l : List ℕ) (i k : ℕ) (out : List ℤ) : Type 0 where
   pub holds : Holds f l
-  pub listed : elementKind? k ≡ true
+  pub listed : singleKind? k ≡ true
   pub state : State
   pub values : List ℤ
   pub fills : Fills i (plain k) f state (chunksOf l) values

@@ -19,10 +19,14 @@ use table::rows::field_at;
 use values::columns::fill_constant;
 use values::constants::constant_of;
 
-// The number that a column of a plain kind is asked with: its own, and 32 for all that name a type.
+// The number that a column of a plain kind is asked with: its own, and 32 for all that name a type. Annotations have no column, and
+// nobody can ask with 33.
 fn asked_plain(e: u64) -> u64
     ensures { λ r. ⌜ r ≡ asked (plain e) ⌝ }
 {
+    if e == 5 {
+        return 33;
+    }
     if e < 32 {
         return e;
     }
@@ -36,17 +40,17 @@ fn asked_with(k: u32, e: u64) -> u64
     let plain = asked_plain(e);
     match k {
         0..=4 => k as u64,
-        6 | 7..=10 | 11..=14 => plain,
-        // Arrays have no column: nobody can ask with 33.
+        5..=14 => plain,
+        // Arrays and maps have no column.
         15 => 33,
-        17..=19 => 33,
+        17..=20 => 33,
         32..=4294967295 => plain,
         // No field has such a kind.
-        5 | 16 | 20 | 21..=31 => plain,
+        16 | 21..=31 => plain,
     }
 }
 
-// Whether a column of this kind is given to whoever asks with k. Arrays have none.
+// Whether a column of this kind is given to whoever asks with k. Arrays, maps and annotations have none.
 fn is_asked(kind: FieldRow, k: u64) -> bool
     ensures { λ r. ⌜ r ≡ (eqb k (asked (kindFrom (kind .kind) (kind .a) (kind .e))) && leb k 32) ⌝ }
 {

@@ -24,6 +24,7 @@ use Rattle.laws.specs.Laws.{not-got, bind-inv, bind-got, then-inv, each-inv}
 use Rattle.laws.specs.Bools.{and-split, number-split}
 use Rattle.values.specs.Filling.{repeat-first, repeat-none}
 use Rattle.parse.specs.Answers.{keptNew}
+use Rattle.parse.specs.MapLaws.{repeat-empty}
 
 -- ── one behind the other, each with the ends that it needs ──
 
@@ -102,7 +103,7 @@ unfolding literal
 literal-first b bs t at {u} {e} h = byte-is b t at (then-inv (byteIs b) (literal bs) t at u e h .first)
 
 -- a rule that is kept
-heed-then : {B : Type 0} (b : Bool) (r : Reader B) (t : List ℕ) (at : ℕ) (v : B) (e : ℕ) → (heed b >> r) t at ≡ got v e → (b ≡ true) × (r t at ≡ got v e)
+pub heed-then : {B : Type 0} (b : Bool) (r : Reader B) (t : List ℕ) (at : ℕ) (v : B) (e : ℕ) → (heed b >> r) t at ≡ got v e → (b ≡ true) × (r t at ≡ got v e)
 unfolding heed if_then_else_ _>>_
 heed-then true r t at v e h = (refl, h)
 heed-then false r t at v e h = not-got h
@@ -133,20 +134,10 @@ new-line t at {g} {e} h kept = go (literal oldLine t at) refl
     go (no n p) is = rw (h, kept)
 
 module _ {A : Type 0} (r : Reader A) (t : List ℕ) where
-  pub repeat-length : (n at : ℕ) (l : List A) (e : ℕ) → repeat n r t at ≡ got l e → length l ≡ n
-  repeat-length zero at l e q = rw (repeat-none r t at l e q .0)
-  repeat-length (suc n) at l e q =
-      let F = repeat-first r n t at l e q in
-      rw (F .is) (ap suc (repeat-length n (F .next) (F .more) e (F .rest)))
-
   repeat-cons :
       (n at : ℕ) {a : A} {m : ℕ} {l : List A} {e : ℕ} → r t at ≡ got a m → repeat n r t m ≡ got l e → repeat (suc n) r t at ≡ got (a ∷ l) e
   unfolding repeat times each give _>>=_
   repeat-cons n at h k = rw (h, k)
-
-  repeat-empty : (at : ℕ) → repeat 0 r t at ≡ got [] at
-  unfolding repeat times each give
-  repeat-empty at = refl
 
   repeat-append :
       (n k at : ℕ) (l : List A) (m : ℕ) {l₂ : List A} {e : ℕ} → repeat n r t at ≡ got l m → repeat k r t m ≡ got l₂ e → repeat (n + k) r t at ≡ got (l ++ l₂) e

@@ -18,13 +18,18 @@ use Rattle.lay.specs.Laid.{most, Laid, laid-then, laid-as, Leads, leads-start, 
 use Rattle.values.specs.Filling.{repeat-first, repeat-none}
 use Rattle.table.specs.View.{duesOf}
 use Rattle.words.specs.declared.read.Place.{Place}
-use Rattle.parse.specs.Answers.{keptNew}
+use Rattle.parse.specs.declared.NewLine.{NewLine}
+use Rattle.parse.specs.declared.NewRead.the-variants as new
+use Rattle.parse.specs.Answers.{keptNew, notedNew, NewReads}
+use Rattle.parse.specs.MapLaws.{repeat-length}
+use Rattle.parse.specs.NewLaws.{turned-got, turned-bad}
 use Rattle.fronts.specs.declared.Ends.{Ends}
 use Rattle.fronts.specs.declared.Here.{Here}
 use Rattle.fronts.specs.declared.Put.{Put}
 use Rattle.fronts.specs.declared.Put.the-variants.{To, Bad}
 use Rattle.fronts.specs.Ends.{sum, endsOf, sizes, ends-behind, left, NextEnd}
-use Rattle.fronts.specs.Lines.{needed, written, Listed, oldOr, fieldLine, oneEnd, fieldBytes, one-each, Lines, entryLines, endsOfEntry, entryBytes, allLines, give-inv, repeat-length, entries-read, entries-same, ends-due}
+use Rattle.fronts.specs.Maps.{LineLaid}
+use Rattle.fronts.specs.Lines.{needed, written, Listed, oldOr, fieldLine, oneEnd, fieldBytes, one-each, Lines, entryLines, endsOfEntry, entryBytes, allLines, give-inv, entries-read, entries-same, ends-due}
 
 -- the bytes `w` are laid, the text goes on at `q`, and the ends that come next are `es`
 pub record Went (l : List ℕ) (w : List ℕ) (q : ℕ) (es m : List ℕ) (at : ℕ) (m′ : List ℕ) (r : Here) : Type 0 where
@@ -167,17 +172,25 @@ module _ (l : List ℕ) (h : Here) {e : Ends} (N : NextEnd l (h .ends) e) {m m�
   unfolding fieldLine oldOr fieldBytes
   old-put t read L = field-put t none put (λ x xs. refl) (rw (← read)) L
 
-  pub new-put :
+  new-put :
       (t : List ℕ) → no 20 0 ≡ literal oldLine t (h .next .at) → {g : New} → got g (c .at) ≡ keptNew t (h .next .at)
       → Laid m (h .at) (putNew (g, e .end)) m′ p → Puts fieldLine oneEnd fieldBytes t l h m m′ (To (record { next = c; ends = e; at = p }))
   unfolding fieldLine oldOr fieldBytes
   new-put t not-old {g} read L = field-put t (some g) (λ x. putNew (g, x)) (λ x xs. refl) (rw (← not-old, ← read)) L
 
+  -- by what its line says
+  pub line-put :
+      (t : List ℕ) → no 20 0 ≡ literal oldLine t (h .next .at) → {x : NewLine} → NewReads t (h .next .at) (new.Got x c)
+      → LineLaid t (h .next .at) (x .k) (x .a) (x .e) (x .name) (e .end) m (h .at) m′ p → Puts fieldLine oneEnd fieldBytes t l h m m′ (To (record { next = c; ends = e; at = p }))
+  line-put t not-old R L =
+      let B = turned-got notedNew (keptNew t (h .next .at)) (R .says) in
+      new-put t not-old (B .first) (L .laid (B .value) (c .at) (sym (B .first)) (B .is))
+
 pub no-put :
-    {t l : List ℕ} {h : Here} {m m′ : List ℕ} {r : Put} → no 20 0 ≡ literal oldLine t (h .next .at) → no 20 0 ≡ keptNew t (h .next .at)
+    {t l : List ℕ} {h : Here} {m m′ : List ℕ} {r : Put} → no 20 0 ≡ literal oldLine t (h .next .at) → NewReads t (h .next .at) new.Bad
     → Puts fieldLine oneEnd fieldBytes t l h m m′ r
 unfolding fieldLine oldOr
-no-put not-old read = puts-none (λ f q r. not-got (rw (← not-old, ← read) at r))
+no-put {t} {l} {h} not-old R = let read = turned-bad notedNew (keptNew t (h .next .at)) (R .says) in puts-none (λ f q r. not-got (rw (← not-old, ← read) at r))
 
 -- ── an entry ──
 

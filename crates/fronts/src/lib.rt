@@ -14,8 +14,11 @@ ghost use Rattle.lay.specs.Laid.{Laid};
 ghost use Rattle.table.specs.View.{duesOf, Ok};
 ghost use Rattle.fronts.specs.Ends.{sum, endsOf, NextEnd};
 ghost use Rattle.fronts.specs.Lines.{needed, written, fieldLine, oneEnd, fieldBytes, entryLines, endsOfEntry, entryBytes};
+ghost use Rattle.fronts.specs.Maps.{LineLaid};
 ghost use Rattle.fronts.specs.Puts.{Puts};
+use crate::maps::put_map;
 use numbers::write::put_v64;
+use parse::NewLine;
 use parse::NewRead;
 use parse::TypeRead;
 use parse::new_line;
@@ -26,6 +29,8 @@ use table::rows::due_at;
 use table::rows::dues;
 use words::read::Place;
 use words::read::Step;
+
+pub mod maps;
 
 // 2 ^ 64 - 1
 const MOST: u64 = 18446744073709551615;
@@ -69,6 +74,16 @@ fn next_end(work: &[u32], e: Ends) -> Ends
     e
 }
 
+// The new field whose line begins at p and says this.
+fn put_line(text: &[u8], p: Place, line: NewLine, end: u64, out: &mut [u8], at: usize) -> usize
+    ensures { λ r. ⌜ LineLaid (now (text .entry)) (p .at) (line .k) (line .a) (line .e) (line .name) end (now (out .entry)) at (now (out .exit)) r ⌝ }
+{
+    if line.k == 20 {
+        return put_map(text, p, line.a, line.name, end, out, at);
+    }
+    put_new(out, at, line.k, line.a, line.e, line.name, end)
+}
+
 // The field whose line comes next, with its chunk's end: of a known field the end is all.
 fn put_field(text: &[u8], work: &[u32], h: Here, out: &mut [u8]) -> Put
     requires { ⌜ Ok (now work) ⌝ }
@@ -84,7 +99,7 @@ fn put_field(text: &[u8], work: &[u32], h: Here, out: &mut [u8]) -> Put
     let NewRead::Got(line, next) = new_line(text, p) else {
         return Put::Bad;
     };
-    let at = put_new(out, h.at, line.k, line.a, line.e, line.name, ends.end);
+    let at = put_line(text, p, line, ends.end, out, h.at);
     Put::To(Here { next, ends, at })
 }
 

@@ -1,5 +1,5 @@
 -- The ways out of reading new fields from a text, on plain values: one field, and a turn of the loop over all. Assumes nothing.
-use mathlib.Core.Path.{_≡_, refl, sym, ap, _∙_}
+use mathlib.Core.Path.{_≡_, refl, sym, ap, subst, _∙_}
 use mathlib.Core.Bool.{Bool, true, false, _&&_}
 use mathlib.Core.List.{List, [], _∷_}
 use Prim.Native.Nat.{ℕ, _+_, _-_, _≤_, _<_}
@@ -9,18 +9,19 @@ use borrow.Author.Tests.{leb-true}
 use Rattle.paper.specs.Reader.{if_then_else_, Out, got, no, andThen, turned, _>>=_, _>>_, give, times}
 use Rattle.paper.specs.Lists.{fold}
 use Rattle.paper.specs.Ledger.{New, State, aString?}
-use Rattle.paper.specs.Rules.{fieldNameRules, afterNew}
+use Rattle.paper.specs.Rules.{fieldNameRules, noted, afterNew}
 use Rattle.paper.specs.Keeps.{number?, kindKept?, new-field?}
 use Rattle.paper.specs.Scan.{heed, readNew, newText}
 use Rattle.laws.specs.Bools.{and-split, number-split}
 use Rattle.words.specs.declared.read.Place.{Place}
 use Rattle.words.specs.declared.read.Step.{Step}
 use Rattle.words.specs.declared.read.Step.the-variants.{To, Bad}
-use Rattle.table.specs.View.{kindFrom, strsOf, fldsOf, view, Holds, Said, said, stringsIn, fieldsIn}
+use Rattle.table.specs.View.{kindFrom, strsOf, fldsOf, view, Holds, Said, said, Now, stringsIn, fieldsIn}
 use Rattle.parse.specs.declared.NewLine.{NewLine}
 use Rattle.parse.specs.declared.NewRead.{NewRead}
 use Rattle.parse.specs.declared.NewRead.the-variants as new
-use Rattle.parse.specs.Answers.{keptNew, NewReads}
+use Rattle.parse.specs.Answers.{keptNew, notedNew, NewReads}
+use Rattle.parse.specs.NewLaws.{Before, turned-got, turned-bad}
 use Rattle.reader.specs.Sound.{Open}
 use Rattle.reader.specs.Fields.{addNew, FieldAdded}
 use Rattle.reader.specs.Runs.{runs-stop, runs-step}
@@ -39,7 +40,7 @@ name-held {f} {l} h t {n} k =
 
 -- so a row of the table has room for its kind
 pub new-first : {f : List ℕ} {at : ℕ} {a : NewRead} → NewReads f at a → {x : NewLine} {c : Place} → a ≡ new.Got x c → x .k ≤ 32
-new-first line is = (rw is at line) .told .first
+new-first line is = (rw is at line) .told
 
 -- the line, whose kind keeps its rules, and then the rules of the name
 new-is : (t : ℕ) (s : State) (f : List ℕ) (at : ℕ) → newText t s f at ≡ andThen (keptNew f at) (λ g e. if number? (fieldNameRules t s) (g .name) then got g e else no 20 0)
@@ -66,7 +67,7 @@ new-is t s f at = go (readNew f at)
 
 fields-more : (t n : ℕ) (s : Said) (x : New) → length (addText t n s x .state .fields) ≡ length (s .state .fields) + 1
 unfolding addText addNew afterNew
-fields-more t n s x = length-append (s .state .fields) (record { owner = t; kind = x .kind } ∷ [])
+fields-more t n s x = length-append (s .state .fields) (record { owner = t; kind = noted (x .kind) } ∷ [])
 
 module _ {f l : List ℕ} (h : Holds f l) (t n : ℕ) {at : ℕ} {a : NewRead} (line : NewReads f at a) where
   step-is : newStep t n (said f l) f at ≡ turned (addText t n (said f l)) (andThen (keptNew f at) (λ g e. if number? (fieldNameRules t (view f l)) (g .name) then got g e else no 20 0))
@@ -75,36 +76,39 @@ module _ {f l : List ℕ} (h : Holds f l) (t n : ℕ) {at : ℕ} {a : NewRead} (
 
   pub new-unread : a ≡ new.Bad → Stepped f l t Bad (newStep t n (said f l) f at)
   new-unread is =
-      let L = rw is at line in
-      record { holds = h; says = sym (step-is ∙ rw (← L .says)); still-open = tt }
+      let unread = turned-bad notedNew (keptNew f at) ((rw is at line) .says) in
+      record { holds = h; says = sym (step-is ∙ rw (← unread)); still-open = tt }
 
   module _ {x : NewLine} {c : Place} (is : a ≡ new.Got x c) where
-    read : New
-    read = record { kind = kindFrom (x .k) (x .a) (x .e); name = x .name }
+    -- the field that was read, of whose kind the line says what is kept
+    read : Before notedNew (keptNew f at) (record { kind = kindFrom (x .k) (x .a) (x .e); name = x .name }) (c .at)
+    read = turned-got notedNew (keptNew f at) ((rw is at line) .says)
+
+    called : x .name ≡ read .value .name
+    called = ap (λ (g : New). g .name) (read .is)
 
     pub new-unnamed : number? (fieldNameRules t (view f l)) (x .name) ≡ false → Stepped f l t Bad (newStep t n (said f l) f at)
     unfolding if_then_else_
-    new-unnamed broken =
-        let L = rw is at line in
-        record { holds = h; says = sym (step-is ∙ rw (← L .says, broken)); still-open = tt }
+    new-unnamed broken = record { holds = h; says = sym (step-is ∙ rw (← read .first, ← called, broken)); still-open = tt }
 
     module _ (kept : number? (fieldNameRules t (view f l)) (x .name) ≡ true) {l′ : List ℕ} (added : FieldAdded t n (x .name) (record { first = x .k; bits = x .a; last = x .e }) 0 l l′) where
-      got-is : newStep t n (said f l) f at ≡ got (addText t n (said f l) read) (c .at)
-      unfolding if_then_else_ read
-      got-is = let L = rw is at line in step-is ∙ rw (← L .says, kept)
+      got-is : newStep t n (said f l) f at ≡ got (addText t n (said f l) (read .value)) (c .at)
+      unfolding if_then_else_
+      got-is = step-is ∙ rw (← read .first, ← called, kept)
 
-      now-says : said f l′ ≡ addText t n (said f l) read
-      unfolding addText read
-      now-says = added .says f h .says
+      now-says : Now f l′ (addNew t n (said f l) (read .value) 0)
+      now-says =
+          let whole : record { kind = read .value .kind; name = x .name } ≡ read .value = λ i. record { kind = read .value .kind; name = called i } in
+          subst (λ (g : New). Now f l′ (addNew t n (said f l) g 0)) whole (added .says f h (read .value .kind) (sym (ap (λ (g : New). g .kind) (read .is))))
 
       pub new-got : {i : ℕ} → Open (said f l) t i → fieldsIn l < 128 → Stepped f l′ t (To c) (newStep t n (said f l) f at)
-      unfolding read
+      unfolding addText
       new-got o room =
-          let more : length (fldsOf l′) ≡ length (fldsOf l) + 1 = ap (λ (s : Said). length (s .state .fields)) now-says ∙ fields-more t n (said f l) read in
+          let more : length (fldsOf l′) ≡ length (fldsOf l) + 1 = ap (λ (s : Said). length (s .state .fields)) (now-says .says) ∙ fields-more t n (said f l) (read .value) in
           record {
-            holds = added .says f h .holds;
-            says = ap (λ (s : Said). got s (c .at)) now-says ∙ sym got-is;
-            still-open = rw more (open-due h o room n 0 read (added .says f h));
+            holds = now-says .holds;
+            says = ap (λ (s : Said). got s (c .at)) (now-says .says) ∙ sym got-is;
+            still-open = rw more (open-due h o room n 0 (read .value) now-says);
           }
 
 -- ── all of them ──

@@ -11,9 +11,9 @@ use lib.Dec.{eqb}
 use lib.ListN.{length, getD, drop, length-append, List·getD-eq-default}
 use lib.Seq.{drop-cons, getD-drop, take-append-seam}
 use borrow.Author.Tests.{eqb-true, eq-eqb, ne-eqb, ltb-true}
-use Rattle.paper.specs.Reader.{if_then_else_, Reader, Out, got, no as refused, _>>=_, _>>_, give}
+use Rattle.paper.specs.Reader.{if_then_else_, Reader, Out, got, no as refused, _>>=_, _>>_, give, each, times, repeat}
 use Rattle.paper.specs.Keeps.{bytes?}
-use Rattle.paper.specs.Lists.{all}
+use Rattle.paper.specs.Lists.{all, flat}
 use Rattle.paper.specs.Scan.{bad, heed, byteIs, literal, ended}
 use Rattle.laws.specs.Laws.{not-got}
 use Rattle.laws.specs.Says.{Bytes, Says, Said, weaker, give-says, bind-says, then-says}
@@ -149,6 +149,9 @@ Stops rest = getD rest 0 256 < 48
 pub takes-before : {A : Type 0} (F : List ℕ → Type 0) {r : Reader A} {cs : List ℕ} {v : A} → Takes r cs v → TakesBefore F r cs v
 takes-before F R = record { bytes = R .bytes; at = λ f p rest h s q. R .at f p rest h q }
 
+pub before-takes : {A : Type 0} {r : Reader A} {cs : List ℕ} {v : A} → TakesBefore (λ rest. Unit {0}) r cs v → Takes r cs v
+before-takes R = record { bytes = R .bytes; at = λ f p rest h q. R .at f p rest h tt q }
+
 pub before-as : {A : Type 0} {F : List ℕ → Type 0} {r : Reader A} {cs ds : List ℕ} {v : A} → cs ≡ ds → TakesBefore F r cs v → TakesBefore F r ds v
 before-as q t = rw (← q) t
 
@@ -241,3 +244,17 @@ peek-before-no b r {q} {cs} {v} n Q =
       bytes = Q .bytes;
       at = λ f p rest h s g. peek-no b r q f p (ne-eqb (getD f p 256) b (λ z. n rest s (sym (first-of f p _ g) ∙ z))) ∙ Q .at f p rest h s g;
     }
+
+-- one after the other, each of which begins as F says
+pub repeat-before :
+    {A : Type 0} (F : List ℕ → Type 0) {r : Reader A} (w : A → List ℕ) → ((a : A) (rest : List ℕ) → F (w a ++ rest)) → (ok : A → Bool)
+    → ((a : A) → ok a ≡ true → TakesBefore F r (w a) a) → (l : List A) → all ok l ≡ true → TakesBefore F (repeat (length l) r) (flat w l) l
+unfolding repeat times each flat all
+repeat-before F w s ok R [] h = takes-before F (give-takes [])
+repeat-before {A} F w s ok R (a ∷ l) h =
+    let (x, y) = and-split (ok a) (all ok l) h in
+    bind-before _ (R a x) (turn-before (λ v. a ∷ v) (repeat-before F w s ok R l y)) (stops l)
+  where
+    stops : (l : List A) (rest : List ℕ) → F rest → F (flat w l ++ rest)
+    stops [] rest t = t
+    stops (b ∷ l) rest t = rw (append-assoc (w b) (flat w l) rest) (s b (flat w l ++ rest))

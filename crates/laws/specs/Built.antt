@@ -11,11 +11,11 @@ use borrow.Author.Tests.{leb-true, eqb-true, eq-eqb}
 use Rattle.paper.specs.Reader.{Reader, got, _>>=_, _>>_, give, times, Rule}
 use Rattle.paper.specs.Bounds.{mostPairs}
 use Rattle.paper.specs.Lists.{all, flat, given?, or}
-use Rattle.paper.specs.Ledger.{Kind, constant, plain, array, many, Element, Entry, Chunk, Pair, Ledger, Due, State, nothing, fieldAt}
+use Rattle.paper.specs.Ledger.{mapping, Kind, constant, plain, array, many, Element, Entry, Chunk, Pair, Ledger, Due, State, nothing, fieldAt}
 use Rattle.paper.specs.Rules.{smallRules, stringsRules, withStrings, new?, typeOf, typeNameRules, superNameRules, superOf, countRules, afterHead, knownDue, fieldCountRules, fieldNameRules, afterNew, afterEntry, dues, afterFront, afterPair}
 use Rattle.paper.specs.Listing.{ascii, line, pairLine, stringLine, oldLine, newLine, valueLine, printEntry, printEntries, printChunk, printPair, printPairs, print}
 use Rattle.paper.specs.Keeps.{inTurn, number?, only?, bytes?, head?, kindKept?, new-field?, entry?, element?, value?, chunk?, chunks?, pair?}
-use Rattle.paper.specs.Scan.{bad, heed, literal, readString, newText, entryText, elementsKind, valueText, chunkText, pairText, scan}
+use Rattle.paper.specs.Scan.{bad, heed, literal, readString, newText, entryText, readLine, valueText, chunkText, pairText, scan}
 use Rattle.laws.specs.Says.{Bytes, Says, weaker, give-says, bind-says, then-says, each-says, Run}
 use Rattle.laws.specs.Takes.{Takes, takes-as, give-takes, bind-takes, then-takes, each-takes, written, written-flat, All₂}
 use Rattle.laws.specs.Bools.{not-so, and-split, and-join, every-split, every-join, number-split}
@@ -23,9 +23,9 @@ use Rattle.laws.specs.Values.{Kept, Taken, repeat-kept, repeat-taken}
 use Rattle.laws.specs.ToEnd.{whole-kept, whole-taken, whole-bytes}
 use Rattle.laws.specs.Before.{heed-says, heed-takes, bad-never}
 use Rattle.laws.specs.Words.{Fits}
-use Rattle.laws.specs.Lines.{pair-says, pair-takes, string-kept, string-taken, type-says, type-takes, old-says, old-takes, new-says, new-takes, value-says, value-takes}
+use Rattle.laws.specs.Lines.{pair-says, pair-takes, string-kept, string-taken, type-says, type-takes, old-says, old-takes, new-says, new-takes, value-says, value-takes, map-line-says, map-line-takes}
 use Rattle.laws.specs.Turns.{times-kept, times-taken, turn-also}
-use Rattle.laws.specs.Arrays.{short-arrays?, nothing-short, front-short, pair-short, value-short}
+use Rattle.laws.specs.Arrays.{short-arrays?, nothing-short, front-short, pair-short, short?, row?, kind-short, field-kind-short}
 
 -- ── a line and its rule ──
 
@@ -117,24 +117,33 @@ entries-kept n s = weaker _ (λ es cs k. (sym (entries-written s es) ∙ k .0, k
 
 -- ── chunks ──
 
+line-says : (k : Kind) → Says (readLine k) (λ es cs. valueLine es ≡ cs)
+unfolding readLine
+line-says (constant k v) = value-says 0
+line-says (plain k) = value-says k
+line-says (array n k) = value-says k
+line-says (many c k) = value-says k
+line-says (mapping ks) = map-line-says ks
+
 chunk-kept : (s : State) (d : Due) → Kept (chunkText s d) printChunk (chunk? s d)
 unfolding chunkText printChunk chunk? valueText
 chunk-kept s d =
     let k = fieldAt s (d .field) .kind in
     weaker _ (λ c cs p. (p .0, and-join (eq-eqb (length c) (d .values) (p .1)) (p .2)))
-    (repeat-kept _ valueLine (value? s k) (heeded-kept valueLine (value? s k) (value-says (elementsKind k))) (d .values))
+    (repeat-kept _ valueLine (value? s k) (heeded-kept valueLine (value? s k) (line-says k)) (d .values))
 
 no-elements : (ok : Element → Bool) (l : List Element) → length l ≡ 0 → all ok l ≡ true
 unfolding all
 no-elements ok [] h = refl
 no-elements ok (a ∷ l) h = absurd (omega arith)
 
-value-elements : (s : State) (k : Kind) (es : List Element) → value? s k es ≡ true → all (element? s (elementsKind k)) es ≡ true
-unfolding value? elementsKind
-value-elements s (constant k v) es h = no-elements (element? s 0) es (eqb-true (length es) 0 h)
-value-elements s (plain k) es h = and-split (eqb (length es) 1) _ h .1
-value-elements s (array n k) es h = and-split (eqb (length es) n) _ h .1
-value-elements s (many c k) es h = and-split (number? smallRules (length es)) _ h .1
+line-taken : (s : State) (k : Kind) (es : List Element) → short? k ≡ true → value? s k es ≡ true → Takes (readLine k) (valueLine es) es
+unfolding readLine value? row?
+line-taken s (constant k v) es i h = value-takes s 0 es (no-elements (element? s 0) es (eqb-true (length es) 0 h)) (kind-short s (constant k v) es refl i h)
+line-taken s (plain k) es i h = value-takes s k es (and-split (eqb (length es) 1) _ h .1) (kind-short s (plain k) es refl i h)
+line-taken s (array n k) es i h = value-takes s k es (and-split (eqb (length es) n) _ h .1) (kind-short s (array n k) es refl i h)
+line-taken s (many c k) es i h = value-takes s k es (and-split (number? smallRules (length es)) _ h .1) (kind-short s (many c k) es refl i h)
+line-taken s (mapping ks) es i h = map-line-takes s ks es h
 
 chunk-taken : (s : State) → short-arrays? s ≡ true → (d : Due) → Taken (chunkText s d) printChunk (chunk? s d)
 unfolding chunkText printChunk chunk? valueText
@@ -142,7 +151,7 @@ chunk-taken s i d c h =
     let k = fieldAt s (d .field) .kind in
     let (a, b) = and-split (eqb (length c) (d .values)) (all (value? s k) c) h in
     repeat-taken _ valueLine (value? s k)
-    (λ es v. heeded-taken (value? s k) v (value-takes s (elementsKind k) es (value-elements s k es v) (value-short s (d .field) es i v))) (d .values) c
+    (λ es v. heeded-taken (value? s k) v (line-taken s k es (field-kind-short s (d .field) i) v)) (d .values) c
     (eqb-true (length c) (d .values) a) b
 
 run-chunks :

@@ -10,7 +10,7 @@ use lib.Dec.{leb, ltb, eqb}
 use lib.IntN.{ℤ, pos, negsuc}
 use lib.ListN.{length, getD, replicate, replicate-append-replicate, List·getD-append, length-append}
 use Rattle.paper.specs.Reader.{if_then_else_, Out, got, no}
-use Rattle.paper.specs.Ledger.{Kind, constant, plain, array, many, New, Head, Entry, Chunk, Pair, Ledger, Typ, Field, Range, State, nothing, typeNamed, fieldNamed, fieldAt, noField, objectsOf, of?, size, called?}
+use Rattle.paper.specs.Ledger.{mapping, Kind, constant, plain, array, many, New, Head, Entry, Chunk, Pair, Ledger, Typ, Field, Range, State, nothing, typeNamed, fieldNamed, fieldAt, noField, objectsOf, of?, size, called?}
 use Rattle.paper.specs.Lists.{same, place, total, fold, placeNamed}
 use Rattle.paper.specs.Rules.{withStrings, newType, newRange, afterHead, afterNew, afterEntry, dues, closed, afterFront, afterPair, newName}
 use Rattle.paper.specs.File.{file}
@@ -196,6 +196,7 @@ by-longer (constant k v) l m t i =
 by-longer (plain k) l m t i = record { rest = fieldValues i (fold afterPair nothing l) m; is = values-append i nothing l m }
 by-longer (array n k) l m t i = begins-refl []
 by-longer (many c k) l m t i = begins-refl []
+by-longer (mapping ks) l m t i = begins-refl []
 
 column-longer : (l m : Ledger) (t i : ℕ) → fieldAt (known (l ++ m)) i ≡ fieldAt (known l) i → Begins (columnOf l t i) (columnOf (l ++ m) t i)
 unfolding columnOf

@@ -11,9 +11,9 @@ use lib.ListN.{length, getD, length-append, length-map, List·getD-append}
 use lib.Seq.{getD-append-add}
 use borrow.Author.Tests.{eqb-true, eqb-false, eq-eqb, ne-eqb}
 use Rattle.paper.specs.Reader.{if_then_else_, Out, got}
-use Rattle.paper.specs.Ledger.{Kind, constant, plain, array, many, New, Head, Entry, Field, Range, Due, Chunk, Pair, Ledger, State, nothing, fieldAt, noField, fieldsOf, objectsOf, text, of?, size, owns?}
+use Rattle.paper.specs.Ledger.{mapping, Kind, constant, plain, array, many, New, Head, Entry, Field, Range, Due, Chunk, Pair, Ledger, State, nothing, fieldAt, noField, fieldsOf, objectsOf, text, of?, size, owns?}
 use Rattle.paper.specs.Lists.{fold, total, places}
-use Rattle.paper.specs.Rules.{typeOf, newRange, afterHead, knownDue, afterNew, afterEntry, valuesDue, oldDue, newDues, entryDues, dues, withStrings, afterFront, closed, afterPair}
+use Rattle.paper.specs.Rules.{typeOf, newRange, afterHead, knownDue, noted, afterNew, afterEntry, valuesDue, oldDue, newDues, entryDues, dues, withStrings, afterFront, closed, afterPair}
 use Rattle.paper.specs.Keeps.{every, inTurn, chunk?, chunks?, pair?, keeps?}
 use Rattle.laws.specs.Bools.{not-so, and-split, every-split}
 use Rattle.laws.specs.Columns.{total-append}
@@ -40,6 +40,7 @@ movable (constant k v) = false
 movable (plain k) = true
 movable (array n k) = true
 movable (many c k) = true
+movable (mapping ks) = true
 
 due-movable : (k : Kind) (n : ℕ) → movable k ≡ true → valuesDue k n ≡ n
 unfolding valuesDue
@@ -47,6 +48,7 @@ due-movable (constant k v) n h = not-so h
 due-movable (plain k) n h = refl
 due-movable (array l k) n h = refl
 due-movable (many c k) n h = refl
+due-movable (mapping ks) n h = refl
 
 owed-append : (j : ℕ) (ds es : List Due) → owed j (ds ++ es) ≡ owed j ds + owed j es
 unfolding owed
@@ -171,7 +173,7 @@ known-behind s h j le = go (eqb (h .count) 0)
 -- ── new fields ──
 
 unfoldable pub made : ℕ → New → Field
-made t g = record { owner = t; kind = g .kind }
+made t g = record { owner = t; kind = noted (g .kind) }
 
 news-below : (n : ℕ) (gs : List New) (i j : ℕ) → j < i → owed j (newDues i n gs) ≡ 0
 unfolding owed sum newDues if_then_else_
@@ -183,10 +185,18 @@ unfolding owed sum newDues if_then_else_
 news-behind n [] i j h = refl
 news-behind n (g ∷ gs) i j h = rw (ne-eqb i j (λ e. omega arith)) (omega (arith, news-behind n gs (suc i) j (omega arith)))
 
+pub noted-due : (k : Kind) (n : ℕ) → valuesDue (noted k) n ≡ valuesDue k n
+unfolding noted valuesDue
+noted-due (constant k v) n = refl
+noted-due (plain k) n = refl
+noted-due (array l k) n = refl
+noted-due (many c k) n = refl
+noted-due (mapping ks) n = refl
+
 news-at : (t n : ℕ) (gs : List New) (i k : ℕ) → k < length gs → owed (i + k) (newDues i n gs) ≡ valuesDue (getD (map (made t) gs) k noField .kind) n
 unfolding owed sum newDues if_then_else_ made
 news-at t n [] i k h = absurd (omega arith)
-news-at t n (g ∷ gs) i zero h = rw (add-zero, eq-eqb i i refl) (omega (arith, news-below n gs (suc i) i (omega arith)))
+news-at t n (g ∷ gs) i zero h = rw (add-zero, eq-eqb i i refl) (omega (arith, noted-due (g .kind) n, news-below n gs (suc i) i (omega arith)))
 news-at t n (g ∷ gs) i (suc k) h =
     rw (add-suc, ← suc-add i k, ne-eqb i (suc i + k) (λ e. omega arith)) (zero-add _ ∙ news-at t n gs (suc i) k (omega arith))
 

@@ -13,7 +13,7 @@ use lib.ListN.{length, getD, take, drop, length-append, length-take, length-drop
 use lib.Seq.{getD-take, getD-drop}
 use borrow.Author.Tests.{leb-true, leb-false, eqb-true, ne-eqb, eqb-false, lt-leb, le-leb, le-ltb}
 use Rattle.paper.specs.Reader.{if_then_else_, Reader, Out, got, no, _>>=_, _>>_, give, Rule, _orNo_, each, times, within, part, refuse, toEnd}
-use Rattle.paper.specs.Ledger.{Kind, constant, plain, array, many, Chunk, Pair, Ledger, Due, State, nothing, fieldAt, typeNamed, fieldNamed, objectsOf}
+use Rattle.paper.specs.Ledger.{mapping, Kind, constant, plain, array, many, Chunk, Pair, Ledger, Due, State, nothing, fieldAt, typeNamed, fieldNamed, objectsOf}
 use Rattle.paper.specs.Lists.{fold, any, lastOr}
 use Rattle.paper.specs.Bounds.{mostPairs}
 use Rattle.paper.specs.Rules.{withStrings, kindsStand?, anyType, dues, afterFront, closed, afterPair}
@@ -423,6 +423,7 @@ module _ (i j : ℕ) (ne : j ≡ i → ⊥) where
   by-alike (plain k) l l′ t e a = values-alike nothing l l′ a
   by-alike (array n k) l l′ t e a = refl
   by-alike (many c k) l l′ t e a = refl
+  by-alike (mapping ks) l l′ t e a = refl
 
   -- two accepted files that differ only inside the chunks of field i have the same column of every other field
   pub columns-alike :

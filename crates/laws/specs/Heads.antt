@@ -11,11 +11,11 @@ use lib.IntN.{ℤ, pos, negsuc}
 use lib.ListN.{length, getD, take, drop, replicate, length-replicate, length-append, length-take, length-drop, take-append-drop}
 use lib.Seq.{take-append-seam, drop-append-seam, take-at, drop-at}
 use borrow.Author.Tests.{leb-true, leb-false, le-leb, lt-leb, eqb-true, eq-eqb, ne-eqb, ltb-true, ltb-false, lt-ltb, le-ltb, not-true}
-use Rattle.paper.specs.Reader.{if_then_else_, Reader, Out, got, no, _>>=_, give, must, Rule, _orNo_, bytes, each, times, only}
+use Rattle.paper.specs.Reader.{if_then_else_, Reader, Out, got, no, _>>=_, give, must, Rule, _orNo_, bytes, each, times, repeat, only}
 use Rattle.paper.specs.Numbers.{fixed, putFixed, v64, putV64, number, put}
-use Rattle.paper.specs.Ledger.{Kind, constant, plain, array, many, Head, State}
+use Rattle.paper.specs.Ledger.{mapping, Kind, constant, plain, array, many, Head, State}
 use Rattle.paper.specs.Lists.{all, given?, or, lastOr, flat}
-use Rattle.paper.specs.Rules.{smallRules, stringsRules, new?, superOf, typeNameRules, superNameRules, countRules, elementKind?, kind?, kindRules, elementKindRules, anyType, restrictionRules, endRules, typeOf}
+use Rattle.paper.specs.Rules.{typesRules, smallRules, stringsRules, new?, superOf, typeNameRules, superNameRules, countRules, singleKind?, elementKind?, kind?, kindRules, elementKindRules, anyType, restrictionRules, endRules, typeOf}
 use Rattle.paper.specs.File.{small, cut, stringEnd, stringBlock, restrictions, head, wholeOf, kind}
 use Rattle.paper.specs.Encode.{putOption, putWhole, putKind, putHead, endsFrom, putStrings}
 use Rattle.paper.specs.Keeps.{every, number?, only?, bytes?, head?, whole?, kindKept?}
@@ -24,7 +24,7 @@ use Rattle.laws.specs.Spelt.{fixed-says}
 use Rattle.laws.specs.Takes.{Takes, takes-as, takes-is, give-takes, bind-takes, must-takes, if-takes-true, if-takes-false, only-takes-some, only-takes-none, bytes-takes, times-takes, written, written-flat, All₁, bytes-append}
 use Rattle.laws.specs.Codes.{fixed-takes, number-takes}
 use Rattle.laws.specs.Bools.{not-so, and-split, and-join, every-split, every-join, number-split, number-join}
-use Rattle.laws.specs.Values.{Kept, Taken, number-kept, number-taken, whole-kept, whole-taken}
+use Rattle.laws.specs.Values.{repeat-kept, repeat-taken, Kept, Taken, number-kept, number-taken, whole-kept, whole-taken}
 
 -- ── only if due ──
 
@@ -97,19 +97,19 @@ head-taken s h k =
 
 -- ── kinds ──
 
-plain-kind : (k : ℕ) → kind? k ≡ true → leb k 4 ≡ false → eqb k 15 ≡ false → (leb 17 k && leb k 19) ≡ false → elementKind? k ≡ true
+plain-kind : (k : ℕ) → kind? k ≡ true → leb k 4 ≡ false → eqb k 15 ≡ false → (leb 17 k && leb k 19) ≡ false → eqb k 20 ≡ false → elementKind? k ≡ true
 unfolding kind?
-plain-kind k h t₁ t₂ t₃ = go (elementKind? k) (rw (t₁, t₂, t₃) at h)
+plain-kind k h t₁ t₂ t₃ t₄ = go (elementKind? k) (rw (t₁, t₂, t₃, t₄) at h)
   where
-    go : (b : Bool) → (b || false || false) ≡ true → b ≡ true
+    go : (b : Bool) → (b || false || false || false) ≡ true → b ≡ true
     go true h = refl
     go false h = h
 
-plain-held : (k : ℕ) → number? (kindRules anyType) k ≡ true → leb k 4 ≡ false → eqb k 15 ≡ false → (leb 17 k && leb k 19) ≡ false → number? (elementKindRules anyType) k ≡ true
+plain-held : (k : ℕ) → number? (kindRules anyType) k ≡ true → leb k 4 ≡ false → eqb k 15 ≡ false → (leb 17 k && leb k 19) ≡ false → eqb k 20 ≡ false → number? (elementKindRules anyType) k ≡ true
 unfolding kindRules elementKindRules
-plain-held k h t₁ t₂ t₃ =
+plain-held k h t₁ t₂ t₃ t₄ =
     let s = number-split (kindRules anyType) k h in
-    number-join (elementKindRules anyType) k (s .0) (plain-kind k (s .1 .0) t₁ t₂ t₃, (refl, tt))
+    number-join (elementKindRules anyType) k (s .0) (plain-kind k (s .1 .0) t₁ t₂ t₃ t₄, (refl, tt))
 
 pub kind-kept : Kept (kind anyType) putKind kindKept?
 unfolding kind putKind kindKept? small
@@ -122,51 +122,64 @@ kind-kept =
     (rw (append-nil, ← eqb-true k 15 t, p .0, q .0, r .0) (append-assoc cs ds es), and-join (q .1) (r .1)))
     λ t₂. if-says (leb 17 k && leb k 19)
     (λ t. bind-says _ (number-kept (elementKindRules anyType)) λ e ds q. give-says (many k e) _ (rw (append-nil, p .0, q .0), and-join t (q .1)))
-    λ t₃. give-says (plain k) _ (rw append-nil (p .0), plain-held k (p .1) t₁ t₂ t₃)
+    λ t₃. if-says (eqb k 20)
+    (λ t.
+    bind-says _ (number-kept typesRules) λ n ds q. bind-says _ (repeat-kept _ put (number? (elementKindRules anyType)) (number-kept (elementKindRules anyType)) n) λ ks es r. give-says (mapping ks) _
+    (rw (append-nil, ← eqb-true k 20 t, p .0, r .1, q .0, r .0) (append-assoc cs ds es), rw (r .1) (and-join (q .1) (r .2))))
+    λ t₄. give-says (plain k) _ (rw append-nil (p .0), plain-held k (p .1) t₁ t₂ t₃ t₄)
 
 -- an element kind is none of the others
 pub record Apart (k : ℕ) : Type 0 where
   pub low : leb k 4 ≡ false
   pub fixed? : eqb k 15 ≡ false
   pub listed : (leb 17 k && leb k 19) ≡ false
+  pub map? : eqb k 20 ≡ false
 
 pub apart : (k : ℕ) → elementKind? k ≡ true → Apart k
-unfolding elementKind?
-apart k h = go (leb 6 k) refl (leb k 14) refl (leb 32 k) refl h
+unfolding elementKind? singleKind?
+apart k h = by (eqb k 5) refl h
   where
     go : (a : Bool) → leb 6 k ≡ a → (b : Bool) → leb k 14 ≡ b → (c : Bool) → leb 32 k ≡ c → (a && b || c) ≡ true → Apart k
     go true a true b c c′ h =
         let ge = leb-true 6 k a in
         let le = leb-true k 14 b in
-        record { low = lt-leb k 4 (omega arith); fixed? = ne-eqb k 15 (λ e. omega arith); listed = rw (lt-leb 17 k (omega arith)) }
+        record { low = lt-leb k 4 (omega arith); fixed? = ne-eqb k 15 (λ e. omega arith); listed = rw (lt-leb 17 k (omega arith)); map? = ne-eqb k 20 (λ e. omega arith) }
     go true a false b true c h = far (leb-true 32 k c)
       where
         far : 32 ≤ k → Apart k
         far ge =
-            record { low = lt-leb k 4 (omega arith); fixed? = ne-eqb k 15 (λ e. omega arith); listed = rw (le-leb 17 k (omega arith), lt-leb k 19 (omega arith)) }
+            record { low = lt-leb k 4 (omega arith); fixed? = ne-eqb k 15 (λ e. omega arith); listed = rw (le-leb 17 k (omega arith), lt-leb k 19 (omega arith)); map? = ne-eqb k 20 (λ e. omega arith) }
     go true a false b false c h = not-so h
     go false a b b′ true c h =
         let ge = leb-true 32 k c in
-        record { low = lt-leb k 4 (omega arith); fixed? = ne-eqb k 15 (λ e. omega arith); listed = rw (le-leb 17 k (omega arith), lt-leb k 19 (omega arith)) }
+        record { low = lt-leb k 4 (omega arith); fixed? = ne-eqb k 15 (λ e. omega arith); listed = rw (le-leb 17 k (omega arith), lt-leb k 19 (omega arith)); map? = ne-eqb k 20 (λ e. omega arith) }
     go false a b b′ false c h = not-so h
+
+    by : (x : Bool) → eqb k 5 ≡ x → (x || (leb 6 k && leb k 14 || leb 32 k)) ≡ true → Apart k
+    by true t h = let is = eqb-true k 5 t in rw is (record { low = refl; fixed? = refl; listed = refl; map? = refl })
+    by false t h = go (leb 6 k) refl (leb k 14) refl (leb 32 k) refl h
 
 kind-number : (k : ℕ) → k < 256 ^ 8 → kind? k ≡ true → Takes (number (kindRules anyType)) (put k) k
 unfolding kindRules put
 kind-number k lt h = number-takes (kindRules anyType) k lt (h, (refl, tt))
 
-element-or : (a b c d : Bool) → b ≡ true → (a || b || c || d) ≡ true
-element-or true b c d h = refl
-element-or false b c d h = rw h
+element-or : (a b c d e : Bool) → b ≡ true → (a || b || c || d || e) ≡ true
+element-or true b c d e h = refl
+element-or false b c d e h = rw h
 
-listed-or : (a b c d : Bool) → d ≡ true → (a || b || c || d) ≡ true
-listed-or true b c d h = refl
-listed-or false true c d h = refl
-listed-or false false true d h = refl
-listed-or false false false d h = h
+listed-or : (a b c d e : Bool) → d ≡ true → (a || b || c || d || e) ≡ true
+listed-or true b c d e h = refl
+listed-or false true c d e h = refl
+listed-or false false true d e h = refl
+listed-or false false false d e h = rw h
 
-or-true : (b : Bool) → (false || b || true || false) ≡ true
+or-true : (b : Bool) → (false || b || true || false || false) ≡ true
 or-true true = refl
 or-true false = refl
+
+or-last : (b : Bool) → (false || b || false || false || true) ≡ true
+or-last true = refl
+or-last false = refl
 
 pub kind-taken : Taken (kind anyType) putKind kindKept?
 unfolding kind putKind kindKept? small kind? elementKindRules
@@ -179,8 +192,8 @@ kind-taken (plain k) h =
     let s = number-split (elementKindRules anyType) k h in
     let A = apart k (s .1 .0) in
     takes-as (append-nil _)
-    (bind-takes _ (kind-number k (s .0) (element-or (leb k 4) (elementKind? k) (eqb k 15) _ (s .1 .0)))
-    (if-takes-false _ (A .low) (if-takes-false _ (A .fixed?) (if-takes-false _ (A .listed) (give-takes (plain k))))))
+    (bind-takes _ (kind-number k (s .0) (element-or (leb k 4) (elementKind? k) (eqb k 15) _ _ (s .1 .0)))
+    (if-takes-false _ (A .low) (if-takes-false _ (A .fixed?) (if-takes-false _ (A .listed) (if-takes-false _ (A .map?) (give-takes (plain k)))))))
 kind-taken (array n k) h =
     let (a, b) = and-split _ (number? (elementKindRules anyType) k) h in
     takes-as (simp (append-assoc, append-nil))
@@ -192,9 +205,16 @@ kind-taken (many c k) h =
     let ge = leb-true 17 c p in
     let le = leb-true c 19 q in
     takes-as (ap (λ (z : List ℕ). put c ++ z) (append-nil _))
-    (bind-takes _ (kind-number c (omega arith) (listed-or (leb c 4) (elementKind? c) (eqb c 15) _ a))
+    (bind-takes _ (kind-number c (omega arith) (listed-or (leb c 4) (elementKind? c) (eqb c 15) _ _ a))
     (if-takes-false _ (lt-leb c 4 (omega arith)) (if-takes-false _ (ne-eqb c 15 (λ e. omega arith)) (if-takes-true _ a
     (bind-takes _ (number-taken (elementKindRules anyType) k b) (give-takes (many c k)))))))
+kind-taken (mapping ks) h =
+    let (a, b) = and-split _ (all (number? (elementKindRules anyType)) ks) h in
+    takes-as (simp (append-assoc, append-nil))
+    (bind-takes _ (kind-number 20 (omega arith) (or-last (elementKind? 20)))
+    (if-takes-false _ refl (if-takes-false _ refl (if-takes-false _ refl (if-takes-true _ refl
+    (bind-takes _ (number-taken typesRules (length ks) a)
+    (bind-takes _ (repeat-taken _ put (number? (elementKindRules anyType)) (number-taken (elementKindRules anyType)) (length ks) ks refl b) (give-takes (mapping ks)))))))))
 
 -- ── strings ──
 

@@ -10,10 +10,11 @@ use lib.ListN.{getD, length-map, List·getD-map}
 use borrow.Author.Tests.{eqb-true, eqb-false, eq-eqb, ne-eqb}
 use Rattle.paper.specs.Reader.{if_then_else_}
 use Rattle.paper.specs.Lists.{same, all, place, placeNamed, fold, flat}
-use Rattle.paper.specs.Ledger.{Kind, constant, plain, array, many, Element, flag, whole, float, link, New, Head, Entry, Pair, Field, State, nothing, text, aString?, typeNamed, typeIn, fieldAt, fieldsOf, called?, fieldNamed, objectsOf, poolBefore, objectsInAll, object?}
-use Rattle.paper.specs.Rules.{stringsRules, withStrings, new?, typeOf, entered?, placeRules, typeNameRules, superNamed, superNameRules, superOf, inRange?, fewObjects?, countRules, baseOf, newName, newType, newRange, afterHead, knownDue, fieldCountRules, fieldNameRules, afterNew, afterEntry, oldDue, entryDues, dues, aType?, kindStands?, kindsStand?, link?, linkRules, closed, afterFront, afterPair}
+use Rattle.paper.specs.Ledger.{annotation, keys, mapping, Kind, constant, plain, array, many, Element, flag, whole, float, link, New, Head, Entry, Pair, Field, State, nothing, text, aString?, typeNamed, typeIn, fieldAt, fieldsOf, called?, fieldNamed, objectsOf, poolBefore, objectsInAll, object?}
+use Rattle.paper.specs.Rules.{baseObject?, annotation?, stringsRules, withStrings, new?, typeOf, entered?, placeRules, typeNameRules, superNamed, superNameRules, superOf, inRange?, fewObjects?, countRules, baseOf, newName, newType, newRange, afterHead, knownDue, fieldCountRules, fieldNameRules, afterNew, afterEntry, oldDue, entryDues, dues, aType?, kindStands?, kindsStand?, link?, linkRules, closed, afterFront, afterPair}
 use Rattle.paper.specs.Listing.{glyph, hexDigits, hex}
-use Rattle.paper.specs.Keeps.{number?, bytes?, head?, new-field?, element?, value?}
+use Rattle.paper.specs.Keeps.{sized?, number?, bytes?, head?, new-field?, element?, value?}
+use Rattle.paper.specs.Maps.{allThrough}
 use Rattle.paper.specs.Scan.{nibble}
 use Rattle.laws.specs.Says.{Bytes}
 use Rattle.laws.specs.Before.{bytes-back}
@@ -165,6 +166,7 @@ module _ (s : State) where
   kindStands-hexed (plain k) = rw length-map
   kindStands-hexed (array n k) = rw length-map
   kindStands-hexed (many c k) = rw length-map
+  kindStands-hexed (mapping ks) = ap (λ (p : ℕ → Bool). all p ks) (fun-ext λ k. rw length-map)
 
   pub kindsStand-hexed : (es : List Entry) → kindsStand? (hexed s) es ≡ kindsStand? s es
   unfolding kindsStand?
@@ -177,20 +179,6 @@ module _ (s : State) where
   pub linkRules-hexed : (k n : ℕ) → linkRules (hexed s) k n ≡ linkRules s k n
   unfolding linkRules
   linkRules-hexed k n = rw (link-hexed k n)
-
-  pub element-hexed : (k : ℕ) (e : Element) → element? (hexed s) k e ≡ element? s k e
-  unfolding element? number?
-  element-hexed k (flag b) = refl
-  element-hexed k (whole v) = refl
-  element-hexed k (float w n) = refl
-  element-hexed k (link n) = rw (linkRules-hexed k n)
-
-  pub value-hexed : (k : Kind) (es : List Element) → value? (hexed s) k es ≡ value? s k es
-  unfolding value?
-  value-hexed (constant k v) es = refl
-  value-hexed (plain k) es = rw (fun-ext (element-hexed k))
-  value-hexed (array n k) es = rw (fun-ext (element-hexed k))
-  value-hexed (many c k) es = rw (fun-ext (element-hexed k))
 
   -- ── strings and names ──
 
@@ -205,6 +193,11 @@ module _ (s : State) where
   pub afterNew-hexed : (t : ℕ) (g : New) → afterNew t (hexed s) g ≡ hexed (afterNew t s g)
   unfolding hexed afterNew
   afterNew-hexed t g = rw (map-append, text-hexed (g .name))
+
+  base-hexed : (o : Option ℕ) (n : ℕ) → baseObject? (hexed s) o n ≡ baseObject? s o n
+  unfolding hexed baseObject? object?
+  base-hexed none n = refl
+  base-hexed (some t) n = refl
 
   module _ (S : Spelt s) where
     pub text-bytes : (n : ℕ) → Bytes (text s n)
@@ -222,6 +215,29 @@ module _ (s : State) where
     -- the type that string n names
     typed : (n : ℕ) → typeNamed (hexed s) (text (hexed s) n) ≡ typeNamed s (text s n)
     typed n = rw (text-hexed n) (typeNamed-hexed (text s n) (text-bytes n))
+
+    -- ── values ──
+
+    annotation-hexed : (m n : ℕ) → annotation? (hexed s) m n ≡ annotation? s m n
+    unfolding annotation?
+    annotation-hexed m n = rw (aString-hexed m, typed m, base-hexed (typeNamed s (text s m)) n)
+
+    pub element-hexed : (k : ℕ) (e : Element) → element? (hexed s) k e ≡ element? s k e
+    unfolding element? number?
+    element-hexed k (flag b) = refl
+    element-hexed k (whole v) = refl
+    element-hexed k (float w n) = refl
+    element-hexed k (link n) = rw (linkRules-hexed k n)
+    element-hexed k (annotation m n) = rw (annotation-hexed m n)
+    element-hexed k (keys n) = refl
+
+    pub value-hexed : (k : Kind) (es : List Element) → value? (hexed s) k es ≡ value? s k es
+    unfolding value?
+    value-hexed (constant k v) es = refl
+    value-hexed (plain k) es = rw (fun-ext (element-hexed k))
+    value-hexed (array n k) es = rw (fun-ext (element-hexed k))
+    value-hexed (many c k) es = rw (fun-ext (element-hexed k))
+    value-hexed (mapping ks) es = ap (λ (ok : ℕ → Element → Bool). allThrough ok sized? es (ks ∷ [])) (fun-ext λ k. fun-ext (element-hexed k))
 
     pub new-hexed : (n : ℕ) → new? (hexed s) n ≡ new? s n
     unfolding new?

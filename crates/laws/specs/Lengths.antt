@@ -12,7 +12,7 @@ use lib.ListN.{length, getD, replicate, length-append, length-map, length-replic
 use lib.Seq.{getD-append-add, getD-append-seam}
 use borrow.Author.Tests.{eqb-true, eqb-false, leb-true, lt-leb}
 use Rattle.paper.specs.Reader.{if_then_else_, Out, got}
-use Rattle.paper.specs.Ledger.{Kind, constant, plain, array, many, Element, New, Head, Entry, Field, Due, Chunk, Pair, Ledger, State, nothing, fieldAt, noField, fieldsOf, fieldNamed, objectsOf, typeNamed, owns?, called?}
+use Rattle.paper.specs.Ledger.{mapping, Kind, constant, plain, array, many, Element, New, Head, Entry, Field, Due, Chunk, Pair, Ledger, State, nothing, fieldAt, noField, fieldsOf, fieldNamed, objectsOf, typeNamed, owns?, called?}
 use Rattle.paper.specs.Lists.{same, all, fold, place, places}
 use Rattle.paper.specs.Rules.{typeOf, afterHead, knownDue, afterEntry, oldDue, newDues, entryDues, dues, withStrings, afterFront, closed, afterPair}
 use Rattle.paper.specs.File.{file}
@@ -164,6 +164,7 @@ by-length l t i (plain k) h lt o e a =
     values-length i k (fold afterPair nothing l .fields) e l nothing c refl ∙ E ∙ ap (objectsOf (fold afterPair nothing l)) o
 by-length l t i (array n k) h lt o e a = absurd (omega arith)
 by-length l t i (many c k) h lt o e a = absurd (omega arith)
+by-length l t i (mapping ks) h lt o e a = absurd (omega arith)
 
 need-inv : (c : Bool) (n : ℕ) (A : Type 0) (k : Answer A) (a : A) → (need c n >> k) ≡ done a → (c ≡ true) × (k ≡ done a)
 unfolding need _>>_ _>>=_

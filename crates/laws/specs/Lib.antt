@@ -3,9 +3,12 @@ pub mod Faithful
 pub mod Longer
 pub mod Says
 pub mod Spelt
+pub mod Packed
 pub mod Takes
+pub mod Kept
 pub mod Bools
 pub mod Codes
+pub mod Maps
 pub mod Values
 pub mod ToEnd
 pub mod Heads
@@ -31,6 +34,7 @@ pub mod Promises
 pub mod Refill
 pub mod Refused
 pub mod Objects
+pub mod Pools
 pub mod Answers
 pub mod Room
 pub mod Short

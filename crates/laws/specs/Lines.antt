@@ -1,22 +1,25 @@
 -- Lines of the listing: what is read is what would be printed, and what is printed is read. Assumes nothing.
-use mathlib.Core.Path.{_≡_, refl, sym}
-use mathlib.Core.Bool.{true}
+use mathlib.Core.Path.{_≡_, refl, sym, _∙_}
+use mathlib.Core.Bool.{Bool, true}
 use mathlib.Core.List.{List, [], _∷_, _++_, map, append-assoc, append-nil}
 use Prim.Native.Nat.{ℕ, zero, suc, _^_, _≤_, _<_}
 use native.Mathlib.Omega.{arith}
 use lib.ListN.{length, getD}
-use Rattle.paper.specs.Reader.{Reader, _>>=_, give}
+use Rattle.paper.specs.Reader.{Reader, _>>=_, _>>_, give}
 use Rattle.paper.specs.Bounds.{mostObjects}
 use Rattle.paper.specs.Lists.{flat, all}
-use Rattle.paper.specs.Ledger.{Element, New, Head, State}
+use Rattle.paper.specs.Ledger.{mapping, Element, keys, New, Head, State}
 use Rattle.paper.specs.Listing.{ascii, tab, newline, decimal, line, pairLine, stringLine, orDash, typeLine, oldLine, kindWord, newLine, elementWord, valueLine}
-use Rattle.paper.specs.Keeps.{bytes?, kindKept?, element?}
-use Rattle.paper.specs.Scan.{literal, readPair, readString, readType, readNew, readElement, tabbed, readValue}
-use Rattle.laws.specs.Says.{Says, give-says, bind-says, then-says}
+use Rattle.paper.specs.Keeps.{bytes?, kindKept?, element?, sized?, value?}
+use Rattle.paper.specs.Rules.{smallRules}
+use Rattle.paper.specs.Maps.{size?, sizeOf}
+use Rattle.paper.specs.Scan.{bad, byteIs, natural, mapWords, readMap, literal, readPair, readString, readType, readNew, readElement, tabbed, readValue}
+use Rattle.laws.specs.Says.{Says, weaker, give-says, bind-says, then-says}
 use Rattle.laws.specs.Takes.{Takes, takes-as, give-takes, bind-takes, then-takes}
-use Rattle.laws.specs.Bools.{and-split}
-use Rattle.laws.specs.Values.{Kept, Taken}
-use Rattle.laws.specs.Before.{literal-says, literal-takes, ended-says, ended-takes, word-says, word-takes, peek-says, TakesBefore, Stops, takes-before, bind-before, turn-before, peek-before-yes, peek-before-no}
+use Rattle.laws.specs.Bools.{and-split, number-split}
+use Rattle.laws.specs.Values.{Kept, Taken, sized-size}
+use Rattle.laws.specs.Maps.{Stand, stand-alone, map-says, map-before, through-same}
+use Rattle.laws.specs.Before.{byteIs-says, byteIs-takes, bad-says, before-as, then-before, literal-says, literal-takes, ended-says, ended-takes, word-says, word-takes, peek-says, TakesBefore, Stops, takes-before, bind-before, turn-before, peek-before-yes, peek-before-no}
 use Rattle.laws.specs.Words.{natural-says, natural-before, orNone-says, Fits, orNone-before}
 use Rattle.laws.specs.Hexes.{hexBytes-says, hexBytes-before}
 use Rattle.laws.specs.Cells.{kind-says, kind-before, element-says, element-before}
@@ -159,3 +162,44 @@ value-takes s k es h le =
     takes-as (sym (line-tabs elementWord (ascii "val") es))
     (then-takes (literal-takes (ascii "val") refl)
     (ended-takes newline (omega arith) (λ rest. refl) (tabbed-before (readElement k) elementWord mostObjects es le (elements-before s k es h))))
+
+-- ── the line of a map ──
+
+size-says : Says (byteIs tab >> natural) (λ n cs. (tab ∷ elementWord (keys n) ≡ cs) × (size? (keys n) ≡ true))
+unfolding elementWord size?
+size-says = then-says _ (byteIs-says tab (omega arith)) λ u cs p. weaker _ (λ n ds q. (rw (← p, q), refl)) natural-says
+
+word-behind : (k : ℕ) → Says (byteIs tab >> readElement k) (λ e cs. (tab ∷ elementWord e ≡ cs) × (_≡_ {A = Bool} true true))
+word-behind k = then-says _ (byteIs-says tab (omega arith)) λ u cs p. weaker _ (λ e ds q. (rw (← p, q), refl)) (element-says k)
+
+map-words :
+    {ks : List ℕ} {es : List Element} {cs : List ℕ} → Stand (λ k e. tab ∷ elementWord e) (λ e. tab ∷ elementWord e) (λ k e. true) size? (ks ∷ []) es cs
+    → tabs elementWord es ≡ cs
+unfolding tabs
+map-words {ks} {es} p =
+    let q = stand-alone (λ k e. tab ∷ elementWord e) (λ e. tab ∷ elementWord e) (λ k e. true) size? p in
+    sym (through-same (λ e. tab ∷ elementWord e) (λ k e. true) size? es (ks ∷ []) (q .1)) ∙ q .0
+
+pub map-line-says : (ks : List ℕ) → Says (readMap ks) (λ es cs. valueLine es ≡ cs)
+unfolding readMap mapWords valueLine ascii bytes? all
+map-line-says ks =
+    then-says _ (literal-says (ascii "val") refl) λ u cs p.
+    ended-says newline (omega arith) _ (λ es ds q. rw (line-tabs elementWord, ← p, q)) (weaker (λ es ds. tabs elementWord es ≡ ds) (λ es ds q. map-words q)
+    (map-says (λ k e. tab ∷ elementWord e) (λ e. tab ∷ elementWord e) (λ k e. true) size? bad-says size-says word-behind ks))
+
+size-before : (n : ℕ) → sized? (keys n) ≡ true → TakesBefore Stops (byteIs tab >> natural) (tab ∷ elementWord (keys n)) n
+unfolding elementWord sized? sizeOf size?
+size-before n h = then-before (byteIs-takes tab (omega arith)) (natural-before n (number-split smallRules n h .0))
+
+map-words-before : (s : State) (ks : List ℕ) (es : List Element) → value? s (mapping ks) es ≡ true → TakesBefore Stops (mapWords ks) (tabs elementWord es) es
+unfolding mapWords value? tabs
+map-words-before s ks es h =
+    before-as (through-same (λ e. tab ∷ elementWord e) (element? s) sized? es (ks ∷ []) h)
+    (map-before (λ k e. tab ∷ elementWord e) (λ e. tab ∷ elementWord e) (element? s) sized? Stops bad size-before
+    (λ k e t. then-before (byteIs-takes tab (omega arith)) (element-before s k e t)) sized-size (λ k e rest. omega arith) (λ e rest. omega arith) ks es h)
+
+pub map-line-takes : (s : State) (ks : List ℕ) (es : List Element) → value? s (mapping ks) es ≡ true → Takes (readMap ks) (valueLine es) es
+unfolding readMap valueLine ascii bytes? all
+map-line-takes s ks es h =
+    takes-as (sym (line-tabs elementWord (ascii "val") es))
+    (then-takes (literal-takes (ascii "val") refl) (ended-takes newline (omega arith) (λ rest. omega arith) (map-words-before s ks es h)))

@@ -45,7 +45,7 @@ total-none p n (x ∷ xs) h = go (total-none p n xs) (p x) h
     go ih true h = not-so (sym h)
     go ih false h = ih h
 
-total-last : (p : Range → Bool) (xs : List Range) (r : Range) → total p size (xs ++ r ∷ []) ≡ total p size xs + (if p r then r .count else 0)
+pub total-last : (p : Range → Bool) (xs : List Range) (r : Range) → total p size (xs ++ r ∷ []) ≡ total p size xs + (if p r then r .count else 0)
 unfolding total size if_then_else_
 total-last p xs r = total-append p size xs (r ∷ []) ∙ go (p r)
   where
@@ -116,7 +116,7 @@ known-placed s t N lt h =
       past = λ u e. omega (arith, N .past t u e);
     })
 
-typeIn-others : (ts : List Typ) (x : Typ) (v : ℕ) → (length ts ≡ v → ⊥) → typeIn (ts ++ x ∷ []) v ≡ typeIn ts v
+pub typeIn-others : (ts : List Typ) (x : Typ) (v : ℕ) → (length ts ≡ v → ⊥) → typeIn (ts ++ x ∷ []) v ≡ typeIn ts v
 unfolding typeIn
 typeIn-others ts x v ne = go (decLt v (length ts))
   where
@@ -144,7 +144,7 @@ new-placed s x N low =
       past = λ u e. omega (arith, here-fewer s u);
     }
 
-type-low : (s : State) (name : List ℕ) (t : ℕ) → typeNamed s name ≡ some t → t < length (s .typeNames)
+pub type-low : (s : State) (name : List ℕ) (t : ℕ) → typeNamed s name ≡ some t → t < length (s .typeNames)
 unfolding typeNamed
 type-low s name t h = omega (arith, place-lt (same name) 0 t (s .typeNames) h)
 

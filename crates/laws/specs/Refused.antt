@@ -1,7 +1,7 @@
 -- A refusal of a file is one of the paper's numbers. Assumes nothing.
 use mathlib.Core.Path.{_≡_, refl}
 use mathlib.Core.Bool.{Bool, true, false, _&&_, _||_}
-use mathlib.Core.List.{List, [], _∷_}
+use mathlib.Core.List.{List, [], _∷_, map}
 use mathlib.Core.Option.{Option, none, some}
 use Prim.Native.Nat.{ℕ, zero, suc, _+_}
 use lib.Dec.{leb, eqb}
@@ -9,9 +9,10 @@ use lib.ListN.{length, take, drop, replicate}
 use Rattle.paper.specs.Reader.{if_then_else_, Reader, Out, got, no, andThen, _>>=_, _>>_, give, refuse, Rule, _orNo_, hold, must, fromStart, started, within, bytes, filled, part, each, times, repeat, only, unlessEnd, toEnd}
 use Rattle.paper.specs.Numbers.{fixed, coding, v64, number}
 use Rattle.paper.specs.Bounds.{mostBytes, mostPairs}
-use Rattle.paper.specs.Ledger.{Kind, constant, plain, array, many, Due, State, nothing}
-use Rattle.paper.specs.Rules.{smallRules, stringsRules, placeRules, typeNameRules, superNameRules, countRules, restrictionRules, fieldCountRules, fieldNameRules, endRules, kindRules, elementKindRules, boolRules, linkRules, afterFront, afterPair, aType?, kindsStand?}
-use Rattle.paper.specs.File.{Upto, Front, small, stringEnd, stringBlock, restrictions, head, wholeOf, kind, endOffset, newField, fields, entry, front, element, value, chunk, dataRegion, refusalOf, kindsNamed, pairFrom, pair, pairs, file}
+use Rattle.paper.specs.Ledger.{keys, mapping, Kind, constant, plain, array, many, Due, State, nothing}
+use Rattle.paper.specs.Rules.{typesRules, annotationRules, smallRules, stringsRules, placeRules, typeNameRules, superNameRules, countRules, restrictionRules, fieldCountRules, fieldNameRules, endRules, kindRules, elementKindRules, boolRules, linkRules, afterFront, afterPair, aType?, kindsStand?}
+use Rattle.paper.specs.Maps.{keyAndRest, mapOf}
+use Rattle.paper.specs.File.{twoNumbers, Upto, Front, small, stringEnd, stringBlock, restrictions, head, wholeOf, kind, endOffset, newField, fields, entry, front, element, value, chunk, dataRegion, refusalOf, kindsNamed, pairFrom, pair, pairs, file}
 use Rattle.laws.specs.Bools.{and-split}
 
 -- the numbers that reading a file can give: 1 to 14, and 21
@@ -202,7 +203,7 @@ unfolding wholeOf
 wholeOf-refuses k = search numbers
 
 kind-refuses : (named : ℕ → Bool) → Refuses (kind named)
-unfolding kind kindRules elementKindRules fileRefusal?
+unfolding kind kindRules elementKindRules typesRules fileRefusal?
 kind-refuses named = search (numbers, wholeOf-refuses) depth 12
 
 fields-refuses : (named : ℕ → Bool) (t known : ℕ) (u : Upto) → Refuses (fields named t known u)
@@ -218,8 +219,16 @@ unfolding front
 front-refuses named s = search (numbers, stringBlock-refuses, entry-refuses) depth 9
 
 element-refuses : (s : State) (k : ℕ) → Refuses (element s k)
-unfolding element boolRules linkRules fileRefusal?
+unfolding element twoNumbers boolRules linkRules annotationRules fileRefusal?
 element-refuses s k = search (numbers, wholeOf-refuses) depth 9
+
+map-refuses : (s : State) (ks : List ℕ) → Refuses (mapOf (refuse 10) small keys (map (element s) ks))
+unfolding mapOf keyAndRest fileRefusal?
+map-refuses s [] = refuse-refuses 10 refl
+map-refuses s (k ∷ []) = repeat-refuses 1 (element-refuses s k)
+map-refuses s (k ∷ l ∷ ks) =
+    bind-refuses small-refuses λ n.
+    bind-refuses (repeat-refuses n (bind-refuses (element-refuses s k) λ a. bind-refuses (map-refuses s (l ∷ ks)) λ v. give-refuses (a ∷ v))) λ v. give-refuses _
 
 value-refuses : (s : State) (k : Kind) → Refuses (value s k)
 unfolding value
@@ -227,6 +236,7 @@ value-refuses s (constant k v) = give-refuses []
 value-refuses s (plain k) = repeat-refuses 1 (element-refuses s k)
 value-refuses s (array l k) = repeat-refuses l (element-refuses s k)
 value-refuses s (many c k) = bind-refuses small-refuses λ n. repeat-refuses n (element-refuses s k)
+value-refuses s (mapping ks) = map-refuses s ks
 
 region-refuses : (s : State) (ds : List Due) (es : List ℕ) → Refuses (dataRegion s ds es)
 unfolding dataRegion chunk

@@ -17,15 +17,17 @@ use Rattle.paper.specs.Reader.{if_then_else_, Rule}
 use Rattle.paper.specs.Bounds.{mostFields, mostObjects}
 use Rattle.paper.specs.Numbers.{unsigned, putFixed, putV64, put}
 use Rattle.paper.specs.Lists.{any, all, places, total, fold, flat, given?, or}
-use Rattle.paper.specs.Ledger.{Kind, constant, plain, array, many, Element, flag, whole, float, link, New, Head, Entry, Chunk, Pair, Ledger, Field, Due, State, nothing, noField, fieldAt, owns?, fieldsOf, objectsOf}
-use Rattle.paper.specs.Rules.{smallRules, stringsRules, withStrings, new?, typeOf, typeNameRules, superNameRules, superOf, countRules, afterHead, knownDue, fieldCountRules, fieldNameRules, afterNew, afterEntry, valuesDue, oldDue, newDues, entryDues, dues, elementKindRules, anyType, linkRules, closed, afterFront, afterPair}
-use Rattle.paper.specs.Encode.{endsFrom, putStrings, putOption, putHead, putWhole, putKind, putNew, zip, putFields, putEntry, putEntries, putElement, putValue, putChunk, putChunks, putFront, putPair, putPairs, encode}
-use Rattle.paper.specs.Keeps.{inTurn, number?, only?, head?, signed?, whole?, kindKept?, new-field?, entry?, element?, value?, chunk?, chunks?, pair?, keeps?}
+use Rattle.paper.specs.Ledger.{Kind, constant, plain, array, many, mapping, Element, flag, whole, float, link, annotation, keys, New, Head, Entry, Chunk, Pair, Ledger, Field, Due, State, nothing, noField, fieldAt, owns?, fieldsOf, objectsOf}
+use Rattle.paper.specs.Rules.{noted, typesRules, smallRules, stringsRules, withStrings, new?, typeOf, typeNameRules, superNameRules, superOf, countRules, afterHead, knownDue, fieldCountRules, fieldNameRules, afterNew, afterEntry, valuesDue, oldDue, newDues, entryDues, dues, elementKindRules, anyType, linkRules, closed, afterFront, afterPair}
+use Rattle.paper.specs.Encode.{endsFrom, putStrings, putOption, putHead, putWhole, putKind, putNew, zip, putFields, putEntry, putEntries, putElement, putSize, putValue, putChunk, putChunks, putFront, putPair, putPairs, encode}
+use Rattle.paper.specs.Maps.{sizeOf, size?, opened, throughMaps, allThrough, atFirst}
+use Rattle.paper.specs.Keeps.{sized?, inTurn, number?, only?, head?, signed?, whole?, kindKept?, new-field?, entry?, element?, value?, chunk?, chunks?, pair?, keeps?}
 use Rattle.paper.specs.Listing.{ascii, decimal, decimalℤ, hexDigits, hex, joined, line, pairLine, stringLine, orDash, typeLine, oldLine, kindWord, newLine, elementWord, valueLine, printEntry, printEntries, printChunk, printPair, printPairs, print}
 use Rattle.paper.specs.Calls.{known}
 use Rattle.laws.specs.Bools.{not-so, and-split, every-split, number-split}
 use Rattle.laws.specs.Codes.{fixed-length, v64-cons}
 use Rattle.laws.specs.Digits.{decimal-low, decimal-high}
+use Rattle.laws.specs.Cells.{commas, joined-commas}
 use Rattle.laws.specs.Longer.{Begins}
 use Rattle.laws.specs.Columns.{total-append, fold-grows, entry-grows}
 use Rattle.laws.specs.Count.{once, made, fold-fields, fold-objects, head-objects}
@@ -42,6 +44,7 @@ empty? (constant k v) = false
 empty? (plain k) = false
 empty? (array n k) = eqb n 0
 empty? (many c k) = false
+empty? (mapping ks) = false
 
 unfoldable pub emptyField? : Field → Bool
 emptyField? d = empty? (d .kind)
@@ -191,7 +194,8 @@ unfolding element? elementWord putElement
 element-room s k (flag true) h = omega (arith, byte-digits 0 1 (omega arith))
 element-room s k (flag false) h = omega (arith, byte-digits 0 0 (omega arith))
 element-room s k (whole v) h =
-    let (_, w) = and-split (not (eqb k 6) && leb k 11) (whole? (k - 7) v) h in
+    let (_, h′) = and-split (not (eqb k 5)) _ h in
+    let (_, w) = and-split (not (eqb k 6) && leb k 11) (whole? (k - 7) v) h′ in
     let (least, word) = whole-room (k - 7) v w in
     omega arith
 element-room s k (float w n) h =
@@ -204,6 +208,22 @@ element-room s k (float w n) h =
 element-room s k (link n) h =
     let (_, q) = and-split (not (leb k 13)) (number? (linkRules s k) n) h in
     omega (arith, number-room (linkRules s k) n q, put-some n)
+element-room s k (annotation m n) h =
+    let (_, h₂) = and-split (eqb k 5) _ h in
+    let (a, h₃) = and-split (ltb m (256 ^ 8)) _ h₂ in
+    let (b, _) = and-split (ltb n (256 ^ 8)) _ h₃ in
+    rw (length-append (decimal m), length-append (put m))
+    (omega (arith, put-digits m m (omega arith) (ltb-true m _ a), put-digits n n (omega arith) (ltb-true n _ b), put-some m, put-some n))
+element-room s k (keys n) h = not-so h
+
+size-room : (e : Element) → sized? e ≡ true → 5 + length (elementWord e) ≤ 9 * length (putSize e)
+unfolding sized? size? sizeOf putSize elementWord
+size-room (flag b) h = not-so h
+size-room (whole v) h = not-so h
+size-room (float w n) h = not-so h
+size-room (link n) h = not-so h
+size-room (annotation m n) h = not-so h
+size-room (keys n) h = omega (arith, number-room smallRules n h, put-some n)
 
 -- behind the word w
 elements-room :
@@ -216,12 +236,30 @@ elements-room s k (e ∷ es) w h =
     let ih = elements-room s k es (elementWord e) b in
     rw (length-append w, length-append (putElement k e)) (omega (arith, element-room s k e a))
 
+-- the elements of maps, behind the word w
+through-room :
+    (s : State) (es : List Element) (due : List (List ℕ)) (w : List ℕ) → allThrough (element? s) sized? es due ≡ true
+    → length (line (w ∷ map elementWord es)) + 4 * length es ≤ 1 + length w + 9 * length (throughMaps putElement putSize es due)
+unfolding line allThrough throughMaps atFirst
+through-room s [] due w h = rw length-append (omega arith)
+through-room s (e ∷ es) [] w h = not-so h
+through-room s (e ∷ es) ([] ∷ due) w h = not-so h
+through-room s (e ∷ es) ((k ∷ []) ∷ due) w h =
+    let (a, b) = and-split (element? s k e) _ h in
+    let ih = through-room s es (opened (k ∷ []) e ++ due) (elementWord e) b in
+    rw (length-append w, length-append (putElement k e)) (omega (arith, element-room s k e a))
+through-room s (e ∷ es) ((k ∷ l ∷ ks) ∷ due) w h =
+    let (a, b) = and-split (sized? e) _ h in
+    let ih = through-room s es (opened (k ∷ l ∷ ks) e ++ due) (elementWord e) b in
+    rw (length-append w, length-append (putSize e)) (omega (arith, size-room e a))
+
 -- a value of such a kind takes no byte; a constant has none
 bare? : Kind → Bool
 bare? (constant k v) = true
 bare? (plain k) = false
 bare? (array n k) = eqb n 0
 bare? (many c k) = false
+bare? (mapping ks) = false
 
 due-bare : (k : Kind) (n : ℕ) → once (valuesDue k n) (bare? k) ≤ once n (empty? k)
 unfolding valuesDue bare? empty? once if_then_else_
@@ -229,13 +267,14 @@ due-bare (constant k v) n = omega arith
 due-bare (plain k) n = omega arith
 due-bare (array l k) n = omega arith
 due-bare (many c k) n = omega arith
+due-bare (mapping ks) n = omega arith
 
 bare-line : length (valueLine []) ≡ 4
 unfolding valueLine line ascii
 bare-line = refl
 
 value-room : (s : State) (k : Kind) (es : List Element) → value? s k es ≡ true → length (valueLine es) ≤ 4 * once 1 (bare? k) + 9 * length (putValue k es)
-unfolding value? valueLine putValue bare? once if_then_else_ ascii
+unfolding value? valueLine putValue bare? once if_then_else_ ascii allThrough
 value-room s (constant k v) [] h = omega (arith, bare-line)
 value-room s (constant k v) (e ∷ es) h = absurd (omega (arith, eqb-true (length (e ∷ es)) 0 h))
 value-room s (plain k) es h =
@@ -253,6 +292,8 @@ value-room s (array n k) es h =
 value-room s (many c k) es h =
     let (_, a) = and-split (number? smallRules (length es)) (all (element? s k) es) h in
     rw length-append (omega (arith, elements-room s k es (ascii "val") a, put-some (length es)))
+value-room s (mapping ks) [] h = not-so h
+value-room s (mapping ks) (e ∷ es) h = omega (arith, through-room s (e ∷ es) (ks ∷ []) (ascii "val") h)
 
 values-room :
     (s : State) (k : Kind) (c : Chunk) → all (value? s k) c ≡ true → length (flat valueLine c) ≤ 4 * once (length c) (bare? k) + 9 * length (flat (putValue k) c)
@@ -323,13 +364,30 @@ module _ (s : State) (F : List Field) (n m : ℕ → ℕ) (t c : ℕ) (more : (u
           rw (once-same c t (d .owner) (sym (eqb-true (d .owner) t e))) (omega (arith, mine))
       go ih false e = omega arith
 
+-- what is kept of a kind is as bare
+noted-bare : (k : Kind) → bare? (noted k) ≡ bare? k
+unfolding noted bare?
+noted-bare (constant k v) = refl
+noted-bare (plain k) = refl
+noted-bare (array n k) = refl
+noted-bare (many c k) = refl
+noted-bare (mapping ks) = refl
+
+noted-empty : (k : Kind) → empty? (noted k) ≡ empty? k
+unfolding noted empty?
+noted-empty (constant k v) = refl
+noted-empty (plain k) = refl
+noted-empty (array n k) = refl
+noted-empty (many c k) = refl
+noted-empty (mapping ks) = refl
+
 news-empty :
     (F : List Field) (m : ℕ → ℕ) (t n : ℕ) → m t ≡ n → (gs : List New) (i : ℕ) → Stands F i (map (made t) gs) → bareDue F (newDues i n gs) ≤ emptyIn m (map (made t) gs)
 unfolding bareDue newDues made
 news-empty F m t n is [] i S = omega arith
 news-empty F m t n is (g ∷ gs) i S =
-    let mine : once (valuesDue (g .kind) n) (bare? (getD F i noField .kind)) ≤ once n (empty? (g .kind)) = rw (stands-first F i (made t g) (map (made t) gs) S) (due-bare (g .kind) n) in
-    rw (empty-more m (made t g) (map (made t) gs), is) (omega (arith, mine, news-empty F m t n is gs (suc i) (stands-rest F i (made t g) (map (made t) gs) S)))
+    let mine : once (valuesDue (g .kind) n) (bare? (getD F i noField .kind)) ≤ once n (empty? (g .kind)) = rw (stands-first F i (made t g) (map (made t) gs) S, noted-bare (g .kind)) (due-bare (g .kind) n) in
+    rw (empty-more m (made t g) (map (made t) gs), noted-empty (g .kind), is) (omega (arith, mine, news-empty F m t n is gs (suc i) (stands-rest F i (made t g) (map (made t) gs) S)))
 
 -- with count 0 no known field is due
 known-fewer :
@@ -374,6 +432,14 @@ entry-empty s e F B =
 
 -- ── entries ──
 
+-- element kinds, each behind a comma
+commas-room : (ks : List ℕ) → all (number? (elementKindRules anyType)) ks ≡ true → length (commas decimal ks) ≤ 5 * length (flat put ks)
+unfolding all commas flat
+commas-room [] h = omega arith
+commas-room (k ∷ ks) h =
+    let (a, b) = and-split (number? (elementKindRules anyType) k) _ h in
+    rw (length-append (decimal k), length-append (put k)) (omega (arith, number-room (elementKindRules anyType) k a, put-some k, commas-room ks b))
+
 kind-room : (k : Kind) → kindKept? k ≡ true → length (kindWord k) ≤ 5 * length (putKind k)
 unfolding kindKept? kindWord joined putKind
 kind-room (constant k v) h =
@@ -391,6 +457,10 @@ kind-room (many c k) h =
     let (_, t) = and-split (leb 17 c) (leb c 19) a in
     let low = leb-true c 19 t in
     rw (length-append (decimal c), length-append (put c)) (omega (arith, put-digits c c (omega arith) (omega arith), put-some c, number-room (elementKindRules anyType) k b))
+kind-room (mapping ks) h =
+    let (a, b) = and-split (number? typesRules (length ks)) (all (number? (elementKindRules anyType)) ks) h in
+    rw (joined-commas decimal (decimal (length ks)) ks, length-append (decimal 20), length-append (decimal (length ks)), length-append (put 20 ++ put (length ks)), length-append (put 20))
+    (omega (arith, put-digits 20 20 (omega arith) (omega arith), put-some 20, number-room typesRules (length ks) a, commas-room ks b))
 
 put-new : (g : New) (end : ℕ) → length (putNew (g, end)) ≡ length (put 0) + length (putKind (g .kind)) + length (put (g .name)) + length (put end)
 unfolding putNew

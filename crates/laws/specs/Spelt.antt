@@ -13,7 +13,7 @@ use Rattle.paper.specs.Reader.{if_then_else_, Reader, Out, got, no, _>>=_, give
 use Rattle.paper.specs.Numbers.{highFirst, fixed, putFixed, coding, lowFirst, lastIsNot0, shortest, v64, putV64, number}
 use Rattle.laws.specs.Says.{Bytes, Says, weaker, give-says, bind-says, must-says, started-says, if-says, bytes-says, Held}
 
-high-bound : (bs : List ℕ) → Bytes bs → highFirst bs < 256 ^ length bs
+pub high-bound : (bs : List ℕ) → Bytes bs → highFirst bs < 256 ^ length bs
 unfolding highFirst
 high-bound [] h = omega arith
 high-bound (b ∷ bs) h =
@@ -22,7 +22,7 @@ high-bound (b ∷ bs) h =
     rw pow-succ' (omega arith)
 
 -- reading and writing a fixed width
-put-high : (bs : List ℕ) → Bytes bs → putFixed (length bs) (highFirst bs) ≡ bs
+pub put-high : (bs : List ℕ) → Bytes bs → putFixed (length bs) (highFirst bs) ≡ bs
 unfolding highFirst putFixed
 put-high [] h = refl
 put-high (b ∷ bs) h =

@@ -16,7 +16,7 @@ use Rattle.laws.specs.Longer.{unlessEnd-inv, AtEnd, Before, unlessEnd-be
 use Rattle.laws.specs.Says.{Bytes, Says, Said, weaker, give-says, bind-says}
 use Rattle.laws.specs.Takes.{Takes, written, after-length, after-drop, bytes-append}
 use Rattle.laws.specs.Bools.{not-so, and-split, and-join}
-use Rattle.laws.specs.Values.{Kept}
+use Rattle.laws.specs.Kept.{Kept}
 
 -- a reader that always refuses
 abbrev pub Never : {A : Type 0} → Reader A → Type 0

@@ -10,28 +10,24 @@ use lib.Dec.{leb, ltb, eqb}
 use lib.IntN.{ℤ, pos, negsuc}
 use lib.ListN.{length, getD, take, drop, replicate, length-replicate, length-append, length-take, length-drop}
 use borrow.Author.Tests.{leb-true, leb-false, le-leb, lt-leb, eqb-true, eq-eqb, ltb-true, ltb-false, lt-ltb, le-ltb, not-true}
-use Rattle.paper.specs.Reader.{if_then_else_, Reader, Out, got, no, _>>=_, give, must, Rule, _orNo_, bytes, each, times, repeat, filled, part}
+use Rattle.paper.specs.Reader.{if_then_else_, Reader, Out, got, no, _>>=_, give, refuse, must, Rule, _orNo_, bytes, each, times, repeat, filled, part}
 use Rattle.paper.specs.Numbers.{signed, unsigned, fixed, putFixed, v64, putV64, number, put}
-use Rattle.paper.specs.Ledger.{Kind, constant, plain, array, many, Element, flag, whole, float, link, Chunk, Due, State, fieldAt}
+use Rattle.paper.specs.Ledger.{Kind, constant, plain, array, many, mapping, Element, flag, whole, float, link, annotation, keys, Chunk, Due, State, fieldAt}
 use Rattle.paper.specs.Lists.{all, flat}
-use Rattle.paper.specs.Rules.{smallRules, boolRules, linkRules}
-use Rattle.paper.specs.File.{small, wholeOf, element, value, chunk}
-use Rattle.paper.specs.Encode.{putWhole, putElement, putValue, putChunk}
-use Rattle.paper.specs.Keeps.{number?, signed?, whole?, element?, value?, chunk?}
+use Rattle.paper.specs.Rules.{smallRules, boolRules, linkRules, annotation?, annotationRules}
+use Rattle.paper.specs.Maps.{sizeOf, size?}
+use Rattle.paper.specs.File.{small, wholeOf, twoNumbers, element, value, chunk}
+use Rattle.paper.specs.Encode.{putWhole, putElement, putSize, putValue, putChunk}
+use Rattle.paper.specs.Keeps.{number?, signed?, whole?, element?, sized?, value?, chunk?}
 use Rattle.laws.specs.Laws.{not-got, part-inv}
 use Rattle.laws.specs.Says.{Bytes, span, Says, Said, weaker, give-says, bind-says, must-says, if-says, part-says, times-says, each-says, both-say, Held, Run}
 use Rattle.laws.specs.Spelt.{fixed-says, byte-says, v64-says}
 use Rattle.laws.specs.Takes.{Takes, takes-as, takes-is, give-takes, bind-takes, must-takes, if-takes-true, if-takes-false, part-takes, times-takes, written-flat, All₁}
+use Rattle.laws.specs.Before.{TakesBefore, takes-before, before-takes}
+use Rattle.laws.specs.Maps.{stand-alone, map-says, map-before}
 use Rattle.laws.specs.Codes.{fixed-takes, byte-takes, v64-takes, number-takes}
+pub use Rattle.laws.specs.Kept.{Kept, Taken}
 use Rattle.laws.specs.Bools.{not-so, and-split, and-join, number-split, number-join, all-split, map₁}
-
--- what is read is what is written, and keeps the rules
-abbrev pub Kept : {A : Type 0} → Reader A → (A → List ℕ) → (A → Bool) → Type 0
-Kept r w ok = Says r (λ v cs. (w v ≡ cs) × (ok v ≡ true))
-
--- what is written and keeps the rules is read
-abbrev pub Taken : {A : Type 0} → Reader A → (A → List ℕ) → (A → Bool) → Type 0
-Taken {A} r w ok = (a : A) → ok a ≡ true → Takes r (w a) a
 
 pub number-kept : (rules : ℕ → List Rule) → Kept (number rules) put (number? rules)
 unfolding number put
@@ -139,12 +135,23 @@ flag-put k b h = go (eqb b 255) refl (eqb b 0) refl h
     go false e true e′ t = ap (λ (z : ℕ). z ∷ []) (sym (eqb-true b 0 e′))
     go false e false e′ t = not-so t
 
+two-says : Says twoNumbers (λ p cs. (put (p .0) ++ put (p .1) ≡ cs) × ((p .0 < 256 ^ 8) × (p .1 < 256 ^ 8)))
+unfolding twoNumbers put
+two-says = bind-says _ v64-says λ m cs p. bind-says _ v64-says λ n ds q. give-says (m, n) _ (rw (append-nil, p .0, q .0), (p .1, q .1))
+
+two-takes : (m n : ℕ) → m < 256 ^ 8 → n < 256 ^ 8 → Takes twoNumbers (put m ++ put n) (m, n)
+unfolding twoNumbers put
+two-takes m n h k = takes-as (simp append-nil) (bind-takes _ (v64-takes m h) (bind-takes _ (v64-takes n k) (give-takes (m, n))))
+
 element-kept : (s : State) (k : ℕ) → Kept (element s k) (putElement k) (element? s k)
-unfolding element putElement element? boolRules
+unfolding element putElement element? boolRules annotationRules
 element-kept s k =
     if-says _
+    (λ t. bind-says _ (must-says _ two-says) λ p cs q. give-says (annotation (p .0) (p .1)) _
+    (rw append-nil (q .0 .0), rw (t, lt-ltb _ _ (q .0 .1 .0), lt-ltb _ _ (q .0 .1 .1)) (q .1 .0)))
+    λ t₀. if-says _
     (λ t. bind-says _ (must-says _ byte-says) λ b cs p. give-says (flag (eqb b 255)) _ (flag-put k b (p .1 .0) ∙ sym (p .0 .0) ∙ sym (append-nil cs), t))
-    λ t₁. if-says _ (λ t₂. bind-says _ (whole-kept (k - 7)) λ v cs p. give-says (whole v) _ (rw append-nil (p .0), rw (t₁, t₂) (p .1)))
+    λ t₁. if-says _ (λ t₂. bind-says _ (whole-kept (k - 7)) λ v cs p. give-says (whole v) _ (rw append-nil (p .0), rw (t₀, t₁, t₂) (p .1)))
     λ t₂. if-says _
     (λ t₃. bind-says _ (fixed-says (4 * (k - 11))) λ n cs p. give-says (float (4 * (k - 11)) n) _
     (rw append-nil (p .0), rw (t₂, t₃, eq-eqb (4 * (k - 11)) (4 * (k - 11)) refl) (lt-ltb n _ (p .1))))
@@ -153,32 +160,69 @@ element-kept s k =
 le-both : (k : ℕ) → eqb k 6 ≡ true → leb k 11 ≡ true
 le-both k h = le-leb k 11 (omega (arith, eqb-true k 6 h))
 
+not-5 : (k : ℕ) → 5 < k → eqb k 5 ≡ false
+not-5 k h = borrow.Author.Tests.ne-eqb k 5 (λ e. omega arith)
+
 not-6 : (k : ℕ) → 11 < k → eqb k 6 ≡ false
 not-6 k h = borrow.Author.Tests.ne-eqb k 6 (λ e. omega arith)
 
 element-taken : (s : State) (k : ℕ) → Taken (element s k) (putElement k) (element? s k)
-unfolding element putElement element? boolRules
+unfolding element putElement element? boolRules annotationRules
 element-taken s k (flag true) h =
-    if-takes-true _ h (bind-takes _ (must-takes _ (refl, tt) (byte-takes 255 (omega arith))) (give-takes (flag true)))
+    if-takes-false _ (not-5 k (omega (arith, eqb-true k 6 h))) (if-takes-true _ h (bind-takes _ (must-takes _ (refl, tt) (byte-takes 255 (omega arith))) (give-takes (flag true))))
 element-taken s k (flag false) h =
-    if-takes-true _ h (bind-takes _ (must-takes _ (refl, tt) (byte-takes 0 (omega arith))) (give-takes (flag false)))
+    if-takes-false _ (not-5 k (omega (arith, eqb-true k 6 h))) (if-takes-true _ h (bind-takes _ (must-takes _ (refl, tt) (byte-takes 0 (omega arith))) (give-takes (flag false))))
 element-taken s k (whole v) h =
-    let (h₁, h₂) = and-split _ (whole? (k - 7) v) h in
+    let (h₀, h′) = and-split (not (eqb k 5)) _ h in
+    let (h₁, h₂) = and-split _ (whole? (k - 7) v) h′ in
     let (h₃, h₄) = and-split _ (leb k 11) h₁ in
-    if-takes-false _ (not-true _ h₃) (if-takes-true _ h₄ (takes-as (append-nil _) (bind-takes _ (whole-taken (k - 7) v h₂) (give-takes (whole v)))))
+    if-takes-false _ (not-true _ h₀) (if-takes-false _ (not-true _ h₃) (if-takes-true _ h₄ (takes-as (append-nil _) (bind-takes _ (whole-taken (k - 7) v h₂) (give-takes (whole v))))))
 element-taken s k (float w n) h =
     let (h₁, lt) = and-split _ (ltb n (256 ^ w)) h in
     let (h₂, e) = and-split _ (eqb w (4 * (k - 11))) h₁ in
     let (h₃, h₄) = and-split _ (leb k 13) h₂ in
     let big = leb-false k 11 (not-true _ h₃) in
     rw (eqb-true w (4 * (k - 11)) e)
-    (if-takes-false _ (not-6 k big) (if-takes-false _ (not-true _ h₃) (if-takes-true _ h₄
-    (takes-as (append-nil _) (bind-takes _ (fixed-takes (4 * (k - 11)) n (rw (eqb-true w (4 * (k - 11)) e) at (ltb-true n (256 ^ w) lt))) (give-takes (float (4 * (k - 11)) n)))))))
+    (if-takes-false _ (not-5 k (omega arith)) (if-takes-false _ (not-6 k big) (if-takes-false _ (not-true _ h₃) (if-takes-true _ h₄
+    (takes-as (append-nil _) (bind-takes _ (fixed-takes (4 * (k - 11)) n (rw (eqb-true w (4 * (k - 11)) e) at (ltb-true n (256 ^ w) lt))) (give-takes (float (4 * (k - 11)) n))))))))
 element-taken s k (link n) h =
     let (h₁, h₂) = and-split _ (number? (linkRules s k) n) h in
     let big = leb-false k 13 (not-true _ h₁) in
-    if-takes-false _ (not-6 k (omega arith)) (if-takes-false _ (lt-leb k 11 (omega arith)) (if-takes-false _ (not-true _ h₁)
-    (takes-as (append-nil _) (bind-takes _ (number-taken (linkRules s k) n h₂) (give-takes (link n))))))
+    if-takes-false _ (not-5 k (omega arith)) (if-takes-false _ (not-6 k (omega arith)) (if-takes-false _ (lt-leb k 11 (omega arith)) (if-takes-false _ (not-true _ h₁)
+    (takes-as (append-nil _) (bind-takes _ (number-taken (linkRules s k) n h₂) (give-takes (link n)))))))
+element-taken s k (annotation m n) h =
+    let (h₁, h₂) = and-split (eqb k 5) _ h in
+    let (a, h₃) = and-split (ltb m (256 ^ 8)) _ h₂ in
+    let (b, c) = and-split (ltb n (256 ^ 8)) _ h₃ in
+    if-takes-true _ h₁ (takes-as (append-nil _) (bind-takes _ (must-takes _ (c, tt) (two-takes m n (ltb-true m _ a) (ltb-true n _ b))) (give-takes (annotation m n))))
+element-taken s k (keys n) h = not-so h
+
+-- ── maps ──
+
+refuse-says : {A : Type 0} (n : ℕ) (P : A → List ℕ → Type 0) → Says (refuse n) P
+unfolding refuse
+refuse-says n P = record { at = λ f at v e b h q. not-got q }
+
+size-kept : Says small (λ n cs. (putSize (keys n) ≡ cs) × (sized? (keys n) ≡ true))
+unfolding small putSize sized? sizeOf size?
+size-kept = number-kept smallRules
+
+size-taken : (n : ℕ) → sized? (keys n) ≡ true → TakesBefore (λ rest. Unit {0}) small (putSize (keys n)) n
+unfolding small putSize sized? sizeOf size?
+size-taken n h = takes-before _ (number-taken smallRules n h)
+
+pub fit-size : (e : Element) → size? e ≡ true → e ≡ keys (sizeOf e)
+unfolding sizeOf size?
+fit-size (flag b) h = not-so h
+fit-size (whole v) h = not-so h
+fit-size (float w n) h = not-so h
+fit-size (link n) h = not-so h
+fit-size (annotation m n) h = not-so h
+fit-size (keys n) h = refl
+
+pub sized-size : (e : Element) → sized? e ≡ true → e ≡ keys (sizeOf e)
+unfolding sized?
+sized-size e h = fit-size e (and-split (size? e) _ h .0)
 
 -- ── values ──
 
@@ -194,6 +238,9 @@ value-kept s (array n k) = weaker _ (λ l cs p. (p .0, and-join (eq-eqb _ n (p .
 value-kept s (many c k) =
     bind-says _ (number-kept smallRules) λ n cs p.
     weaker _ (λ l ds q. rw (q .1) (rw (q .0, p .0), and-join (p .1) (q .2))) (repeat-kept _ (putElement k) (element? s k) (element-kept s k) n)
+value-kept s (mapping ks) =
+    weaker _ (λ es cs p. stand-alone putElement putSize (element? s) sized? p)
+    (map-says putElement putSize (element? s) sized? (refuse-says 10) size-kept (element-kept s) ks)
 
 value-taken : (s : State) (k : Kind) → Taken (value s k) (putValue k) (value? s k)
 unfolding value putValue value? small
@@ -207,6 +254,10 @@ value-taken s (array n k) es h =
 value-taken s (many c k) es h =
     let (e, a) = and-split _ (all (element? s k) es) h in
     bind-takes _ (number-taken smallRules (length es) e) (repeat-taken _ (putElement k) (element? s k) (element-taken s k) (length es) es refl a)
+value-taken s (mapping ks) es h =
+    before-takes
+    (map-before putElement putSize (element? s) sized? (λ rest. Unit {0}) (refuse 10) size-taken (λ k e t. takes-before _ (element-taken s k e t)) sized-size
+    (λ k e rest. tt) (λ e rest. tt) ks es h)
 
 -- ── chunks ──
 

@@ -28,6 +28,11 @@ module _ {l m n : List ℕ} {at p r : ℕ} (w v : List ℕ) (ws : List (List ℕ
   pub joined-on : Laid l at (w ++ comma ∷ []) m p → Laid m p (joined (v ∷ ws)) n r → Laid l at (joined (w ∷ v ∷ ws)) n r
   joined-on a b = laid-as (laid-then a b) (joined-cons w v ws)
 
+-- the last two words with the newline
+pub line-two : {l m : List ℕ} {at r : ℕ} (w v : List ℕ) → Laid l at (w ++ tab ∷ (v ++ newline ∷ [])) m r → Laid l at (line (w ∷ v ∷ [])) m r
+unfolding line
+line-two w v a = a
+
 module _ {l m : List ℕ} {at r : ℕ} (w : List ℕ) where
   -- the last word and the newline
   pub line-end : Laid l at (w ++ newline ∷ []) m r → Laid l at (line (w ∷ [])) m r

@@ -1,11 +1,12 @@
-// The lines of a listing, laid into a lent buffer. What does not fit is counted and not stored, as in `lay`, so no line has a
-// precondition. A word is laid with the byte that ends it: a tab, a comma or the newline.
+// The lines of a listing, laid into a lent buffer. What does not fit is counted and not stored, as in `lay`, so no line asks for
+// room. A word is laid with the byte that ends it: a tab, a comma or the newline.
+ghost use mathlib.Core.Path.{_≡_};
 ghost use mathlib.Core.List.{[], _∷_, _++_};
 ghost use lib.ListN.{replicate};
 ghost use Rattle.lay.specs.Laid.{Laid};
 ghost use Rattle.paper.specs.Ledger.{constant, array, many};
 ghost use Rattle.paper.specs.Lists.{flat};
-ghost use Rattle.paper.specs.Listing.{tab, decimal, orDash, kindWord, pairLine, stringLine, typeLine, oldLine, newLine};
+ghost use Rattle.paper.specs.Listing.{ascii, tab, newline, comma, decimal, orDash, kindWord, pairLine, stringLine, typeLine, oldLine, newLine};
 ghost use Rattle.table.specs.View.{kindFrom};
 ghost use Rattle.words.specs.Answers.{option};
 use values::constants::constant_of;
@@ -111,8 +112,10 @@ fn put_many(out: &mut [u8], at: usize, k: u64, e: u64) -> usize
     put_decimal(out, second, e)
 }
 
-// The kind that has the first number k, a constant's bits or an array's length a, and the last number e.
+// The kind that has the first number k, a constant's bits or an array's length a, and the last number e. The kinds of a map
+// are laid one by one, since its last number does not have those from 255 upwards.
 fn put_kind(out: &mut [u8], at: usize, k: u64, a: u64, e: u64) -> usize
+    requires { ⌜ (k ≡ 20 → ⊥) ⌝ }
     ensures { λ r. ⌜ Laid (now (out .entry)) at (kindWord (kindFrom k a e)) (now (out .exit)) r ⌝ }
 {
     match k {
@@ -123,12 +126,36 @@ fn put_kind(out: &mut [u8], at: usize, k: u64, a: u64, e: u64) -> usize
     }
 }
 
+// The end of a new field's line: its name.
+pub fn put_name(out: &mut [u8], at: usize, name: u64) -> usize
+    ensures { λ r. ⌜ Laid (now (out .entry)) at (tab ∷ (decimal name ++ newline ∷ [])) (now (out .exit)) r ⌝ }
+{
+    let last = lay::put(out, at, b'\t');
+    put_ended(out, last, name, b'\n')
+}
+
 // The line of a new field, by the numbers of its kind.
 pub fn put_new(out: &mut [u8], at: usize, k: u64, a: u64, e: u64, name: u64) -> usize
+    requires { ⌜ (k ≡ 20 → ⊥) ⌝ }
     ensures { λ r. ⌜ Laid (now (out .entry)) at (newLine (record { kind = kindFrom k a e; name = name })) (now (out .exit)) r ⌝ }
 {
     let second = lay::put_bytes(out, at, b"new\t");
     let end = put_kind(out, second, k, a, e);
-    let third = lay::put(out, end, b'\t');
-    put_ended(out, third, name, b'\n')
+    put_name(out, end, name)
+}
+
+// The line of a new map of n types, up to its element kinds.
+pub fn put_map(out: &mut [u8], at: usize, n: u64) -> usize
+    ensures { λ r. ⌜ Laid (now (out .entry)) at (ascii "new\t20," ++ decimal n) (now (out .exit)) r ⌝ }
+{
+    let second = lay::put_bytes(out, at, b"new\t20,");
+    put_decimal(out, second, n)
+}
+
+// One of a map's element kinds.
+pub fn put_map_kind(out: &mut [u8], at: usize, k: u64) -> usize
+    ensures { λ r. ⌜ Laid (now (out .entry)) at (comma ∷ decimal k) (now (out .exit)) r ⌝ }
+{
+    let word = lay::put(out, at, b',');
+    put_decimal(out, word, k)
 }

@@ -1,20 +1,19 @@
 -- The lines of an entry's fields. Assumes nothing.
-use mathlib.Core.Path.{_≡_, refl, sym, ap, _∙_, subst}
+use mathlib.Core.Path.{_≡_, refl, sym, ap, _∙_}
 use mathlib.Core.Bool.{false}
-use mathlib.Core.List.{List, [], _∷_, _++_, map}
+use mathlib.Core.List.{List, _++_, map}
 use Prim.Native.Nat.{ℕ, _-_, _≤_, _<_}
 use native.Mathlib.Omega.{arith}
 use lib.ListN.{length, replicate}
-use Rattle.paper.specs.Reader.{Reader, Out, got, no, Rule, _>>=_, _>>_, give, times}
+use Rattle.paper.specs.Reader.{got, turned, Rule, _>>_, give, times}
 use Rattle.paper.specs.Numbers.{v64, number}
 use Rattle.paper.specs.Lists.{flat}
 use Rattle.paper.specs.Ledger.{Kind, New}
-use Rattle.paper.specs.Rules.{anyType, fieldNameRules, endRules}
+use Rattle.paper.specs.Rules.{anyType, fieldNameRules, endRules, noted}
 use Rattle.paper.specs.File.{Upto, restrictions, kind, endOffset, newField, uptoNew, what}
 use Rattle.paper.specs.Listing.{oldLine, newLine}
 use Rattle.laws.specs.Laws.{not-got, bind-inv}
 use Rattle.lay.specs.Laid.{most, Laid, laid-then, laid-as, Leads, leads-start, leads-on, leads-end}
-use Rattle.table.specs.View.{kindFrom}
 use Rattle.numbers.specs.Cursors.{Read, refusalOf, was-got, was-refused, its-refusal}
 use Rattle.numbers.specs.declared.Cursor.{Cursor}
 use Rattle.numbers.specs.declared.Refusal.{Refusal}
@@ -29,6 +28,7 @@ use Rattle.numbers.specs.declared.Step.the-variants as step
 use Rattle.listing.specs.declared.fields.Listed.{Listed}
 use Rattle.listing.specs.declared.fields.Listed.the-variants as listed
 use Rattle.listing.specs.Prints.{stands, Prints, prints-none, number-got, times-first, times-none}
+use Rattle.listing.specs.Maps.{newKind, FieldPut}
 
 abbrev pub newWord : New × ℕ → List ℕ
 newWord g = newLine (g .0)
@@ -96,12 +96,9 @@ module _ {n : ℕ} {f : List ℕ} {at rest here : ℕ} (g : Passing n f at rest 
 
 -- ── the kind of a new field ──
 
--- behind the number of restrictions
-unfoldable pub newKind : Reader Kind
-newKind = restrictions >> kind anyType
-
+-- the answer is what is kept of the kind behind the number of restrictions
 pub record NewKind (f : List ℕ) (at : ℕ) (k : KindRead) : Type 0 where
-  pub says : outKind k ≡ newKind f at
+  pub says : outKind k ≡ turned noted (newKind f at)
 
 module _ {f : List ℕ} {at : ℕ} {a : Number} (R : Read restrictions 1 f at a) where
   pub kind-cut : {e u : Refusal} → a ≡ No e → u ≡ refusalOf a → NewKind f at (kinds.No u)
@@ -146,8 +143,8 @@ new-parts t u f at g q h =
     }
 
 module _ {f : List ℕ} {at : ℕ} {k : KindRead} (K : NewKind f at k) where
-  here : {t : ℕ} {u : Upto} {g : New × ℕ} {q : ℕ} (N : NewParts t u f at g q) → outKind k ≡ got (N .own) (N .after-kind)
-  here N = K .says ∙ N .kind-read
+  here : {t : ℕ} {u : Upto} {g : New × ℕ} {q : ℕ} (N : NewParts t u f at g q) → outKind k ≡ got (noted (N .own)) (N .after-kind)
+  here N = K .says ∙ ap (turned noted) (N .kind-read)
 
   pub new-no-kind : {e : Refusal} → k ≡ kinds.No e → {l : List ℕ} {o : ℕ} {m : List ℕ} {b : Listed} (t : ℕ) (u : Upto) → Prints (newField anyType t u) newWord f at l o m b
   new-no-kind is t u = prints-none (λ g q h. not-got (ap outKind (sym is) ∙ here (new-parts t u f at g q h)))
@@ -171,14 +168,14 @@ module _ {f : List ℕ} {at : ℕ} {k : KindRead} (K : NewKind f at k) where
       new-no-end no? t u = prints-none (λ g q h. not-refused E (endRules (u .end)) (end-there (new-parts t u f at g q h)) no?)
 
       module _ {x : ℕ} {c₃ : Cursor} (ended? : d ≡ Got x c₃) {l : List ℕ} {o : ℕ} {m : List ℕ} {p : ℕ} where
-        pub new-printed : Laid l o (newLine (record { kind = kindIn row; name = n })) m p → (t : ℕ) (u : Upto) → Prints (newField anyType t u) newWord f at l o m (listed.Got c₃ p)
+        pub new-printed : FieldPut f at row n l o m p → (t : ℕ) (u : Upto) → Prints (newField anyType t u) newWord f at l o m (listed.Got c₃ p)
         new-printed L t u =
             record {
               there = λ g q h.
                   let N = new-parts t u f at g q h in
-                  let k-is : kindIn row ≡ N .own = cc (ap outKind (sym is) ∙ here N) in
+                  let k-is : kindIn row ≡ noted (N .own) = cc (ap outKind (sym is) ∙ here N) in
                   let n-is : n ≡ N .name = as-named N .0 in
-                  (laid-as L (rw (k-is, n-is) (ap newWord (sym (N .is)))), as-read E (endRules (u .end)) (end-there N) ended? .1);
+                  (laid-as (L .line (N .own) (N .after-kind) (N .kind-read) k-is) (rw n-is (ap newWord (sym (N .is)))), as-read E (endRules (u .end)) (end-there N) ended? .1);
             }
 
 -- ── so many new fields: what is left to print from here gives the whole ──

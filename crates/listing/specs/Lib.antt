@@ -1,7 +1,9 @@
 pub mod Prints
+pub mod Maps
 pub mod Fields
 pub mod Entries
 pub mod Fronts
 pub mod Regions
 pub mod Pairs
+pub mod Room
 pub mod Text

@@ -1,6 +1,6 @@
 -- The lines of the values of a block. Assumes nothing.
-use mathlib.Core.Path.{_≡_, refl, sym, ap, _∙_, subst}
-use mathlib.Core.List.{List, [], _∷_, _++_}
+use mathlib.Core.Path.{_≡_, refl, sym, ap, _∙_}
+use mathlib.Core.List.{List, [], _∷_}
 use Prim.Native.Nat.{ℕ, _+_, _-_, _≤_, _<_}
 use native.Mathlib.Omega.{arith}
 use native.Mathlib.Numerals.{add-one}
@@ -8,11 +8,10 @@ use lib.ListN.{length, getD, take, drop, drop-of-length-le}
 use lib.Seq.{drop-cons}
 use Rattle.paper.specs.Reader.{got, each, give, repeat}
 use Rattle.paper.specs.Lists.{flat}
-use Rattle.paper.specs.Ledger.{Kind, Field, Chunk, Due, State, fieldAt, noField}
+use Rattle.paper.specs.Ledger.{Field, Chunk, Due, fieldAt, noField}
 use Rattle.paper.specs.File.{value, chunk}
 use Rattle.paper.specs.Listing.{printChunk}
 use Rattle.laws.specs.Laws.{each-inv, part-inv}
-use Rattle.laws.specs.Columns.{grows-refl}
 use Rattle.lay.specs.Laid.{most, Laid, Leads, leads-start, leads-on, leads-end}
 use Rattle.table.specs.View.{kindFrom, fldsOf, duesOf, view, fieldsIn, duesIn}
 use Rattle.table.specs.Answers.{fieldIn, dueIn, noDue}
@@ -22,7 +21,6 @@ use Rattle.values.specs.Chunks.{Kinds}
 use Rattle.show.specs.Lines.{ChunkShown}
 use Rattle.walk.specs.Region.{chunksAt, sizes}
 use Rattle.walk.specs.Dues.{declared-at}
-use Rattle.walk.specs.Few.{linkable-below}
 use Rattle.walk.specs.Listed.{row-kinds}
 use Rattle.walk.specs.RegionTurns.{RegionReady}
 
@@ -92,7 +90,7 @@ module _ {f l : List ℕ} {from : ℕ} (R : RegionReady f l from) {place i : ℕ
                 let size-is : place + d .size - place ≡ d .size = omega arith in
                 let reads : repeat (d .values) (value (view f l) (kindFrom (row .kind) (row .a) (row .e))) (take (place + d .size - place) (drop place f)) 0 ≡ got (E .value) (d .size) =
                 rw (size-is, ← kind-is) (P .reads) in
-                let L = S .laid (view f l) (E .value) (d .size) (linkable-below (R .holds) (R .low) (row .e) (view f l) (grows-refl (view f l))) reads in
+                let L = S .laid (view f l) (E .value) (d .size) reads in
                 record {
                   more = E .more;
                   reads = rw (← P .ends) (E .rest);

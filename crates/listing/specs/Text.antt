@@ -12,13 +12,13 @@ use Rattle.paper.specs.Bounds.{mostBytes, mostPairs}
 use Rattle.paper.specs.Ledger.{Ledger, State, nothing}
 use Rattle.paper.specs.File.{pairs, file}
 use Rattle.paper.specs.Listing.{print, printPairs}
-use Rattle.paper.specs.Calls.{Answer, done, refused, _>>=_, _>>_, need, read, fitted, listing, overFront, leftIn, howMany, writes, afterListing}
+use Rattle.paper.specs.Calls.{known, Answer, done, refused, _>>=_, _>>_, need, read, fitted, listing, overFront, leftIn, howMany, writes, afterListing}
 use Rattle.laws.specs.Laws.{not-got}
 use Rattle.laws.specs.Longer.{file-inv}
 use Rattle.laws.specs.Says.{Bytes}
 use Rattle.laws.specs.Promises.{fitted-done}
 use Rattle.lay.specs.Laid.{most, Laid}
-use Rattle.table.specs.View.{view, said, Said}
+use Rattle.table.specs.View.{view, said, Said, Ok}
 use Rattle.table.specs.Counts.{noughts, begun, Begun}
 use Rattle.numbers.specs.declared.Cursor.{Cursor}
 use Rattle.numbers.specs.declared.Refusal.{Refusal}
@@ -29,11 +29,13 @@ use Rattle.numbers.specs.declared.Step.{Step}
 use Rattle.numbers.specs.declared.Step.the-variants.{Got, No}
 use Rattle.calls.specs.Told.{answerOf, after, Wrote, wrote-none, wrote-all, read-got, read-no}
 use Rattle.calls.specs.Table.{untouched, read-short, noughts-first, read-long}
+use Rattle.calls.specs.Column.{sees, still-holds}
 use Rattle.calls.specs.Behind.{table-known, refused-file}
 use Rattle.calls.specs.Fixed.{one-way}
 use Rattle.calls.specs.declared.replies.Reply.{Reply}
 use Rattle.calls.specs.declared.replies.Reply.the-variants.{Done, Refused}
 use Rattle.listing.specs.Pairs.{PairsThere, PairsPrinted}
+use Rattle.listing.specs.Room.{Roomy, roomy-fits}
 
 -- the file is accepted
 pub record FileThere (f : List ℕ) : Type 0 where
@@ -100,9 +102,40 @@ module _ {f out out₁ : List ℕ} (same : out₁ ≡ out) {m₀ : List ℕ} {n 
             wrote-all (fitted-done (length out) (print (K .ledger)) fits) whole (L′ .text K .bytes ∙ sets-front (print (K .ledger)) out fits);
       }
 
+-- written at once, where it is known to fit
+pub text-direct :
+    {f l out m : List ℕ} {n : ℕ} {b : Bool} → Roomy f l (length out) b → b ≡ true → Bytes f → ((K : FileThere f) → view f l ≡ known (K .ledger)) → length out < 2 ^ 63
+    → FilePrinted f out m n → TextWritten f out (Done n) m
+unfolding most
+text-direct {f} {l} {out} {m} {n} R is bytes says small L =
+    record {
+      wrote = λ K.
+          let fits = roomy-fits R is (K .ledger) (K .end) bytes (K .read) (says K) in
+          let whole : length (print (K .ledger)) ≡ n = omega (arith, L .text K .next) in
+          wrote-all (fitted-done (length out) (print (K .ledger)) fits) whole (L .text K .bytes ∙ sets-front (print (K .ledger)) out fits);
+    }
+
 -- ── behind the reading ──
 
+-- the table that was read is asked for its fields
+pub record TableThere (f l : List ℕ) : Type 0 where
+  pub ok : Ok l
+  pub there : FileThere f
+  pub says : (K : FileThere f) → view f l ≡ known (K .ledger)
+
 module _ {f l : List ℕ} {a : Step} (F : FileRead f l a) where
+  pub table-there : {c : Cursor} → a ≡ Got c → TableThere f l
+  table-there is =
+      let K = table-known F is in
+      record {
+        ok = still-holds K .ok;
+        there = record { ledger = K .accepted .ledger; end = K .at; read = K .accepted .read };
+        says = λ T. sees K ∙ ap known (one-ledger (sym (K .accepted .read) ∙ T .read));
+      }
+    where
+      one-ledger : {x y : Ledger} {d e : ℕ} → got x d ≡ got y e → x ≡ y
+      one-ledger q = cc q
+
   pub file-there : {c : Cursor} → a ≡ Got c → FileThere f
   file-there is = let K = table-known F is in record { ledger = K .accepted .ledger; end = K .at; read = K .accepted .read }
 

@@ -5,7 +5,9 @@ ghost use Rattle.paper.specs.Reader.{times};
 ghost use Rattle.paper.specs.Rules.{anyType};
 ghost use Rattle.paper.specs.File.{Upto, newField, uptoNew};
 ghost use Rattle.listing.specs.Prints.{Prints};
+ghost use Rattle.listing.specs.Maps.{FieldPut};
 ghost use Rattle.listing.specs.Fields.{PastAll, NewKind, newWord, newWords, FieldsPrinted};
+use crate::maps::put_new_map;
 use lines::put_new;
 use lines::put_olds;
 use numbers::Cursor;
@@ -14,6 +16,7 @@ use numbers::Refusal;
 use numbers::Step;
 use numbers::refused;
 use numbers::refused_step;
+use reader::kinds::Kind;
 use reader::kinds::KindRead;
 use reader::kinds::Named;
 use reader::kinds::read_kind;
@@ -58,6 +61,16 @@ fn new_kind(file: &[u8], c: Cursor) -> KindRead
     read_kind(file, next, any)
 }
 
+// The line of the new field at c, whose kind and name were read.
+fn put_field(file: &[u8], c: Cursor, kind: Kind, name: u64, out: &mut [u8], at: usize) -> usize
+    ensures { λ r. ⌜ FieldPut (now (file .entry)) (c .at) kind name (now (out .entry)) at (now (out .exit)) r ⌝ }
+{
+    if kind.first == 20 {
+        return put_new_map(file, c, name, out, at);
+    }
+    put_new(out, at, kind.first, kind.bits, kind.last, name)
+}
+
 // The line of a new field. Nothing is shown of its end offset.
 fn print_new(file: &[u8], c: Cursor, out: &mut [u8], at: usize) -> Listed
     ensures { λ r. ⌜ ((t : ℕ) (u : Upto) → Prints (newField anyType t u) newWord (now (file .entry)) (c .at) (now (out .entry)) at (now (out .exit)) r) ⌝ }
@@ -74,7 +87,7 @@ fn print_new(file: &[u8], c: Cursor, out: &mut [u8], at: usize) -> Listed
     let Number::Got(_, next) = b else {
         return Listed::No(refused(b));
     };
-    let end = put_new(out, at, kind.first, kind.bits, kind.last, name);
+    let end = put_field(file, c, kind, name, out, at);
     Listed::Got(next, end)
 }
 

@@ -2,7 +2,9 @@
 mod entries;
 mod fields;
 mod fronts;
+mod maps;
 mod pairs;
+mod room;
 
 ghost use mathlib.Core.Path.{_≡_};
 ghost use lib.ListN.{length};
@@ -10,11 +12,12 @@ ghost use Rattle.paper.specs.Calls.{listing, afterListing};
 ghost use Rattle.table.specs.Counts.{noughts};
 ghost use Rattle.walk.specs.FileLaws.{FileRead};
 ghost use Rattle.calls.specs.Told.{Wrote, after};
-ghost use Rattle.listing.specs.Text.{FileThere, FilePrinted, TextWritten};
+ghost use Rattle.listing.specs.Text.{FileThere, FilePrinted, TextWritten, TableThere};
 use calls::replies::Reply;
 use numbers::Step;
 use pairs::print_pairs;
 use paper::Ledger;
+use room::is_roomy;
 use table::counts::begin;
 use table::counts::clear;
 use walk::pairs::read;
@@ -28,8 +31,9 @@ fn print_file(file: &[u8], table: &mut [u32], out: &mut [u8]) -> usize
     print_pairs(file, table, out, 0)
 }
 
-// The same code counts and writes: lent no room it stores nothing. So nothing is written before all of it is known to fit.
-fn write_text(file: &[u8], table: &mut [u32], out: &mut [u8]) -> Reply
+// The text counted, and then written. The same code does both: lent no room it stores nothing. So nothing is written before all of
+// it is known to fit.
+fn count_and_write(file: &[u8], table: &mut [u32], out: &mut [u8]) -> Reply
     requires { ⌜ (length (now table) ≡ 16384) × FileThere (now file) ⌝ }
     ensures { λ r. ⌜ TextWritten (now (file .entry)) (now (out .entry)) r (now (out .exit)) ⌝ }
 {
@@ -39,6 +43,18 @@ fn write_text(file: &[u8], table: &mut [u32], out: &mut [u8]) -> Reply
     }
     print_file(file, table, out);
     Reply::Done(count as u64)
+}
+
+// The text, where the table is the one that was read. With the room that is advised nothing need be counted.
+fn write_text(file: &[u8], table: &mut [u32], out: &mut [u8]) -> Reply
+    requires { ⌜ TableThere (now file) (now table) ⌝ }
+    ensures { λ r. ⌜ TextWritten (now (file .entry)) (now (out .entry)) r (now (out .exit)) ⌝ }
+{
+    if is_roomy(file, table, out.len()) {
+        let count = print_file(file, table, out);
+        return Reply::Done(count as u64);
+    }
+    count_and_write(file, table, out)
 }
 
 // Behind the reading: the file's own refusal, or its text.

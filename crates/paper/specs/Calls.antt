@@ -16,11 +16,14 @@ use Rattle.paper.specs.Ledger.{
   plain,
   array,
   many,
+  mapping,
   Element,
   flag,
   whole,
   float,
   link,
+  annotation,
+  keys,
   Chunk,
   Due,
   Pair,
@@ -94,6 +97,8 @@ stored (flag false) = pos 0
 stored (whole v) = v
 stored (float w n) = if eqb w 8 then signed 8 n else pos n
 stored (link n) = pos n
+stored (annotation name n) = pos n
+stored (keys n) = pos n
 
 unfoldable pub storedAll : List (List Element) → List ℤ
 storedAll [] = []
@@ -119,6 +124,7 @@ columnBy (constant k v) l t i = replicate (objectsOf (known l) t) v
 columnBy (plain k) l t i = fieldValues i nothing l
 columnBy (array n k) l t i = []
 columnBy (many c k) l t i = []
+columnBy (mapping ks) l t i = []
 
 unfoldable pub columnOf : Ledger → ℕ → ℕ → List ℤ
 columnOf l t i = columnBy (fieldAt (known l) i .kind) l t i
@@ -126,9 +132,10 @@ columnOf l t i = columnBy (fieldAt (known l) i .kind) l t i
 -- the kind that a column is asked with: 32 is a reference to any type; 33 for what has no column
 unfoldable pub asked : Kind → ℕ
 asked (constant k v) = k
-asked (plain k) = if ltb k 32 then k else 32
+asked (plain k) = if eqb k 5 then 33 else if ltb k 32 then k else 32
 asked (array n k) = 33
 asked (many c k) = 33
+asked (mapping ks) = 33
 
 -- 16, 17, 18, 19; `values` gives those of a type's field
 unfoldable pub ask : List ℕ → List ℕ → ℕ → ℕ → State → (ℕ → ℕ → List ℤ) → Answer (List ℤ)

@@ -15,11 +15,14 @@ use Rattle.paper.specs.Ledger.{
   plain,
   array,
   many,
+  mapping,
   Element,
   flag,
   whole,
   float,
   link,
+  annotation,
+  keys,
   New,
   Head,
   Entry,
@@ -31,6 +34,7 @@ use Rattle.paper.specs.Ledger.{
   nothing,
   fieldAt,
 }
+use Rattle.paper.specs.Maps.{sizeOf, throughMaps}
 use Rattle.paper.specs.Rules.{knownDue, withStrings, afterEntry, dues, afterFront, afterPair}
 
 -- where pieces end, the first of which begins at `from`
@@ -61,6 +65,7 @@ putKind (constant k v) = put k ++ putWhole k v
 putKind (plain k) = put k
 putKind (array n k) = put 15 ++ put n ++ put k
 putKind (many c k) = put c ++ put k
+putKind (mapping ks) = put 20 ++ put (length ks) ++ flat put ks
 
 unfoldable pub putNew : New × ℕ → List ℕ
 putNew g = put 0 ++ putKind (g .0 .kind) ++ put (g .0 .name) ++ put (g .1)
@@ -94,12 +99,19 @@ putElement k (flag false) = 0 ∷ []
 putElement k (whole v) = putWhole (k - 7) v
 putElement k (float w n) = putFixed w n
 putElement k (link n) = put n
+putElement k (annotation name n) = put name ++ put n
+putElement k (keys n) = put n
+
+-- a size
+unfoldable pub putSize : Element → List ℕ
+putSize e = put (sizeOf e)
 
 unfoldable pub putValue : Kind → List Element → List ℕ
 putValue (constant k v) es = []
 putValue (plain k) es = flat (putElement k) es
 putValue (array n k) es = flat (putElement k) es
 putValue (many c k) es = put (length es) ++ flat (putElement k) es
+putValue (mapping ks) es = throughMaps putElement putSize es (ks ∷ [])
 
 unfoldable pub putChunk : State → Due → Chunk → List ℕ
 putChunk s d c = flat (putValue (fieldAt s (d .field) .kind)) c

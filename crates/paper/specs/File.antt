@@ -35,11 +35,14 @@ use Rattle.paper.specs.Ledger.{
   plain,
   array,
   many,
+  mapping,
   Element,
   flag,
   whole,
   float,
   link,
+  annotation,
+  keys,
   New,
   Head,
   Entry,
@@ -51,6 +54,7 @@ use Rattle.paper.specs.Ledger.{
   nothing,
   fieldAt,
 }
+use Rattle.paper.specs.Maps.{mapOf}
 use Rattle.paper.specs.Rules.{
   smallRules,
   stringsRules,
@@ -72,11 +76,13 @@ use Rattle.paper.specs.Rules.{
   dues,
   kindRules,
   elementKindRules,
+  typesRules,
   anyType,
   aType?,
   kindsStand?,
   boolRules,
   linkRules,
+  annotationRules,
   afterFront,
   afterPair,
 }
@@ -140,6 +146,10 @@ kind named = do
       if leb 17 k && leb k 19 then (do
         e ← number (elementKindRules named)
         give (many k e)) else
+      if eqb k 20 then (do
+        n ← number typesRules
+        ks ← repeat n (number (elementKindRules named))
+        give (mapping ks)) else
       give (plain k)
 
 -- while the entries of a block are read: what is known, and the last end offset
@@ -201,8 +211,18 @@ front named s = do
 
 -- ── values ──
 
+-- two numbers
+unfoldable pub twoNumbers : Reader (ℕ × ℕ)
+twoNumbers = do
+  m ← v64
+  n ← v64
+  give (m, n)
+
 unfoldable pub element : State → ℕ → Reader Element
 element s k =
+    if eqb k 5 then (do
+      p ← must twoNumbers (annotationRules s)
+      give (annotation (p .0) (p .1))) else
     if eqb k 6 then (do
       b ← must (fixed 1) boolRules
       give (flag (eqb b 255))) else
@@ -222,6 +242,7 @@ value s (array l k) = repeat l (element s k)
 value s (many c k) = do
   n ← small
   repeat n (element s k)
+value s (mapping ks) = mapOf (refuse 10) small keys (map (element s) ks)
 
 -- a chunk of so many bytes: its values fill it exactly
 unfoldable pub chunk : State → Due × ℕ → Reader Chunk

@@ -15,11 +15,14 @@ use Rattle.paper.specs.Ledger.{
   plain,
   array,
   many,
+  mapping,
   Element,
   flag,
   whole,
   float,
   link,
+  annotation,
+  keys,
   New,
   Head,
   Entry,
@@ -49,12 +52,15 @@ use Rattle.paper.specs.Rules.{
   afterEntry,
   dues,
   elementKindRules,
+  typesRules,
+  annotation?,
   anyType,
   kindsStand?,
   linkRules,
   afterFront,
   afterPair,
 }
+use Rattle.paper.specs.Maps.{size?, sizeOf, allThrough}
 use Rattle.paper.specs.Encode.{encode}
 
 unfoldable pub every : List Bool → Bool
@@ -111,6 +117,7 @@ kindKept? (constant k v) = leb k 4 && whole? k v
 kindKept? (plain k) = number? (elementKindRules anyType) k
 kindKept? (array n k) = number? smallRules n && number? (elementKindRules anyType) k
 kindKept? (many c k) = leb 17 c && leb c 19 && number? (elementKindRules anyType) k
+kindKept? (mapping ks) = number? typesRules (length ks) && all (number? (elementKindRules anyType)) ks
 
 unfoldable pub new-field? : ℕ → State → New → Bool
 new-field? t s g = kindKept? (g .kind) && number? (fieldNameRules t s) (g .name)
@@ -130,15 +137,22 @@ entry? s e =
 
 unfoldable pub element? : State → ℕ → Element → Bool
 element? s k (flag b) = eqb k 6
-element? s k (whole v) = not (eqb k 6) && leb k 11 && whole? (k - 7) v
+element? s k (whole v) = not (eqb k 5) && (not (eqb k 6) && leb k 11 && whole? (k - 7) v)
 element? s k (float w n) = not (leb k 11) && leb k 13 && eqb w (4 * (k - 11)) && ltb n (256 ^ w)
 element? s k (link n) = not (leb k 13) && number? (linkRules s k) n
+element? s k (annotation name n) = eqb k 5 && (ltb name (256 ^ 8) && (ltb n (256 ^ 8) && annotation? s name n))
+element? s k (keys n) = false
+
+-- a size
+unfoldable pub sized? : Element → Bool
+sized? e = size? e && number? smallRules (sizeOf e)
 
 unfoldable pub value? : State → Kind → List Element → Bool
 value? s (constant k v) es = eqb (length es) 0
 value? s (plain k) es = eqb (length es) 1 && all (element? s k) es
 value? s (array n k) es = eqb (length es) n && all (element? s k) es
 value? s (many c k) es = number? smallRules (length es) && all (element? s k) es
+value? s (mapping ks) es = allThrough (element? s) sized? es (ks ∷ [])
 
 unfoldable pub chunk? : State → Due → Chunk → Bool
 chunk? s d vs = eqb (length vs) (d .values) && all (value? s (fieldAt s (d .field) .kind)) vs

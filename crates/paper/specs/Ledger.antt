@@ -10,20 +10,24 @@ use Rattle.paper.specs.Lists.{same, any, place, placeNamed, places, tota
 
 -- ── the ledger: what a file says, and a listing shows ──
 
--- a kind, by its numbers: a constant of kind 0 to 4 with its value; 6 to 14 and 32 upwards; 15 with a length and an element
--- kind; 17 to 19 with an element kind
+-- a kind, by its numbers: a constant of kind 0 to 4 with its value; 5 to 14 and 32 upwards; 15 with a length and an element
+-- kind; 17 to 19 with an element kind; 20 with the element kinds of a map
 pub data Kind : Type 0 where
   constant : ℕ → ℤ → Kind
   plain : ℕ → Kind
   array : ℕ → ℕ → Kind
   many : ℕ → ℕ → Kind
+  mapping : List ℕ → Kind
 
--- a value's element: flag, whole number, the bits of a float of so many bytes, number of a string or an object
+-- a value's element: flag, whole number, the bits of a float of so many bytes, number of a string or an object; the numbers of
+-- a base type's name and of an object; and in a map the size that stands before so many keys
 pub data Element : Type 0 where
   flag : Bool → Element
   whole : ℤ → Element
   float : ℕ → ℕ → Element
   link : ℕ → Element
+  annotation : ℕ → ℕ → Element
+  keys : ℕ → Element
 
 -- a new field: its kind, and its name by the string's number
 pub record New : Type 0 where

@@ -6,6 +6,7 @@ pub mod Agree
 pub mod Lists
 pub mod Ledger
 pub mod Rules
+pub mod Maps
 pub mod File
 pub mod Places
 pub mod Encode

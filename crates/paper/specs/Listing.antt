@@ -16,11 +16,14 @@ use Rattle.paper.specs.Ledger.{
   plain,
   array,
   many,
+  mapping,
   Element,
   flag,
   whole,
   float,
   link,
+  annotation,
+  keys,
   New,
   Head,
   Entry,
@@ -114,19 +117,23 @@ kindWord (constant k v) = joined (decimal k ∷ decimalℤ v ∷ [])
 kindWord (plain k) = decimal k
 kindWord (array n k) = joined (decimal 15 ∷ decimal n ∷ decimal k ∷ [])
 kindWord (many c k) = joined (decimal c ∷ decimal k ∷ [])
+kindWord (mapping ks) = joined (decimal 20 ∷ decimal (length ks) ∷ map decimal ks)
 
 -- `new`, kind, name
 unfoldable pub newLine : New → List ℕ
 newLine g = line (ascii "new" ∷ kindWord (g .kind) ∷ decimal (g .name) ∷ [])
 
+-- an annotation is two fields
 unfoldable pub elementWord : Element → List ℕ
 elementWord (flag true) = decimal 1
 elementWord (flag false) = decimal 0
 elementWord (whole v) = decimalℤ v
 elementWord (float w n) = hexDigits (2 * w) n
 elementWord (link n) = decimal n
+elementWord (annotation name n) = decimal name ++ tab ∷ decimal n
+elementWord (keys n) = decimal n
 
--- `val`, the value's elements, the word alone if it has none
+-- `val`, the value's elements, the word alone if it has none; a map's sizes stand before their keys
 unfoldable pub valueLine : List Element → List ℕ
 valueLine es = line (ascii "val" ∷ map elementWord es)
 

@@ -2,7 +2,7 @@
 use mathlib.Core.Bool.{Bool, true, false, _&&_, _||_, not}
 use mathlib.Core.List.{List, [], _∷_, _++_, map}
 use mathlib.Core.Option.{Option, none, some}
-use Prim.Native.Nat.{ℕ, zero, suc, _+_, _-_, _*_, _^_}
+use Prim.Native.Nat.{ℕ, zero, suc, _+_, _-_, _*_, _^_, min}
 use lib.Dec.{leb, ltb, eqb}
 use lib.IntN.{ℤ, pos, negsuc}
 use lib.ListN.{length, getD, take, drop}
@@ -15,6 +15,7 @@ use Rattle.paper.specs.Ledger.{
   plain,
   array,
   many,
+  mapping,
   New,
   Head,
   Entry,
@@ -198,6 +199,14 @@ fieldCountRules s known n = (leb (length (s .fields) + (n - known)) mostFields o
 unfoldable pub fieldNameRules : ℕ → State → ℕ → List Rule
 fieldNameRules t s n = (aString? s n orNo 5) ∷ (not (given? (fieldNamed s t (text s n))) orNo 6) ∷ []
 
+-- what is kept of a kind: of a map's element kinds one byte each, since none from 255 upwards names a type
+unfoldable pub noted : Kind → Kind
+noted (constant k v) = constant k v
+noted (plain k) = plain k
+noted (array n k) = array n k
+noted (many c k) = many c k
+noted (mapping ks) = mapping (map (min 255) ks)
+
 unfoldable pub afterNew : ℕ → State → New → State
 afterNew t s g =
     record {
@@ -205,7 +214,7 @@ afterNew t s g =
       typeNames = s .typeNames;
       types = s .types;
       fieldNames = s .fieldNames ++ text s (g .name) ∷ [];
-      fields = s .fields ++ record { owner = t; kind = g .kind } ∷ [];
+      fields = s .fields ++ record { owner = t; kind = noted (g .kind) } ∷ [];
       log = s .log;
       block = s .block;
     }
@@ -225,6 +234,7 @@ valuesDue (constant k v) n = 0
 valuesDue (plain k) n = n
 valuesDue (array l k) n = n
 valuesDue (many c k) n = n
+valuesDue (mapping ks) n = n
 
 -- a known field has one value for each object added in this block
 unfoldable pub oldDue : State → ℕ → ℕ → Due
@@ -245,12 +255,21 @@ dues s (e ∷ es) = entryDues s e ++ dues (afterEntry s e) es
 
 -- ── "Kinds" ──
 
-unfoldable pub elementKind? : ℕ → Bool
-elementKind? k = leb 6 k && leb k 14 || leb 32 k
+-- an element of one number
+unfoldable pub singleKind? : ℕ → Bool
+singleKind? k = leb 6 k && leb k 14 || leb 32 k
 
--- 5, 16 and 20 to 31 are not listed
+-- an annotation has two
+unfoldable pub elementKind? : ℕ → Bool
+elementKind? k = eqb k 5 || singleKind? k
+
+-- 16 and 21 to 31 are not listed
 unfoldable pub kind? : ℕ → Bool
-kind? k = leb k 4 || elementKind? k || eqb k 15 || leb 17 k && leb k 19
+kind? k = leb k 4 || elementKind? k || eqb k 15 || leb 17 k && leb k 19 || eqb k 20
+
+-- a map's number of types
+unfoldable pub typesRules : ℕ → List Rule
+typesRules n = (leb 2 n && leb n 8 orNo 10) ∷ []
 
 -- a kind from 32 upwards names a type, and `named` says which of them do
 unfoldable pub kindRules : (ℕ → Bool) → ℕ → List Rule
@@ -272,6 +291,7 @@ kindStands? s (constant k v) = true
 kindStands? s (plain k) = aType? s k
 kindStands? s (array l k) = aType? s k
 kindStands? s (many c k) = aType? s k
+kindStands? s (mapping ks) = all (aType? s) ks
 
 -- the types that new fields refer to are declared by the end of this block
 unfoldable pub kindsStand? : State → List Entry → Bool
@@ -289,6 +309,18 @@ link? s k n = if eqb k 14 then leb n (length (s .strings)) else (eqb n 0 || obje
 
 unfoldable pub linkRules : State → ℕ → ℕ → List Rule
 linkRules s k n = (link? s k n orNo 14) ∷ []
+
+-- object n of a base type's pool
+unfoldable pub baseObject? : State → Option ℕ → ℕ → Bool
+baseObject? s none n = false
+baseObject? s (some t) n = not (given? (typeIn (s .types) t .super)) && object? s t n
+
+-- an annotation: the number of a base type's name and of an object in its pool, or 0 and 0
+unfoldable pub annotation? : State → ℕ → ℕ → Bool
+annotation? s name n = if eqb name 0 then eqb n 0 else (aString? s name && baseObject? s (typeNamed s (text s name)) n)
+
+unfoldable pub annotationRules : State → ℕ × ℕ → List Rule
+annotationRules s p = (annotation? s (p .0) (p .1) orNo 14) ∷ []
 
 -- ── the pair ──
 

@@ -1,7 +1,7 @@
 -- A ledger from its listing: the text is read by the same kind of reader, and each rule is tested at its line. Whatever is
 -- wrong is refused by 20, which has no place. Assumes nothing.
 use mathlib.Core.Bool.{Bool, true, false, _&&_, _||_, not}
-use mathlib.Core.List.{List, [], _∷_, _++_}
+use mathlib.Core.List.{List, [], _∷_, _++_, map}
 use mathlib.Core.Option.{Option, none, some}
 use Prim.Native.Nat.{ℕ, zero, suc, _+_, _-_, _*_, _^_}
 use lib.Dec.{leb, ltb, eqb}
@@ -15,11 +15,14 @@ use Rattle.paper.specs.Ledger.{
   plain,
   array,
   many,
+  mapping,
   Element,
   flag,
   whole,
   float,
   link,
+  annotation,
+  keys,
   New,
   Head,
   Entry,
@@ -32,6 +35,7 @@ use Rattle.paper.specs.Ledger.{
   fieldAt,
 }
 use Rattle.paper.specs.Rules.{smallRules, stringsRules, withStrings, typeOf, afterHead, knownDue, fieldCountRules, afterNew, afterEntry, dues, kindsStand?, afterFront, afterPair}
+use Rattle.paper.specs.Maps.{mapOf}
 use Rattle.paper.specs.Listing.{ascii, tab, newline, comma, dash, oldLine}
 use Rattle.paper.specs.Encode.{encode}
 use Rattle.paper.specs.Keeps.{number?, head?, new-field?, value?}
@@ -158,6 +162,11 @@ readKind = do
         byteIs comma
         e ← natural
         give (many k e)) else
+      if eqb k 20 then (do
+        byteIs comma
+        n ← natural
+        ks ← repeat n (byteIs comma >> natural)
+        give (mapping ks)) else
       give (plain k)
 
 unfoldable pub readNew : Reader New
@@ -172,6 +181,10 @@ readFlag t at = if eqb (getD t at 256) 48 then got (flag false) (at + 1) else if
 
 unfoldable pub readElement : ℕ → Reader Element
 readElement k =
+    if eqb k 5 then (do
+      name ← ended tab natural
+      n ← natural
+      give (annotation name n)) else
     if eqb k 6 then
     readFlag else
     if leb k 11 then (do
@@ -193,6 +206,15 @@ readValue k = do
   literal (ascii "val")
   ended newline (tabbed mostObjects (readElement k))
 
+-- a map: its words, each behind a tab
+unfoldable pub mapWords : List ℕ → Reader (List Element)
+mapWords ks = mapOf bad (byteIs tab >> natural) keys (map (λ k. byteIs tab >> readElement k) ks)
+
+unfoldable pub readMap : List ℕ → Reader (List Element)
+readMap ks = do
+  literal (ascii "val")
+  ended newline (mapWords ks)
+
 -- ── the ledger ──
 
 unfoldable pub newText : ℕ → State → Reader New
@@ -210,15 +232,17 @@ entryText s = do
   news ← times (h .1 - length (knownDue s (h .0))) (newText (typeOf s (h .0 .name))) (afterNew (typeOf s (h .0 .name))) (afterHead s (h .0))
   give (record { head = h .0; news = news })
 
-unfoldable pub elementsKind : Kind → ℕ
-elementsKind (constant k v) = 0
-elementsKind (plain k) = k
-elementsKind (array n k) = k
-elementsKind (many c k) = k
+-- the line of a value
+unfoldable pub readLine : Kind → Reader (List Element)
+readLine (constant k v) = readValue 0
+readLine (plain k) = readValue k
+readLine (array n k) = readValue k
+readLine (many c k) = readValue k
+readLine (mapping ks) = readMap ks
 
 unfoldable pub valueText : State → Kind → Reader (List Element)
 valueText s k = do
-  v ← readValue (elementsKind k)
+  v ← readLine k
   heed (value? s k v)
   give v
 

@@ -6,10 +6,11 @@ use Prim.Native.Nat.{ℕ, _+_, _^_, _≤_}
 use lib.Dec.{ltb}
 use lib.ListN.{length}
 use lib.Seq.{slice}
-use Rattle.paper.specs.Reader.{if_then_else_, Reader, Out, got, no, _>>=_, _>>_, give}
-use Rattle.paper.specs.Ledger.{Kind, constant, array, many, New, Head}
+use Rattle.paper.specs.Reader.{if_then_else_, Reader, Out, got, no, turned, _>>=_, _>>_, give, repeat}
+use Rattle.paper.specs.Ledger.{Kind, constant, array, many, mapping, New, Head}
+use Rattle.paper.specs.Rules.{elementKindRules, anyType, noted}
 use Rattle.paper.specs.Listing.{tab, newline, comma, hex}
-use Rattle.paper.specs.Keeps.{bytes?, kindKept?}
+use Rattle.paper.specs.Keeps.{number?, bytes?, kindKept?}
 use Rattle.paper.specs.Scan.{heed, byteIs, ended, natural, integer, hexBytes, readString, readNew}
 use Rattle.table.specs.View.{kindFrom}
 use Rattle.words.specs.Answers.{option}
@@ -101,6 +102,26 @@ manyOf k = do
   e ← natural
   give (many k e)
 
+-- an element kind that keeps its rules
+unfoldable pub elementOf : Reader ℕ
+elementOf = do
+  byteIs comma
+  e ← natural
+  heed (number? (elementKindRules anyType) e)
+  give e
+
+-- the element kinds of a map of n types
+unfoldable pub kindsOf : ℕ → Reader Kind
+kindsOf n = do
+  ks ← repeat n (byteIs comma >> natural)
+  give (mapping ks)
+
+unfoldable pub mapOf : Reader Kind
+mapOf = do
+  byteIs comma
+  n ← natural
+  kindsOf n
+
 -- the bytes of a constant's value
 abbrev pub widthOf : ℕ → ℕ
 widthOf k = if ltb k 4 then 2 ^ k else 8
@@ -114,19 +135,14 @@ abbrev pub outKind : KindWord → Out Kind
 outKind (kinds.Got x c) = got (kindFrom (x .k) (x .a) (x .e)) (c .at)
 outKind kinds.Bad = no 20 0
 
--- what is known of a kind's numbers besides which kind they are
-pub record Told (k e : ℕ) : Type 0 where
-  pub first : k ≤ 32
-  -- so the last number is the one that may name a type
-  pub constant : k ≤ 4 → e ≡ 0
-
+-- a row of the table has room for the first number
 abbrev pub toldKind : KindWord → Type 0
-toldKind (kinds.Got x c) = Told (x .k) (x .e)
+toldKind (kinds.Got x c) = x .k ≤ 32
 toldKind kinds.Bad = Unit {0}
 
--- the answer is what the reader `r` gives at `at`, if it keeps the rules
+-- the answer is what is kept of the kind that the reader `r` gives at `at`, if it keeps the rules
 pub record KindReads (r : Reader Kind) (t : List ℕ) (at : ℕ) (a : KindWord) : Type 0 where
-  pub says : outKind a ≡ keeping r t at
+  pub says : outKind a ≡ turned noted (keeping r t at)
   pub told : toldKind a
 
 -- ── new ──
@@ -135,14 +151,18 @@ pub record KindReads (r : Reader Kind) (t : List ℕ) (at : ℕ) (a : KindWord) 
 unfoldable pub keptNew : Reader New
 keptNew = readNew >>= λ g. heed (kindKept? (g .kind)) >> give g
 
+-- with what is kept of its kind
+abbrev pub notedNew : New → New
+notedNew g = record { kind = noted (g .kind); name = g .name }
+
 abbrev pub outNew : NewRead → Out New
 outNew (new.Got l c) = got (record { kind = kindFrom (l .k) (l .a) (l .e); name = l .name }) (c .at)
 outNew new.Bad = no 20 0
 
 abbrev pub toldNew : NewRead → Type 0
-toldNew (new.Got l c) = Told (l .k) (l .e)
+toldNew (new.Got l c) = l .k ≤ 32
 toldNew new.Bad = Unit {0}
 
 pub record NewReads (t : List ℕ) (at : ℕ) (r : NewRead) : Type 0 where
-  pub says : outNew r ≡ keptNew t at
+  pub says : outNew r ≡ turned notedNew (keptNew t at)
   pub told : toldNew r

@@ -2,7 +2,6 @@
 use mathlib.Core.Path.{_≡_, refl, sym, ap, _∙_}
 use mathlib.Core.Bool.{Bool, true, false, _&&_, not}
 use mathlib.Core.List.{List}
-use mathlib.Core.Logic.{_⊎_, inl, inr}
 use Prim.Native.Nat.{ℕ, _+_, _-_, _^_, _/_, _≤_, _<_}
 use native.Mathlib.Omega.{arith}
 use native.Mathlib.Nat.{lt-of-not-le}
@@ -10,11 +9,11 @@ use native.Mathlib.Decide.{decLe}
 use lib.Dec.{leb, ltb}
 use lib.IntN.{pos, negsuc}
 use borrow.Author.Tests.{le-leb, lt-leb, lt-ltb, le-ltb, eq-eqb, ne-eqb, ltb-true, ltb-false, not-true, not-false}
-use Rattle.paper.specs.Reader.{if_then_else_, Reader, got, no as bad, _>>=_, _>>_, give}
+use Rattle.paper.specs.Reader.{if_then_else_, Reader, Out, got, no as bad, andThen, turned, _>>=_, _>>_, give}
 use Rattle.paper.specs.Numbers.{signed}
 use Rattle.paper.specs.Bounds.{mostObjects}
 use Rattle.paper.specs.Ledger.{Kind, constant, plain, array, many}
-use Rattle.paper.specs.Rules.{smallRules, elementKind?, elementKindRules, anyType}
+use Rattle.paper.specs.Rules.{smallRules, singleKind?, elementKind?, elementKindRules, anyType, noted}
 use Rattle.paper.specs.Listing.{comma}
 use Rattle.paper.specs.Keeps.{hold?, number?, signed?, whole?, kindKept?}
 use Rattle.paper.specs.Scan.{heed, byteIs, ended, natural, integer, readKind}
@@ -23,7 +22,7 @@ use Rattle.values.specs.Chunks.{kind-array, kind-many, kind-plain}
 use Rattle.parse.specs.declared.kinds.Kind.{Kind as Numbers}
 use Rattle.parse.specs.declared.kinds.KindWord.{KindWord}
 use Rattle.parse.specs.declared.kinds.KindWord.the-variants as kinds
-use Rattle.parse.specs.Answers.{keeping, constantOf, arrayOf, manyOf, widthOf, Half, Told, KindReads}
+use Rattle.parse.specs.Answers.{keeping, constantOf, arrayOf, manyOf, elementOf, kindsOf, mapOf, widthOf, Half, KindReads}
 
 -- ── a number below 2 ^ 64, and its rules ──
 
@@ -32,37 +31,29 @@ module _ (k : ℕ) (fits : k < 2 ^ 64) where
   unfolding number? hold? elementKindRules
   element-is = rw (lt-ltb k (256 ^ 8) fits)
 
-  pub element-low : 6 ≤ k → k ≤ 14 → true ≡ number? (elementKindRules anyType) k
-  unfolding elementKind?
-  element-low lo hi = rw (element-is, le-leb 6 k lo, le-leb k 14 hi)
+  pub element-low : 5 ≤ k → k ≤ 14 → true ≡ number? (elementKindRules anyType) k
+  unfolding elementKind? singleKind?
+  element-low lo hi =
+      elim (decLe 6 k) [
+        | yes d ↦ rw (element-is, ne-eqb k 5 (λ q. omega arith), le-leb 6 k d, le-leb k 14 hi)
+        | no d ↦ (let five : k ≡ 5 = omega (arith, lt-of-not-le d) in rw (element-is, eq-eqb k 5 five))
+      ]
 
   pub element-type : 32 ≤ k → true ≡ number? (elementKindRules anyType) k
-  unfolding elementKind?
-  element-type lo = rw (element-is, le-leb 6 k (omega arith), lt-leb k 14 (omega arith), le-leb 32 k lo)
+  unfolding elementKind? singleKind?
+  element-type lo = rw (element-is, ne-eqb k 5 (λ q. omega arith), le-leb 6 k (omega arith), lt-leb k 14 (omega arith), le-leb 32 k lo)
 
-  pub element-under : k < 6 → false ≡ number? (elementKindRules anyType) k
-  unfolding elementKind?
-  element-under hi = rw (element-is, lt-leb 6 k hi, lt-leb 32 k (omega arith))
+  pub element-under : k < 5 → false ≡ number? (elementKindRules anyType) k
+  unfolding elementKind? singleKind?
+  element-under hi = rw (element-is, ne-eqb k 5 (λ q. omega arith), lt-leb 6 k (omega arith), lt-leb 32 k (omega arith))
 
   pub element-gap : 15 ≤ k → k < 32 → false ≡ number? (elementKindRules anyType) k
-  unfolding elementKind?
-  element-gap lo hi = rw (element-is, le-leb 6 k (omega arith), lt-leb k 14 (omega arith), lt-leb 32 k hi)
+  unfolding elementKind? singleKind?
+  element-gap lo hi = rw (element-is, ne-eqb k 5 (λ q. omega arith), le-leb 6 k (omega arith), lt-leb k 14 (omega arith), lt-leb 32 k hi)
 
   small-is : number? smallRules k ≡ (leb k mostObjects && true)
   unfolding number? hold? smallRules
   small-is = rw (lt-ltb k (256 ^ 8) fits)
-
-  -- 5 and 16 stand alone
-  pub single-gap : (k ≡ 5) ⊎ (k ≡ 16) → false ≡ number? (elementKindRules anyType) k
-  single-gap (inl is) = element-under (omega arith)
-  single-gap (inr is) = element-gap (omega arith) (omega arith)
-
--- in neither of them
-pub past-gaps : (k : ℕ) → ((k ≡ 5) ⊎ (k ≡ 16) → ⊥) → (5 ≤ k → 6 ≤ k) × (16 ≤ k → 17 ≤ k)
-past-gaps k out =
-    let not-five : k ≡ 5 → ⊥ = λ e. out (inl e) in
-    let not-sixteen : k ≡ 16 → ⊥ = λ e. out (inr e) in
-    (λ le. omega arith, λ le. omega arith)
 
 -- ── a value of 64 bits, in fewer bytes ──
 
@@ -111,12 +102,8 @@ module _ (k : ℕ) where
 
 -- ── what is read, held to its rules ──
 
--- no constant
-told-last : (k e : ℕ) → 4 < k → k ≤ 32 → Told k e
-told-last k e lo hi = record { first = hi; constant = λ i. absurd (omega arith) }
-
 module _ {r : Reader Kind} {t : List ℕ} {at : ℕ} where
-  kind-bad : bad 20 0 ≡ r t at → KindReads r t at kinds.Bad
+  pub kind-bad : bad 20 0 ≡ r t at → KindReads r t at kinds.Bad
   unfolding keeping _>>=_
   kind-bad h = record { says = rw (← h); told = tt }
 
@@ -125,7 +112,7 @@ module _ {r : Reader Kind} {t : List ℕ} {at : ℕ} where
     unfolding keeping heed _>>=_ _>>_ if_then_else_
     kind-broken b = record { says = rw (← h, b); told = tt }
 
-    kind-kept : kindKept? x ≡ true → (n : Numbers) → kindFrom (n .k) (n .a) (n .e) ≡ x → Told (n .k) (n .e) → KindReads r t at (kinds.Got n (record { at = e }))
+    kind-kept : kindKept? x ≡ true → (n : Numbers) → kindFrom (n .k) (n .a) (n .e) ≡ noted x → n .k ≤ 32 → KindReads r t at (kinds.Got n (record { at = e }))
     unfolding keeping heed _>>=_ _>>_ give if_then_else_
     kind-kept b n is l = record { says = rw (← h, b, is); told = l }
 
@@ -159,7 +146,8 @@ module _ (k : ℕ) (t : List ℕ) (at : ℕ) where
       kept-if s = rw (le-leb k 4 l) s
 
       constant-kept : (a : ℕ) → (signed? (widthOf k) (signed 8 x) ≡ true) × (signed (widthOf k) a ≡ signed 8 x) → KindReads (constantOf k) t at (kinds.Got (record { k = k; a = a; e = 0 }) (record { at = e }))
-      constant-kept a s = kind-kept constant-is (kept-if (s .0)) _ (kind-constant k a 0 l ∙ ap (constant k) (s .1)) (record { first = omega arith; constant = λ i. refl })
+      unfolding noted
+      constant-kept a s = kind-kept constant-is (kept-if (s .0)) _ (kind-constant k a 0 l ∙ ap (constant k) (s .1)) (omega arith)
 
       pub constant-low : x < h → KindReads (constantOf k) t at (kinds.Got (record { k = k; a = x; e = 0 }) (record { at = e }))
       constant-low s = constant-kept x (fits-low (widthOf k) H x s)
@@ -198,37 +186,65 @@ module _ (t : List ℕ) (at : ℕ) where
 
         module _ {b : Bool} (is : b ≡ leb n mostObjects) (h : not b ≡ false) where
           pub array-got : true ≡ number? (elementKindRules anyType) e → KindReads arrayOf t at (kinds.Got (record { k = 15; a = n; e = e }) (record { at = d }))
-          unfolding kindKept?
-          array-got s = kind-kept array-is (rw (small-is n fits, ← is, not-false b h, ← s)) _ (kind-array 15 n e refl) (told-last 15 e (omega arith) (omega arith))
+          unfolding kindKept? noted
+          array-got s = kind-kept array-is (rw (small-is n fits, ← is, not-false b h, ← s)) _ (kind-array 15 n e refl) (omega arith)
 
           pub array-gap : false ≡ number? (elementKindRules anyType) e → KindReads arrayOf t at kinds.Bad
           unfolding kindKept?
           array-gap s = kind-broken array-is (rw (small-is n fits, ← is, not-false b h, ← s))
 
--- ── as many elements as a value says ──
+-- ── an element kind ──
 
-module _ (k : ℕ) (t : List ℕ) (at : ℕ) where
-  pub many-no-comma : bad 20 0 ≡ byteIs comma t at → KindReads (manyOf k) t at kinds.Bad
-  unfolding manyOf _>>=_ _>>_
-  many-no-comma h = kind-bad (rw (← h))
+module _ (t : List ℕ) (at : ℕ) where
+  pub element-no-comma : bad 20 0 ≡ byteIs comma t at → bad 20 0 ≡ elementOf t at
+  unfolding elementOf _>>=_ _>>_
+  element-no-comma h = rw (← h)
 
   module _ {p : ℕ} (sep : got tt p ≡ byteIs comma t at) where
-    pub many-no-element : bad 20 0 ≡ natural t p → KindReads (manyOf k) t at kinds.Bad
-    unfolding manyOf _>>=_ _>>_
-    many-no-element h = kind-bad (rw (← sep, ← h))
+    pub element-none : bad 20 0 ≡ natural t p → bad 20 0 ≡ elementOf t at
+    unfolding elementOf _>>=_ _>>_
+    element-none h = rw (← sep, ← h)
 
-    module _ {e d : ℕ} (element : got e d ≡ natural t p) (lo : 17 ≤ k) (hi : k ≤ 19) where
-      many-is : got (many k e) d ≡ manyOf k t at
-      unfolding manyOf _>>=_ _>>_ give
-      many-is = rw (← sep, ← element)
+    module _ {e d : ℕ} (read : got e d ≡ natural t p) where
+      pub element-got : true ≡ number? (elementKindRules anyType) e → got e d ≡ elementOf t at
+      unfolding elementOf heed _>>=_ _>>_ give if_then_else_
+      element-got s = rw (← sep, ← read, ← s)
 
-      pub many-got : true ≡ number? (elementKindRules anyType) e → KindReads (manyOf k) t at (kinds.Got (record { k = k; a = 0; e = e }) (record { at = d }))
-      unfolding kindKept?
-      many-got s = kind-kept many-is (rw (le-leb 17 k lo, le-leb k 19 hi, ← s)) _ (kind-many k 0 e lo hi) (told-last k e (omega arith) (omega arith))
+      pub element-broken : false ≡ number? (elementKindRules anyType) e → bad 20 0 ≡ elementOf t at
+      unfolding elementOf heed _>>=_ _>>_ give if_then_else_
+      element-broken s = rw (← sep, ← read, ← s)
 
-      pub many-gap : false ≡ number? (elementKindRules anyType) e → KindReads (manyOf k) t at kinds.Bad
-      unfolding kindKept?
-      many-gap s = kind-broken many-is (rw (le-leb 17 k lo, le-leb k 19 hi, ← s))
+-- ── as many elements as a value says ──
+
+module _ (k : ℕ) (t : List ℕ) (at : ℕ) (lo : 17 ≤ k) (hi : k ≤ 19) where
+  many-is : keeping (manyOf k) t at ≡ turned (many k) (elementOf t at)
+  unfolding keeping manyOf elementOf kindKept? heed _>>=_ _>>_ give if_then_else_
+  many-is = behind (byteIs comma t at)
+    where
+      ruled : (e d : ℕ) (b : Bool) → andThen (if b then got (tt {0}) d else bad 20 0) (λ u d. got (many k e) d) ≡ turned (many k) (andThen (if b then got (tt {0}) d else bad 20 0) (λ u d. got e d))
+      ruled e d true = refl
+      ruled e d false = refl
+
+      element :
+          (o : Out ℕ)
+          → andThen (andThen o (λ e d. got (many k e) d)) (λ x d. andThen (if kindKept? x then got (tt {0}) d else bad 20 0) (λ u d. got x d))
+          ≡ turned (many k) (andThen o (λ e d. andThen (if number? (elementKindRules anyType) e then got (tt {0}) d else bad 20 0) (λ u d. got e d)))
+      element (got e d) = rw (le-leb 17 k lo, le-leb k 19 hi) (ruled e d (number? (elementKindRules anyType) e))
+      element (bad n p) = refl
+
+      behind :
+          (o : Out (Unit {0}))
+          → andThen (andThen o (λ u e. andThen (natural t e) (λ x d. got (many k x) d))) (λ x d. andThen (if kindKept? x then got (tt {0}) d else bad 20 0) (λ u d. got x d))
+          ≡ turned (many k) (andThen o (λ u e. andThen (natural t e) (λ e d. andThen (if number? (elementKindRules anyType) e then got (tt {0}) d else bad 20 0) (λ u d. got e d))))
+      behind (got u e) = element (natural t e)
+      behind (bad n p) = refl
+
+  pub many-none : bad 20 0 ≡ elementOf t at → KindReads (manyOf k) t at kinds.Bad
+  many-none h = record { says = rw (many-is, ← h); told = tt }
+
+  pub many-got : {e d : ℕ} → got e d ≡ elementOf t at → KindReads (manyOf k) t at (kinds.Got (record { k = k; a = 0; e = e }) (record { at = d }))
+  unfolding noted
+  many-got {e} h = record { says = rw (many-is, ← h, kind-many k 0 e lo hi); told = omega arith }
 
 -- ── a kind of one number ──
 
@@ -241,9 +257,9 @@ module _ (k : ℕ) (t : List ℕ) (at : ℕ) where
   unfolding kindKept?
   alone-gap s = kind-broken alone-is (sym s)
 
-  alone-kept : true ≡ number? (elementKindRules anyType) k → (n : ℕ) → kindFrom n 0 k ≡ plain k → 4 < n → n ≤ 32 → KindReads (give (plain k)) t at (kinds.Got (record { k = n; a = 0; e = k }) (record { at = at }))
-  unfolding kindKept?
-  alone-kept s n is lo hi = kind-kept alone-is (sym s) _ is (told-last n k lo hi)
+  alone-kept : true ≡ number? (elementKindRules anyType) k → (n : ℕ) → kindFrom n 0 k ≡ plain k → n ≤ 32 → KindReads (give (plain k)) t at (kinds.Got (record { k = n; a = 0; e = k }) (record { at = at }))
+  unfolding kindKept? noted
+  alone-kept s n is hi = kind-kept alone-is (sym s) _ is hi
 
 -- ── a kind ──
 
@@ -270,32 +286,29 @@ module _ {t : List ℕ} {at : ℕ} where
     unfolding readKind manyOf _>>=_ if_then_else_
     kind-is-many lo hi = goes-on (rw (← h, lt-leb k 4 (omega arith), ne-eqb k 15 (λ q. omega arith), le-leb 17 k lo, le-leb k 19 hi))
 
-    kind-is-alone : 4 < k → (k ≡ 15 → ⊥) → (17 ≤ k → 19 < k) → KindReads (give (plain k)) t e a → KindReads readKind t at a
+    pub kind-is-map : k ≡ 20 → KindReads mapOf t e a → KindReads readKind t at a
+    unfolding readKind mapOf kindsOf _>>=_ if_then_else_
+    kind-is-map is = goes-on (rw (← h, lt-leb k 4 (omega arith), ne-eqb k 15 (λ q. omega arith), le-leb 17 k (omega arith), lt-leb k 19 (omega arith), eq-eqb k 20 is))
+
+    kind-is-alone : 4 < k → (k ≡ 15 → ⊥) → (17 ≤ k → 20 < k) → KindReads (give (plain k)) t e a → KindReads readKind t at a
     unfolding readKind _>>=_ if_then_else_
     kind-is-alone l x y =
         goes-on
         (elim (decLe 17 k) [
-          | yes d ↦ rw (← h, lt-leb k 4 l, ne-eqb k 15 x, le-leb 17 k d, lt-leb k 19 (y d))
-          | no d ↦ rw (← h, lt-leb k 4 l, ne-eqb k 15 x, lt-leb 17 k (lt-of-not-le d))
+          | yes d ↦ rw (← h, lt-leb k 4 l, ne-eqb k 15 x, le-leb 17 k d, lt-leb k 19 (omega (arith, y d)), ne-eqb k 20 (λ q. omega (arith, y d)))
+          | no d ↦ rw (← h, lt-leb k 4 l, ne-eqb k 15 x, lt-leb 17 k (lt-of-not-le d), ne-eqb k 20 (λ q. omega (arith, lt-of-not-le d)))
         ])
 
   module _ {k e : ℕ} (h : got k e ≡ natural t at) (fits : k < 2 ^ 64) where
-    pub kind-is-low : 6 ≤ k → k ≤ 14 → KindReads readKind t at (kinds.Got (record { k = k; a = 0; e = k }) (record { at = e }))
+    pub kind-is-low : 5 ≤ k → k ≤ 14 → KindReads readKind t at (kinds.Got (record { k = k; a = 0; e = k }) (record { at = e }))
     kind-is-low lo hi =
         kind-is-alone h (omega arith) (λ q. omega arith) (λ q. omega arith)
-        (alone-kept k t e (element-low k fits lo hi) k (kind-plain k 0 k (omega arith) (λ q. omega arith) (λ q. omega arith)) (omega arith) (omega arith))
+        (alone-kept k t e (element-low k fits lo hi) k (kind-plain k 0 k (omega arith) (λ q. omega arith) (λ q. omega arith) (λ q. omega arith)) (omega arith))
 
     pub kind-is-type : 32 ≤ k → KindReads readKind t at (kinds.Got (record { k = 32; a = 0; e = k }) (record { at = e }))
     kind-is-type lo =
         kind-is-alone h (omega arith) (λ q. omega arith) (λ q. omega arith)
-        (alone-kept k t e (element-type k fits lo) 32 (kind-plain 32 0 k (omega arith) (λ q. omega arith) (λ q. omega arith)) (omega arith) (omega arith))
+        (alone-kept k t e (element-type k fits lo) 32 (kind-plain 32 0 k (omega arith) (λ q. omega arith) (λ q. omega arith) (λ q. omega arith)) (omega arith))
 
-    kind-is-gap : 4 < k → (k ≡ 15 → ⊥) → (17 ≤ k → 19 < k) → false ≡ number? (elementKindRules anyType) k → KindReads readKind t at kinds.Bad
-    kind-is-gap l x y s = kind-is-alone h l x y (alone-gap k t e s)
-
-    pub kind-single-gap : (k ≡ 5) ⊎ (k ≡ 16) → KindReads readKind t at kinds.Bad
-    kind-single-gap (inl is) = kind-is-gap (omega arith) (λ q. omega arith) (λ q. omega arith) (single-gap k fits (inl is))
-    kind-single-gap (inr is) = kind-is-gap (omega arith) (λ q. omega arith) (λ q. omega arith) (single-gap k fits (inr is))
-
-    pub kind-long-gap : 20 ≤ k → k < 32 → KindReads readKind t at kinds.Bad
-    kind-long-gap lo hi = kind-is-gap (omega arith) (λ q. omega arith) (λ q. omega arith) (element-gap k fits (omega arith) hi)
+    pub kind-is-gap : 15 < k → k < 32 → (17 ≤ k → 20 < k) → KindReads readKind t at kinds.Bad
+    kind-is-gap lo hi past = kind-is-alone h (omega arith) (λ q. omega arith) past (alone-gap k t e (element-gap k fits (omega arith) hi))

@@ -1,64 +1,23 @@
 -- A new field's line. Its kind is held to its rules as soon as it is read, and not when the whole line is: all that can go wrong
 -- is refused alike. Assumes nothing.
-use mathlib.Core.Path.{_≡_, refl, sym, _∙_}
+use mathlib.Core.Path.{_≡_, refl, sym, ap, _∙_}
 use mathlib.Core.Bool.{Bool, true, false}
-use mathlib.Core.List.{List, [], _∷_}
-use Prim.Native.Nat.{ℕ, _+_, _-_, _*_}
-use lib.Dec.{eqb}
-use lib.ListN.{getD, drop}
-use Rattle.paper.specs.Reader.{if_then_else_, Reader, Out, got, no as bad, andThen, _>>=_, _>>_, give}
+use mathlib.Core.List.{List}
+use Prim.Native.Nat.{ℕ}
+use Rattle.paper.specs.Reader.{if_then_else_, Reader, Out, got, no as bad, andThen, turned, _>>=_, _>>_, give}
 use Rattle.paper.specs.Ledger.{Kind, New}
+use Rattle.paper.specs.Rules.{noted}
 use Rattle.paper.specs.Listing.{ascii, tab, newline}
 use Rattle.paper.specs.Keeps.{kindKept?}
-use Rattle.paper.specs.Scan.{heed, byteIs, literal, ended, digit?, tooLarge?, digitsOn, decimalIn, natural, readKind, readNew}
+use Rattle.paper.specs.Scan.{heed, byteIs, literal, ended, natural, readKind, readNew}
 use Rattle.laws.specs.Laws.{not-got}
 use Rattle.table.specs.View.{kindFrom}
 use Rattle.words.specs.declared.read.Place.{Place}
 use Rattle.parse.specs.declared.NewRead.the-variants as new
 use Rattle.parse.specs.declared.kinds.Kind.{Kind as Numbers}
-use Rattle.parse.specs.declared.kinds.KindWord.{KindWord}
 use Rattle.parse.specs.declared.kinds.KindWord.the-variants as kinds
-use Rattle.parse.specs.Answers.{keeping, KindReads, keptNew, NewReads}
-
--- ── refused by 20 alone ──
-
-abbrev Twenty : {A : Type 0} → Out A → Type 0
-Twenty (got a e) = Unit {0}
-Twenty (bad n p) = (n ≡ 20) × (p ≡ 0)
-
-if-twenty : {A : Type 0} (b : Bool) (o u : Out A) → Twenty o → Twenty u → Twenty (if b then o else u)
-unfolding if_then_else_
-if-twenty true o u h k = h
-if-twenty false o u h k = k
-
-byte-twenty : (b : ℕ) (t : List ℕ) (at : ℕ) → Twenty (byteIs b t at)
-unfolding byteIs
-byte-twenty b t at = if-twenty (eqb (getD t at 256) b) _ _ tt (refl, refl)
-
-digits-twenty : (v e : ℕ) (ts : List ℕ) → Twenty (digitsOn v e ts)
-unfolding digitsOn
-digits-twenty v e [] = tt
-digits-twenty v e (b ∷ ts) = if-twenty (digit? b) _ _ (if-twenty (tooLarge? v (b - 48)) _ _ (refl, refl) (digits-twenty (10 * v + (b - 48)) (e + 1) ts)) tt
-
-natural-twenty : (t : List ℕ) (at : ℕ) → Twenty (natural t at)
-unfolding natural decimalIn
-natural-twenty t at = go (drop at t)
-  where
-    go : (ts : List ℕ) → Twenty (decimalIn at ts)
-    go [] = (refl, refl)
-    go (b ∷ ts) = if-twenty (eqb b 48) _ _ tt (if-twenty (digit? b) _ _ (digits-twenty (b - 48) (at + 1) ts) (refl, refl))
-
-ended-twenty : (c : ℕ) (t : List ℕ) (at : ℕ) → Twenty (ended c natural t at)
-unfolding ended _>>=_ _>>_ give
-ended-twenty c t at = go (natural t at) (natural-twenty t at)
-  where
-    behind : (a : ℕ) (o : Out (Unit {0})) → Twenty o → Twenty (andThen o (λ u e. got a e))
-    behind a (got u e) h = tt
-    behind a (bad n p) h = h
-
-    go : (o : Out ℕ) → Twenty o → Twenty (andThen o (λ a e. andThen (byteIs c t e) (λ u e. got a e)))
-    go (got a e) h = behind a (byteIs c t e) (byte-twenty c t e)
-    go (bad n p) h = h
+use Rattle.parse.specs.Answers.{keeping, KindReads, keptNew, notedNew, NewReads}
+use Rattle.parse.specs.Twenty.{Twenty, byte-twenty, ended-twenty}
 
 -- ── a kind that was read and held to its rules ──
 
@@ -74,6 +33,25 @@ module _ (r : Reader Kind) (t : List ℕ) (p : ℕ) where
       go : (o : Out Kind) → got k e ≡ andThen o (λ x d. andThen (if kindKept? x then got (tt {0}) d else bad 20 0) (λ u d. got x d)) → (got k e ≡ o) × (kindKept? k ≡ true)
       go (got x d) q = held x d (kindKept? x) refl q
       go (bad n m) q = not-got (sym q)
+
+-- ── an outcome that was turned ──
+
+-- what it was before
+pub record Before {A B : Type 0} (g : A → B) (o : Out A) (b : B) (e : ℕ) : Type 0 where
+  pub value : A
+  pub first : got value e ≡ o
+  pub is : b ≡ g value
+
+pub turned-got : {A B : Type 0} (g : A → B) (o : Out A) {b : B} {e : ℕ} → got b e ≡ turned g o → Before g o b e
+turned-got g (got a d) {b} {e} h =
+    let last : e ≡ d = cc h in
+    let same : b ≡ g a = cc h in
+    record { value = a; first = ap (got a) last; is = same }
+turned-got g (bad n p) h = not-got (sym h)
+
+pub turned-bad : {A B : Type 0} (g : A → B) (o : Out A) → bad 20 0 ≡ turned g o → bad 20 0 ≡ o
+turned-bad g (got a d) h = not-got h
+turned-bad {A} g (bad n p) h = let x : 20 ≡ n = cc h in let y : 0 ≡ p = cc h in rw (← x, ← y)
 
 -- ── the ways out ──
 
@@ -100,7 +78,7 @@ module _ (t : List ℕ) (at : ℕ) where
 
     pub new-no-kind : KindReads readKind t p kinds.Bad → NewReads t at new.Bad
     unfolding keeping heed _>>=_ _>>_ give if_then_else_
-    new-no-kind K = record { says = go (readKind t p) (K .says) ∙ sym kept-is; told = tt }
+    new-no-kind K = record { says = ap (turned notedNew) (go (readKind t p) (turned-bad noted _ (K .says)) ∙ sym kept-is); told = tt }
       where
         named : (k : Kind) → kindKept? k ≡ false → (o : Out ℕ) → Twenty o → bad 20 0 ≡ ruled t (andThen o (λ n e. got (record { kind = k; name = n }) e))
         named k b (got n e) w = rw b
@@ -119,11 +97,14 @@ module _ (t : List ℕ) (at : ℕ) where
         go (bad n q) h = let x : 20 ≡ n = cc h in let y : 0 ≡ q = cc h in rw (← x, ← y)
 
     module _ {x : Numbers} {q : Place} (K : KindReads readKind t p (kinds.Got x q)) where
-      read : got (kindFrom (x .k) (x .a) (x .e)) (q .at) ≡ readKind t p
-      read = keeping-got readKind t p (K .says) .0
+      kept-kind : Before noted (keeping readKind t p) (kindFrom (x .k) (x .a) (x .e)) (q .at)
+      kept-kind = turned-got noted _ (K .says)
 
-      kept : kindKept? (kindFrom (x .k) (x .a) (x .e)) ≡ true
-      kept = keeping-got readKind t p (K .says) .1
+      read : got (kept-kind .value) (q .at) ≡ readKind t p
+      read = keeping-got readKind t p (kept-kind .first) .0
+
+      kept : kindKept? (kept-kind .value) ≡ true
+      kept = keeping-got readKind t p (kept-kind .first) .1
 
       pub new-no-tab : bad 20 0 ≡ byteIs tab t (q .at) → NewReads t at new.Bad
       new-no-tab h = record { says = rw (kept-is, ← read, ← h); told = tt }
@@ -134,4 +115,4 @@ module _ (t : List ℕ) (at : ℕ) where
 
         pub new-got : {name : ℕ} {c : Place} → got name (c .at) ≡ ended newline natural t d → NewReads t at (new.Got (record { k = x .k; a = x .a; e = x .e; name = name }) c)
         unfolding if_then_else_
-        new-got h = record { says = rw (kept-is, ← read, ← sep, ← h, kept); told = K .told }
+        new-got h = record { says = rw (kept-is, ← read, ← sep, ← h, kept, kept-kind .is); told = K .told }

@@ -4,8 +4,10 @@ ghost use Prim.Native.Nat.{_≤_};
 ghost use Rattle.paper.specs.Rules.{elementKindRules, anyType};
 ghost use Rattle.paper.specs.Keeps.{number?};
 ghost use Rattle.paper.specs.Scan.{readKind};
-ghost use Rattle.parse.specs.Answers.{widthOf, Half, constantOf, arrayOf, manyOf, KindReads};
+ghost use Rattle.words.specs.Answers.{outNumber};
+ghost use Rattle.parse.specs.Answers.{widthOf, Half, constantOf, arrayOf, manyOf, elementOf, kindsOf, mapOf, KindReads};
 use paper::Ledger;
+use values::constants::at_most;
 use words::read::Number;
 use words::read::Place;
 use words::read::Step;
@@ -15,8 +17,9 @@ const COMMA: u64 = 44;
 // 2 ^ 64 - 1
 const MOST: u64 = 18446744073709551615;
 
-// A kind by three numbers: the first, of which 32 stands for all above; a constant's bits or an array's length, and else 0;
-// and the last, which is the element kind, or the kind's only number. A constant's is 0.
+// A kind by three numbers: the first, of which 32 stands for all above; a constant's bits, an array's length or a map's number
+// of types, and else 0; and the last, which is the element kind, or the kind's only number. A constant's is 0. A map has several
+// element kinds, and of each a byte is kept.
 pub struct Kind {
     pub k: u64,
     pub a: u64,
@@ -28,15 +31,14 @@ pub enum KindWord {
     Bad,
 }
 
-// An element kind: 6 to 14, or 32 upwards. Constants and arrays are no elements, and the gaps are no kinds.
+// An element kind: 5 to 14, or 32 upwards. Constants, arrays and maps are no elements, and the gaps are no kinds.
 fn is_element(k: u64) -> bool
     ensures { λ r. ⌜ r ≡ number? (elementKindRules anyType) k ⌝ }
 {
     match k {
-        6 | 7..=10 | 11..=14 => true,
+        5..=14 => true,
         32..=MOST => true,
-        0..=4 | 15 | 17..=19 => false,
-        5 | 16 | 20 | 21..=31 => false,
+        0..=4 | 15..=31 => false,
     }
 }
 
@@ -99,25 +101,81 @@ fn array(t: &[u8], p: Place) -> KindWord
     KindWord::Bad
 }
 
+// An element kind behind a comma.
+fn element(t: &[u8], p: Place) -> Number
+    ensures { λ r. ⌜ outNumber r ≡ elementOf (now (t .entry)) (p .at) ⌝ }
+{
+    let Step::To(word) = p.byte(t, COMMA) else {
+        return Number::Bad;
+    };
+    let Number::Got(e, next) = word.natural(t) else {
+        return Number::Bad;
+    };
+    if is_element(e) {
+        return Number::Got(e, next);
+    }
+    Number::Bad
+}
+
 // Of a kind whose values have lengths of their own only the element kind follows the number.
 fn many(t: &[u8], p: Place, k: u64) -> KindWord
     requires { ⌜ (17 ≤ k) × (k ≤ 19) ⌝ }
     ensures { λ r. ⌜ KindReads (manyOf k) (now (t .entry)) (p .at) r ⌝ }
 {
-    let Step::To(element) = p.byte(t, COMMA) else {
+    let Number::Got(e, next) = element(t, p) else {
         return KindWord::Bad;
     };
-    let Number::Got(e, next) = element.natural(t) else {
-        return KindWord::Bad;
-    };
-    if is_element(e) {
-        return KindWord::Got(Kind { k, a: 0, e }, next);
-    }
-    KindWord::Bad
+    KindWord::Got(Kind { k, a: 0, e }, next)
 }
 
-// A kind. Its number tells which, and what follows: the gaps at 5, 16 and 20 to 31 are none, and from 32 upwards it names a
-// type.
+// The n element kinds of a map. Eight bytes hold what is kept of them, and the first stands highest. A kind from 255 upwards
+// can be read, but it names no type, so 255 tells all that the rules ask of it.
+fn map_kinds(t: &[u8], p: Place, n: u64) -> KindWord
+    requires { ⌜ (2 ≤ n) × (n ≤ 8) ⌝ }
+    ensures { λ r. ⌜ KindReads (kindsOf n) (now (t .entry)) (p .at) r ⌝ }
+{
+    let mut at = p.at;
+    let mut left = n;
+    let mut packed: u64 = 0;
+    while 0 < left {
+        let one = element(t, Place { at });
+        let Number::Got(e, next) = one else {
+            return KindWord::Bad;
+        };
+        packed = packed * 256 + at_most(e, 255);
+        at = next.at;
+        left -= 1;
+    }
+    KindWord::Got(
+        Kind {
+            k: 20,
+            a: n,
+            e: packed,
+        },
+        Place { at },
+    )
+}
+
+// A map's number of types and that many element kinds follow its number.
+fn mapping(t: &[u8], p: Place) -> KindWord
+    ensures { λ r. ⌜ KindReads mapOf (now (t .entry)) (p .at) r ⌝ }
+{
+    let Step::To(types) = p.byte(t, COMMA) else {
+        return KindWord::Bad;
+    };
+    let Number::Got(n, kinds) = types.natural(t) else {
+        return KindWord::Bad;
+    };
+    if n < 2 {
+        return KindWord::Bad;
+    }
+    if 8 < n {
+        return KindWord::Bad;
+    }
+    map_kinds(t, kinds, n)
+}
+
+// A kind. Its number tells which, and what follows: the gaps at 16 and 21 to 31 are none, and from 32 upwards it names a type.
 pub fn kind_word(t: &[u8], p: Place) -> KindWord
     ensures { λ r. ⌜ KindReads readKind (now (t .entry)) (p .at) r ⌝ }
 {
@@ -126,10 +184,11 @@ pub fn kind_word(t: &[u8], p: Place) -> KindWord
     };
     match k {
         0..=4 => constant(t, next, k),
-        6 | 7..=10 | 11..=14 => KindWord::Got(Kind { k, a: 0, e: k }, next),
+        5..=14 => KindWord::Got(Kind { k, a: 0, e: k }, next),
         15 => array(t, next),
         17..=19 => many(t, next, k),
+        20 => mapping(t, next),
         32..=MOST => KindWord::Got(Kind { k: 32, a: 0, e: k }, next),
-        5 | 16 | 20 | 21..=31 => KindWord::Bad,
+        16 | 21..=31 => KindWord::Bad,
     }
 }

@@ -1,6 +1,7 @@
 // Pieces of a file, laid into a lent buffer. What does not fit is counted and not stored, as in `lay`.
 pub mod strings;
 
+ghost use mathlib.Core.Path.{_≡_};
 ghost use mathlib.Core.List.{[], _++_};
 ghost use Prim.Native.Nat.{_≤_};
 ghost use Rattle.paper.specs.Reader.{if_then_else_};
@@ -51,7 +52,7 @@ pub fn put_head(out: &mut [u8], at: usize, name: u64, sup: Maybe, start: Maybe, 
 }
 
 // Two numbers.
-fn put_two(out: &mut [u8], at: usize, x: u64, y: u64) -> usize
+pub fn put_two(out: &mut [u8], at: usize, x: u64, y: u64) -> usize
     ensures { λ r. ⌜ Laid (now (out .entry)) at (put x ++ put y) (now (out .exit)) r ⌝ }
 {
     let second = put_v64(out, at, x);
@@ -89,8 +90,10 @@ fn put_array(out: &mut [u8], at: usize, n: u64, e: u64) -> usize
     put_v64(out, third, e)
 }
 
-// The kind that has the first number k, a constant's bits or an array's length a, and the last number e.
+// The kind that has the first number k, a constant's bits or an array's length a, and the last number e. A map's element kinds
+// do not stand in these, so its numbers are laid by whoever reads them.
 pub fn put_kind(out: &mut [u8], at: usize, k: u64, a: u64, e: u64) -> usize
+    requires { ⌜ (k ≡ 20 → ⊥) ⌝ }
     ensures { λ r. ⌜ Laid (now (out .entry)) at (putKind (kindFrom k a e)) (now (out .exit)) r ⌝ }
 {
     match k {
@@ -103,6 +106,7 @@ pub fn put_kind(out: &mut [u8], at: usize, k: u64, a: u64, e: u64) -> usize
 
 // A new field, by the numbers of its kind, and where its chunk ends. It has no restrictions.
 pub fn put_new(out: &mut [u8], at: usize, k: u64, a: u64, e: u64, name: u64, end: u64) -> usize
+    requires { ⌜ (k ≡ 20 → ⊥) ⌝ }
     ensures { λ r. ⌜ Laid (now (out .entry)) at (putNew (record { kind = kindFrom k a e; name = name }, end)) (now (out .exit)) r ⌝ }
 {
     let second = put_v64(out, at, 0);

@@ -10,8 +10,8 @@ use lib.Dec.{leb, eqb}
 use lib.ListN.{length}
 use borrow.Author.Tests.{le-leb, lt-leb, eq-eqb, ne-eqb}
 use Rattle.paper.specs.Reader.{if_then_else_}
-use Rattle.paper.specs.Numbers.{v64, number}
-use Rattle.paper.specs.Ledger.{State, plain, array, many}
+use Rattle.paper.specs.Numbers.{putFixed, v64, number}
+use Rattle.paper.specs.Ledger.{State, plain, array, many, mapping}
 use Rattle.paper.specs.Rules.{restrictionRules, fieldCountRules, endRules, valuesDue}
 use Rattle.paper.specs.File.{restrictions, endOffset}
 use Rattle.numbers.specs.Cursors.{Read, was-got}
@@ -80,9 +80,10 @@ constant-due k a e n le =
 
 pub other-due : (k a e n : ℕ) → 4 < k → n ≡ valuesDue (kindFrom k a e) n
 unfolding kindFrom valuesDue if_then_else_
-other-due k a e n lt = rw (lt-leb k 3 (omega arith), ne-eqb k 4 (λ q. omega arith)) (go (eqb k 15) (leb 17 k && leb k 19))
+other-due k a e n lt = rw (lt-leb k 3 (omega arith), ne-eqb k 4 (λ q. omega arith)) (go (eqb k 15) (leb 17 k && leb k 19) (eqb k 20))
   where
-    go : (x y : Bool) → n ≡ valuesDue (if x then array a e else if y then many k e else plain e) n
-    go true y = refl
-    go false true = refl
-    go false false = refl
+    go : (x y z : Bool) → n ≡ valuesDue (if x then array a e else if y then many k e else if z then mapping (putFixed a e) else plain e) n
+    go true y z = refl
+    go false true z = refl
+    go false false true = refl
+    go false false false = refl

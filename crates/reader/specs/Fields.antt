@@ -7,8 +7,8 @@ use lib.Dec.{eqb}
 use lib.ListN.{length}
 use Rattle.paper.specs.Reader.{if_then_else_, Reader, Out, got, no, turned, times}
 use Rattle.paper.specs.Lists.{fold, lastOr}
-use Rattle.paper.specs.Ledger.{New, State, owns?, fieldAt, fieldsOf, objectsOf}
-use Rattle.paper.specs.Rules.{afterNew, valuesDue, oldDue, newDues}
+use Rattle.paper.specs.Ledger.{Kind, New, State, owns?, fieldAt, fieldsOf, objectsOf}
+use Rattle.paper.specs.Rules.{noted, afterNew, valuesDue, oldDue, newDues}
 use Rattle.paper.specs.File.{Upto, endOffset, newField, uptoNew, fields, sized}
 use Rattle.numbers.specs.Cursors.{placeOf}
 use Rattle.numbers.specs.declared.Number.{Number}
@@ -76,9 +76,9 @@ addNew t n s x size =
       chunks = s .chunks;
     }
 
--- the field's name is that of string number `name`
+-- the field's name is that of string number `name`, and k is what is kept of its kind
 pub record FieldAdded (t n name : ℕ) (k : KindRow) (size : ℕ) (l l′ : List ℕ) : Type 0 where
-  pub says : (f : List ℕ) → Holds f l → Now f l′ (addNew t n (said f l) (record { kind = kindIn k; name = name }) size)
+  pub says : (f : List ℕ) → Holds f l → (x : Kind) → noted x ≡ kindIn k → Now f l′ (addNew t n (said f l) (record { kind = x; name = name }) size)
 
 -- ── answers ──
 

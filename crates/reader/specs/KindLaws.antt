@@ -1,18 +1,20 @@
 -- The ways out of the readers of kinds, on plain values; and what a caller learns of a kind. Assumes nothing.
 use mathlib.Core.Path.{_≡_, refl, sym, ap, _∙_}
-use mathlib.Core.Bool.{Bool, true, false, _&&_}
-use mathlib.Core.List.{List, [], _∷_}
+use mathlib.Core.Bool.{Bool, true, false, _&&_, _||_}
+use mathlib.Core.List.{List, [], map}
 use mathlib.Core.Logic.{_⊎_, inl, inr}
-use Prim.Native.Nat.{ℕ, _+_, _-_, _^_, _≤_, _<_}
+use Prim.Native.Nat.{ℕ, _-_, _^_, _≤_, _<_, min}
 use native.Mathlib.Omega.{arith}
 use lib.Dec.{leb, ltb, eqb}
-use lib.ListN.{length}
-use borrow.Author.Tests.{le-leb, lt-leb, lt-ltb, le-ltb, eq-eqb, ne-eqb, leb-true, ltb-true, ltb-false, eqb-true}
-use Rattle.paper.specs.Reader.{if_then_else_, Reader, Out, got, no, andThen, turned, _>>=_, give, hold, must, _orNo_}
-use Rattle.paper.specs.Numbers.{signed, fixed, v64, number}
-use Rattle.paper.specs.Ledger.{Kind, constant, plain, array, many, State}
-use Rattle.paper.specs.Rules.{elementKind?, kind?, kindRules, elementKindRules, anyType, aType?, kindStands?}
+use lib.ListN.{length, length-map}
+use borrow.Author.Tests.{le-leb, lt-leb, lt-ltb, le-ltb, eq-eqb, ne-eqb, leb-true, ltb-true, ltb-false, eqb-false}
+use Rattle.paper.specs.Reader.{if_then_else_, Reader, Out, got, no, andThen, turned, _>>=_, give, must, repeat}
+use Rattle.paper.specs.Numbers.{signed, putFixed, fixed, v64, number}
+use Rattle.paper.specs.Ledger.{Kind, constant, plain, array, many, mapping, State}
+use Rattle.paper.specs.Rules.{singleKind?, elementKind?, kind?, kindRules, elementKindRules, typesRules, anyType, aType?, noted}
 use Rattle.paper.specs.File.{small, wholeOf, kind}
+use Rattle.laws.specs.Codes.{fixed-length}
+use Rattle.laws.specs.Packed.{packed, packed-back}
 use Rattle.table.specs.View.{kindFrom}
 use Rattle.numbers.specs.Cursors.{Read, refusalOf, was-got, its-refusal}
 use Rattle.numbers.specs.declared.Number.{Number}
@@ -28,13 +30,14 @@ use Rattle.reader.specs.Kinds.{
   constantOf,
   arrayOf,
   manyOf,
+  mappingOf,
+  packedOf,
   kindIn,
   refusalOfKind,
-  Listed,
-  Told,
   KindReadBy,
   KindReads,
 }
+use Rattle.reader.specs.Runs.{times-many}
 use Rattle.numbers.specs.Ruled.{read-no, read-bad, read-got, ruled-is}
 
 differ : {X : Type 0} → _≡_ {A = ℕ} 0 1 → X
@@ -55,10 +58,6 @@ module _ (n k : ℕ) where
   pub named-high : (b : Bool) → b ≡ true → 32 ≤ k → ltb (k - 32) n ≡ namedBy b n k
   unfolding namedBy
   named-high b e le = rw (e, le-ltb k 32 le)
-
-  pub named-strict : namedBy true n k ≡ true → 32 ≤ k → k < 32 + n
-  unfolding namedBy
-  named-strict h le = omega (arith, ltb-true (k - 32) n (rw (le-ltb k 32 le) at h))
 
 -- the two readings of a block's kinds: while types may still be declared, and when all are known
 pub named-any : (n : ℕ) → namedBy false n ≡ anyType
@@ -96,25 +95,37 @@ pub record Alone (k : ℕ) : Type 0 where
   pub no-constant : 4 < k
   pub no-array : k ≡ 15 → ⊥
   pub no-many : 17 ≤ k → k ≤ 19 → ⊥
+  pub no-map : k ≡ 20 → ⊥
 
 module _ (k : ℕ) where
-  pub low-alone : 6 ≤ k → k ≤ 14 → Alone k
-  low-alone lo hi = record { no-constant = omega arith; no-array = λ e. omega arith; no-many = λ l h. omega arith }
+  pub low-alone : 5 ≤ k → k ≤ 14 → Alone k
+  low-alone lo hi =
+      record { no-constant = omega arith; no-array = λ e. omega arith; no-many = λ l h. omega arith; no-map = λ e. omega arith }
 
-  pub high-alone : 20 ≤ k → Alone k
-  high-alone lo = record { no-constant = omega arith; no-array = λ e. omega arith; no-many = λ l h. omega arith }
+  pub high-alone : 21 ≤ k → Alone k
+  high-alone lo =
+      record { no-constant = omega arith; no-array = λ e. omega arith; no-many = λ l h. omega arith; no-map = λ e. omega arith }
 
-  pub element-low : 6 ≤ k → k ≤ 14 → elementKind? k ≡ true
-  unfolding elementKind?
-  element-low lo hi = rw (le-leb 6 k lo, le-leb k 14 hi)
+  gap-alone : k ≡ 16 → Alone k
+  gap-alone is =
+      record { no-constant = omega arith; no-array = λ e. omega arith; no-many = λ l h. omega arith; no-map = λ e. omega arith }
+
+  pub element-low : 5 ≤ k → k ≤ 14 → elementKind? k ≡ true
+  unfolding elementKind? singleKind?
+  element-low lo hi = go (eqb k 5) refl
+    where
+      go : (b : Bool) → eqb k 5 ≡ b → (b || (leb 6 k && leb k 14 || leb 32 k)) ≡ true
+      go true five = refl
+      go false other = rw (le-leb 6 k (omega (arith, eqb-false k 5 other)), le-leb k 14 hi)
 
   pub element-type : 32 ≤ k → elementKind? k ≡ true
-  unfolding elementKind?
-  element-type le = rw (outside 6 k 14 (λ l h. omega arith), le-leb 32 k le)
+  unfolding elementKind? singleKind?
+  element-type le = rw (ne-eqb k 5 (λ e. omega arith), outside 6 k 14 (λ l h. omega arith), le-leb 32 k le)
 
-  pub element-gap : (6 ≤ k → k ≤ 14 → ⊥) → k < 32 → elementKind? k ≡ false
-  unfolding elementKind?
-  element-gap gap lt = rw (outside 6 k 14 gap, lt-leb 32 k lt)
+  pub element-gap : (5 ≤ k → k ≤ 14 → ⊥) → k < 32 → elementKind? k ≡ false
+  unfolding elementKind? singleKind?
+  element-gap gap lt =
+      rw (ne-eqb k 5 (λ e. gap (omega arith) (omega arith)), outside 6 k 14 (λ l h. gap (omega arith) h), lt-leb 32 k lt)
 
   listed-constant : k ≤ 4 → kind? k ≡ true
   unfolding kind?
@@ -133,21 +144,35 @@ module _ (k : ℕ) where
   listed-many lo hi =
       rw (lt-leb k 4 (omega arith), element-gap (λ l h. omega arith) (omega arith), ne-eqb k 15 (λ e. omega arith), le-leb 17 k lo, le-leb k 19 hi)
 
-  not-listed : Alone k → (6 ≤ k → k ≤ 14 → ⊥) → k < 32 → kind? k ≡ false
+  listed-map : k ≡ 20 → kind? k ≡ true
+  unfolding kind?
+  listed-map is =
+      rw (
+        lt-leb k 4 (omega arith),
+        element-gap (λ l h. omega arith) (omega arith),
+        ne-eqb k 15 (λ e. omega arith),
+        outside 17 k 19 (λ l h. omega arith),
+        eq-eqb k 20 is,
+      )
+
+  not-listed : Alone k → (5 ≤ k → k ≤ 14 → ⊥) → k < 32 → kind? k ≡ false
   unfolding kind?
   not-listed alone no-element hi =
-      rw (lt-leb k 4 (alone .no-constant), element-gap no-element hi, ne-eqb k 15 (alone .no-array), outside 17 k 19 (alone .no-many))
+      rw (
+        lt-leb k 4 (alone .no-constant),
+        element-gap no-element hi,
+        ne-eqb k 15 (alone .no-array),
+        outside 17 k 19 (alone .no-many),
+        ne-eqb k 20 (alone .no-map),
+      )
 
-  pub single-gap : (k ≡ 5) ⊎ (k ≡ 16) → kind? k ≡ false
-  single-gap (inl five) =
-      not-listed (record { no-constant = omega arith; no-array = λ e. omega arith; no-many = λ l h. omega arith }) (λ l h. omega arith) (omega arith)
-  single-gap (inr sixteen) =
-      not-listed (record { no-constant = omega arith; no-array = λ e. omega arith; no-many = λ l h. omega arith }) (λ l h. omega arith) (omega arith)
+  pub single-gap : k ≡ 16 → kind? k ≡ false
+  single-gap is = not-listed (gap-alone is) (λ l h. omega arith) (omega arith)
 
-  pub long-gap : 20 ≤ k → k < 32 → kind? k ≡ false
+  pub long-gap : 21 ≤ k → k < 32 → kind? k ≡ false
   long-gap lo hi = not-listed (high-alone lo) (λ l h. omega arith) hi
 
-  -- in neither of the single gaps
+  -- in neither of two single places
   pub past-gaps : ((k ≡ 5) ⊎ (k ≡ 16) → ⊥) → (5 ≤ k → 6 ≤ k) × (16 ≤ k → 17 ≤ k)
   past-gaps out =
       let not-five : k ≡ 5 → ⊥ = λ e. out (inl e) in
@@ -174,22 +199,6 @@ module _ (named : ℕ → Bool) {f : List ℕ} {at : ℕ} {a : Number} (read : R
     unfolding number elementKindRules
     element-unnamed x y = read-bad read (elementKindRules named) (omega arith) is (rw (x, ← y))
 
--- what its rules leave of it
-element-kept : (named : ℕ → Bool) (f : List ℕ) (at : ℕ) {x e : ℕ} → number (elementKindRules named) f at ≡ got x e → (elementKind? x ≡ true) × (named x ≡ true)
-unfolding number must elementKindRules
-element-kept named f at {x} {e} h = go (v64 f at) h
-  where
-    held :
-        (y p : ℕ) (b : Bool) → elementKind? y ≡ b → (d : Bool) → named y ≡ d → hold {A = ℕ} ((b orNo 10) ∷ (d orNo 10) ∷ []) at (got y p) ≡ got x e
-        → (elementKind? x ≡ true) × (named x ≡ true)
-    held y p true u true v h = let z : x ≡ y = cc h in rw z (u, v)
-    held y p true u false v h = differ (cc h)
-    held y p false u d v h = differ (cc h)
-
-    go : (o : Out ℕ) → andThen o (λ y p. hold (elementKindRules named y) at (got y p)) ≡ got x e → (elementKind? x ≡ true) × (named x ≡ true)
-    go (got y p) h = held y p (elementKind? y) refl (named y) refl h
-    go (no n p) h = differ (cc h)
-
 -- ── the kind of three numbers ──
 
 -- the bytes of a constant's value once it is read; a v64 has eight
@@ -214,13 +223,18 @@ module _ (k a e : ℕ) where
   kind-many lo hi =
       rw (lt-leb k 3 (omega arith), ne-eqb k 4 (λ z. omega arith), ne-eqb k 15 (λ z. omega arith), le-leb 17 k lo, le-leb k 19 hi)
 
+  pub kind-mapping : k ≡ 20 → kindFrom k a e ≡ mapping (putFixed a e)
+  unfolding kindFrom if_then_else_
+  kind-mapping is =
+      rw (lt-leb k 3 (omega arith), ne-eqb k 4 (λ z. omega arith), ne-eqb k 15 (λ z. omega arith), outside 17 k 19 (λ l h. omega arith), eq-eqb k 20 is)
+
   pub kind-plain : Alone k → kindFrom k a e ≡ plain e
   unfolding kindFrom if_then_else_
   kind-plain alone =
       let lo = alone .no-constant in
-      rw (lt-leb k 3 (omega arith), ne-eqb k 4 (λ z. omega arith), ne-eqb k 15 (alone .no-array), outside 17 k 19 (alone .no-many))
+      rw (lt-leb k 3 (omega arith), ne-eqb k 4 (λ z. omega arith), ne-eqb k 15 (alone .no-array), outside 17 k 19 (alone .no-many), ne-eqb k 20 (alone .no-map))
 
--- ── what is told of a kind ──
+-- ── the rows ──
 
 abbrev pub constantRow : ℕ → ℕ → KindRow
 constantRow k bits = record { first = k; bits = bits; last = 0 }
@@ -228,51 +242,32 @@ constantRow k bits = record { first = k; bits = bits; last = 0 }
 abbrev pub arrayRow : ℕ → ℕ → KindRow
 arrayRow l e = record { first = 15; bits = l; last = e }
 
+abbrev pub mapRow : ℕ → ℕ → KindRow
+mapRow n e = record { first = 20; bits = n; last = e }
+
 -- a kind that is not a constant and has no length
 abbrev pub lastRow : ℕ → ℕ → KindRow
 lastRow k e = record { first = k; bits = 0; last = e }
-
-module _ {named : ℕ → Bool} where
-  told-constant : (k bits : ℕ) → k ≤ 4 → Told named (constantRow k bits)
-  unfolding Listed
-  told-constant k bits le =
-      record { first = omega arith; listed = rw (kind-constant k bits 0 le) le; constant = λ i. refl; stands = λ i. absurd (omega arith) }
-
-  module _ {e : ℕ} (is : elementKind? e ≡ true) (stands : named e ≡ true) where
-    told-last : (k bits : ℕ) → 4 < k → k ≤ 32 → Listed (kindFrom k bits e) → Told named (record { first = k; bits = bits; last = e })
-    told-last k bits lo hi listed = record { first = hi; listed = listed; constant = λ i. absurd (omega arith); stands = λ i. stands }
-
-    told-array : (l : ℕ) → l ≤ 65535 → Told named (arrayRow l e)
-    unfolding Listed
-    told-array l le = told-last 15 l (omega arith) (omega arith) (rw (kind-array 15 l e refl) (le, is))
-
-    told-many : (k : ℕ) → 17 ≤ k → k ≤ 19 → Told named (lastRow k e)
-    unfolding Listed
-    told-many k lo hi = told-last k 0 (omega arith) (omega arith) (rw (kind-many k 0 e lo hi) is)
-
-    told-plain : (k : ℕ) → Alone k → k ≤ 32 → Told named (lastRow k e)
-    unfolding Listed
-    told-plain k alone hi = told-last k 0 (alone .no-constant) hi (rw (kind-plain k 0 e alone) is)
 
 -- ── a kind that ends with a number ──
 
 -- `r` reads the kind, and from `from` on no more than a number, of which `row` makes the answer
 module _
     {q : Reader ℕ} {b : ℕ} {f : List ℕ} {from : ℕ} {a : Number} (read : Read q b f from a)
-    {r : Reader Kind} {named : ℕ → Bool} {at : ℕ} (on : at ≤ length f → from ≤ length f)
-    (row : ℕ → KindRow) (ends : r f at ≡ turned (λ x. kindIn (row x)) (q f from)) where
-  ends-no : {e u : Refusal} → a ≡ No e → u ≡ refusalOf a → KindReadBy r named f at (kinds.No u)
+    {r : Reader Kind} {at : ℕ} (on : at ≤ length f → from ≤ length f)
+    (row : ℕ → KindRow) (ends : turned noted (r f at) ≡ turned (λ x. kindIn (row x)) (q f from)) where
+  ends-no : {e u : Refusal} → a ≡ No e → u ≡ refusalOf a → KindReadBy r f at (kinds.No u)
   ends-no is same =
       let R = its-refusal read is same in
       record { says = sym (ends ∙ ap (turned (λ x. kindIn (row x))) (R .says)); inside = λ lo. R .inside (on lo); told = tt }
 
-  ends-got : {x : ℕ} {c : Cursor} → a ≡ Got x c → Told named (row x) → KindReadBy r named f at (kinds.Got (row x) c)
-  ends-got is t =
+  ends-got : {x : ℕ} {c : Cursor} → a ≡ Got x c → row x .first ≤ 32 → KindReadBy r f at (kinds.Got (row x) c)
+  ends-got is low =
       let G = was-got read is in
-      record { says = sym (ends ∙ ap (turned (λ x. kindIn (row x))) (G .says)); inside = λ lo. G .inside (on lo); told = t }
+      record { says = sym (ends ∙ ap (turned (λ x. kindIn (row x))) (G .says)); inside = λ lo. G .inside (on lo); told = low }
 
--- a kind g x is given at the end, and `row` stands for it
-then-give : (g : ℕ → Kind) (row : ℕ → KindRow) → ((x : ℕ) → kindIn (row x) ≡ g x) → (o : Out ℕ) → andThen o (λ x e. got (g x) e) ≡ turned (λ x. kindIn (row x)) o
+-- a kind g x is given at the end, and `row` stands for what is kept of it
+then-give : (g : ℕ → Kind) (row : ℕ → KindRow) → ((x : ℕ) → kindIn (row x) ≡ noted (g x)) → (o : Out ℕ) → turned noted (andThen o (λ x e. got (g x) e)) ≡ turned (λ x. kindIn (row x)) o
 then-give g row same (got x e) = ap (λ (k : Kind). got k e) (sym (same x))
 then-give g row same (no n p) = refl
 
@@ -289,57 +284,98 @@ whole-is k f at = go (ltb k 4)
     go true = refl
     go false = refl
 
-constant-ends : (k : ℕ) → k ≤ 4 → (f : List ℕ) (at : ℕ) → constantOf k f at ≡ turned (λ x. kindIn (constantRow k x)) (bitsOf k f at)
-unfolding constantOf _>>=_ give
+constant-ends : (k : ℕ) → k ≤ 4 → (f : List ℕ) (at : ℕ) → turned noted (constantOf k f at) ≡ turned (λ x. kindIn (constantRow k x)) (bitsOf k f at)
+unfolding constantOf noted _>>=_ give
 constant-ends k le f at = rw (whole-is k f at) (go (bitsOf k f at))
   where
-    go : (o : Out ℕ) → andThen (andThen o (λ n e. got (signed (widthOf k) n) e)) (λ v e. got (constant k v) e) ≡ turned (λ x. kindIn (constantRow k x)) o
+    go : (o : Out ℕ) → turned noted (andThen (andThen o (λ n e. got (signed (widthOf k) n) e)) (λ v e. got (constant k v) e)) ≡ turned (λ x. kindIn (constantRow k x)) o
     go (got x e) = ap (λ (c : Kind). got c e) (sym (kind-constant k x 0 le))
     go (no n p) = refl
 
-module _ (named : ℕ → Bool) {k : ℕ} {f : List ℕ} {at : ℕ} {a : Number} (read : Read (bitsOf k) (2 ^ 64) f at a) (le : k ≤ 4) where
-  pub constant-no : {e u : Refusal} → a ≡ No e → u ≡ refusalOf a → KindReadBy (constantOf k) named f at (kinds.No u)
+module _ {k : ℕ} {f : List ℕ} {at : ℕ} {a : Number} (read : Read (bitsOf k) (2 ^ 64) f at a) (le : k ≤ 4) where
+  pub constant-no : {e u : Refusal} → a ≡ No e → u ≡ refusalOf a → KindReadBy (constantOf k) f at (kinds.No u)
   constant-no is same = ends-no read (λ lo. lo) (constantRow k) (constant-ends k le f at) is same
 
-  pub constant-got : {x : ℕ} {c : Cursor} → a ≡ Got x c → KindReadBy (constantOf k) named f at (kinds.Got (constantRow k x) c)
-  constant-got {x} is = ends-got read (λ lo. lo) (constantRow k) (constant-ends k le f at) is (told-constant k x le)
+  pub constant-got : {x : ℕ} {c : Cursor} → a ≡ Got x c → KindReadBy (constantOf k) f at (kinds.Got (constantRow k x) c)
+  constant-got is = ends-got read (λ lo. lo) (constantRow k) (constant-ends k le f at) is (omega arith)
 
 -- ── an array ──
 
 module _ (named : ℕ → Bool) {f : List ℕ} {at : ℕ} {a : Number} (read : Read small 65536 f at a) where
-  pub array-no-length : {e u : Refusal} → a ≡ No e → u ≡ refusalOf a → KindReadBy (arrayOf named) named f at (kinds.No u)
+  pub array-no-length : {e u : Refusal} → a ≡ No e → u ≡ refusalOf a → KindReadBy (arrayOf named) f at (kinds.No u)
   unfolding arrayOf _>>=_
   array-no-length is same =
       let R = its-refusal read is same in
       record { says = rw (R .says); inside = R .inside; told = tt }
 
   module _ {l : ℕ} {c : Cursor} (is : a ≡ Got l c) {b : Number} (next : Read (number (elementKindRules named)) (2 ^ 64) f (c .at) b) where
-    array-ends : arrayOf named f at ≡ turned (λ x. kindIn (arrayRow l x)) (number (elementKindRules named) f (c .at))
-    unfolding arrayOf _>>=_ give
+    array-ends : turned noted (arrayOf named f at) ≡ turned (λ x. kindIn (arrayRow l x)) (number (elementKindRules named) f (c .at))
+    unfolding arrayOf noted _>>=_ give
     array-ends = rw (was-got read is .says) (then-give (array l) (arrayRow l) (λ x. kind-array 15 l x refl) (number (elementKindRules named) f (c .at)))
 
-    pub array-no-element : {e u : Refusal} → b ≡ No e → u ≡ refusalOf b → KindReadBy (arrayOf named) named f at (kinds.No u)
+    pub array-no-element : {e u : Refusal} → b ≡ No e → u ≡ refusalOf b → KindReadBy (arrayOf named) f at (kinds.No u)
     array-no-element none same = ends-no next (was-got read is .inside) (arrayRow l) array-ends none same
 
-    pub array-got : {e : ℕ} {d : Cursor} → b ≡ Got e d → KindReadBy (arrayOf named) named f at (kinds.Got (arrayRow l e) d)
-    array-got it =
-        let (listed, stands) = element-kept named f (c .at) (was-got next it .says) in
-        ends-got next (was-got read is .inside) (arrayRow l) array-ends it (told-array listed stands l (omega (arith, was-got read is .below)))
+    pub array-got : {e : ℕ} {d : Cursor} → b ≡ Got e d → KindReadBy (arrayOf named) f at (kinds.Got (arrayRow l e) d)
+    array-got it = ends-got next (was-got read is .inside) (arrayRow l) array-ends it (omega arith)
 
 -- ── many ──
 
 module _ (named : ℕ → Bool) {k : ℕ} {f : List ℕ} {at : ℕ} {a : Number} (read : Read (number (elementKindRules named)) (2 ^ 64) f at a) (lo : 17 ≤ k) (hi : k ≤ 19) where
-  many-ends : manyOf named k f at ≡ turned (λ x. kindIn (lastRow k x)) (number (elementKindRules named) f at)
-  unfolding manyOf _>>=_ give
+  many-ends : turned noted (manyOf named k f at) ≡ turned (λ x. kindIn (lastRow k x)) (number (elementKindRules named) f at)
+  unfolding manyOf noted _>>=_ give
   many-ends = then-give (many k) (lastRow k) (λ x. kind-many k 0 x lo hi) (number (elementKindRules named) f at)
 
-  pub many-no : {e u : Refusal} → a ≡ No e → u ≡ refusalOf a → KindReadBy (manyOf named k) named f at (kinds.No u)
+  pub many-no : {e u : Refusal} → a ≡ No e → u ≡ refusalOf a → KindReadBy (manyOf named k) f at (kinds.No u)
   many-no is same = ends-no read (λ lo. lo) (lastRow k) many-ends is same
 
-  pub many-got : {e : ℕ} {c : Cursor} → a ≡ Got e c → KindReadBy (manyOf named k) named f at (kinds.Got (lastRow k e) c)
-  many-got is =
-      let (listed, stands) = element-kept named f at (was-got read is .says) in
-      ends-got read (λ lo. lo) (lastRow k) many-ends is (told-many listed stands k lo hi)
+  pub many-got : {e : ℕ} {c : Cursor} → a ≡ Got e c → KindReadBy (manyOf named k) f at (kinds.Got (lastRow k e) c)
+  many-got is = ends-got read (λ lo. lo) (lastRow k) many-ends is (omega arith)
+
+-- ── a map ──
+
+module _ {f : List ℕ} {at : ℕ} {a : Number} (read : Read v64 (2 ^ 64) f at a) where
+  pub types-no : {e : Refusal} → a ≡ No e → Read (number typesRules) 9 f at a
+  unfolding number
+  types-no is = read-no read typesRules (omega arith) is
+
+  module _ {n : ℕ} {c : Cursor} (is : a ≡ Got n c) where
+    pub types-got : 2 ≤ n → n ≤ 8 → Read (number typesRules) 9 f at (Got n c)
+    unfolding number typesRules
+    types-got lo hi = read-got read typesRules (omega arith) is (rw (le-leb 2 n lo, le-leb n 8 hi))
+
+    pub types-bad : (2 ≤ n → n ≤ 8 → ⊥) → Read (number typesRules) 9 f at (No (record { number = 10; place = at }))
+    unfolding number typesRules
+    types-bad out = read-bad read typesRules (omega arith) is (rw (outside 2 n 8 out))
+
+-- the number gives back what is kept of the kinds
+kept-kinds : (n : ℕ) (ks : List ℕ) → length ks ≡ n → kindIn (mapRow n (packed ks)) ≡ noted (mapping ks)
+unfolding noted
+kept-kinds n ks is = kind-mapping 20 n (packed ks) refl ∙ rw (← is) (ap mapping (packed-back ks))
+
+map-given : (n : ℕ) (o : Out (List ℕ)) → ((ks : List ℕ) (e : ℕ) → o ≡ got ks e → length ks ≡ n) → turned noted (andThen o (λ ks e. got (mapping ks) e)) ≡ turned (λ x. kindIn (mapRow n x)) (turned packed o)
+map-given n (got ks e) as-many = ap (λ (k : Kind). got k e) (sym (kept-kinds n ks (as-many ks e refl)))
+map-given n (no m p) as-many = refl
+
+module _ (named : ℕ → Bool) {f : List ℕ} {at : ℕ} {a : Number} (read : Read (number typesRules) 9 f at a) where
+  pub map-no-count : {e u : Refusal} → a ≡ No e → u ≡ refusalOf a → KindReadBy (mappingOf named) f at (kinds.No u)
+  unfolding mappingOf _>>=_
+  map-no-count is same =
+      let R = its-refusal read is same in
+      record { says = rw (R .says); inside = R .inside; told = tt }
+
+  module _ {n : ℕ} {c : Cursor} (is : a ≡ Got n c) {b : Number} (next : Read (packedOf named n) (2 ^ 64) f (c .at) b) where
+    map-ends : turned noted (mappingOf named f at) ≡ turned (λ x. kindIn (mapRow n x)) (packedOf named n f (c .at))
+    unfolding mappingOf packedOf repeat _>>=_ give
+    map-ends =
+        rw (was-got read is .says)
+        (map-given n (repeat n (number (elementKindRules named)) f (c .at)) (λ ks e h. times-many n (λ u. number (elementKindRules named)) (λ u k. u) tt f (c .at) h))
+
+    pub map-no-kinds : {e u : Refusal} → b ≡ No e → u ≡ refusalOf b → KindReadBy (mappingOf named) f at (kinds.No u)
+    map-no-kinds none same = ends-no next (was-got read is .inside) (mapRow n) map-ends none same
+
+    pub map-got : {e : ℕ} {d : Cursor} → b ≡ Got e d → KindReadBy (mappingOf named) f at (kinds.Got (mapRow n e) d)
+    map-got it = ends-got next (was-got read is .inside) (mapRow n) map-ends it (omega arith)
 
 -- ── a kind ──
 
@@ -371,38 +407,50 @@ module _ (named : ℕ → Bool) {f : List ℕ} {at : ℕ} {a : Number} (read : R
       ruled listed = ruled-is read (kindRules named) is ∙ rw (listed, ← stands)
 
       -- what follows the number is read by r
-      goes-on : {r : Reader Kind} {b : KindRead} → kind named f at ≡ r f (c .at) → KindReadBy r named f (c .at) b → KindReads named f at b
-      goes-on same B = record { says = B .says ∙ sym same; inside = λ lo. B .inside (was-got read is .inside lo); told = B .told }
+      goes-on : {r : Reader Kind} {b : KindRead} → kind named f at ≡ r f (c .at) → KindReadBy r f (c .at) b → KindReads named f at b
+      goes-on same B = record { says = B .says ∙ ap (turned noted) (sym same); inside = λ lo. B .inside (was-got read is .inside lo); told = B .told }
 
-      pub kind-is-constant : {b : KindRead} → k ≤ 4 → KindReadBy (constantOf k) named f (c .at) b → KindReads named f at b
+      pub kind-is-constant : {b : KindRead} → k ≤ 4 → KindReadBy (constantOf k) f (c .at) b → KindReads named f at b
       unfolding kind constantOf if_then_else_ _>>=_
       kind-is-constant le B = goes-on (rw (ruled (listed-constant k le), le-leb k 4 le)) B
 
-      pub kind-is-array : {b : KindRead} → k ≡ 15 → KindReadBy (arrayOf named) named f (c .at) b → KindReads named f at b
+      pub kind-is-array : {b : KindRead} → k ≡ 15 → KindReadBy (arrayOf named) f (c .at) b → KindReads named f at b
       unfolding kind arrayOf if_then_else_ _>>=_
       kind-is-array at15 B = goes-on (rw (ruled (listed-array k at15), lt-leb k 4 (omega arith), eq-eqb k 15 at15)) B
 
-      pub kind-is-many : {b : KindRead} → 17 ≤ k → k ≤ 19 → KindReadBy (manyOf named k) named f (c .at) b → KindReads named f at b
+      pub kind-is-many : {b : KindRead} → 17 ≤ k → k ≤ 19 → KindReadBy (manyOf named k) f (c .at) b → KindReads named f at b
       unfolding kind manyOf if_then_else_ _>>=_
       kind-is-many lo hi B =
           goes-on (rw (ruled (listed-many k lo hi), lt-leb k 4 (omega arith), ne-eqb k 15 (λ e. omega arith), le-leb 17 k lo, le-leb k 19 hi)) B
+
+      pub kind-is-map : {b : KindRead} → k ≡ 20 → KindReadBy (mappingOf named) f (c .at) b → KindReads named f at b
+      unfolding kind mappingOf if_then_else_ _>>=_
+      kind-is-map at20 B =
+          goes-on (rw (ruled (listed-map k at20), lt-leb k 4 (omega arith), ne-eqb k 15 (λ e. omega arith), outside 17 k 19 (λ l h. omega arith), eq-eqb k 20 at20)) B
 
       -- the number is all, and `first` tells that besides
       module _ (element : elementKind? k ≡ true) (alone : Alone k) where
         kind-is-plain : kind named f at ≡ got (plain k) (c .at)
         unfolding kind give if_then_else_ _>>=_
         kind-is-plain =
-            rw (ruled (listed-element k (alone .no-constant) element), lt-leb k 4 (alone .no-constant), ne-eqb k 15 (alone .no-array), outside 17 k 19 (alone .no-many))
+            rw (
+              ruled (listed-element k (alone .no-constant) element),
+              lt-leb k 4 (alone .no-constant),
+              ne-eqb k 15 (alone .no-array),
+              outside 17 k 19 (alone .no-many),
+              ne-eqb k 20 (alone .no-map),
+            )
 
         stands-alone : (first : ℕ) → Alone first → first ≤ 32 → KindReads named f at (kinds.Got (lastRow first k) c)
+        unfolding noted
         stands-alone first shown hi =
             record {
-              says = ap (λ (x : Kind). got x (c .at)) (kind-plain first 0 k shown) ∙ sym kind-is-plain;
+              says = ap (λ (x : Kind). got x (c .at)) (kind-plain first 0 k shown) ∙ ap (turned noted) (sym kind-is-plain);
               inside = was-got read is .inside;
-              told = told-plain element (sym stands) first shown hi;
+              told = hi;
             }
 
-      pub kind-is-low : 6 ≤ k → k ≤ 14 → KindReads named f at (kinds.Got (lastRow k k) c)
+      pub kind-is-low : 5 ≤ k → k ≤ 14 → KindReads named f at (kinds.Got (lastRow k k) c)
       kind-is-low lo hi = stands-alone (element-low k lo hi) (low-alone k lo hi) k (low-alone k lo hi) (omega arith)
 
       pub kind-is-type : 32 ≤ k → KindReads named f at (kinds.Got (lastRow 32 k) c)
@@ -410,53 +458,103 @@ module _ (named : ℕ → Bool) {f : List ℕ} {at : ℕ} {a : Number} (read : R
 
 -- ── what a caller learns ──
 
+-- a kind, of which the row is kept
 pub record KindValue (named : ℕ → Bool) (f : List ℕ) (at : ℕ) (r : KindRow) (e : ℕ) : Type 0 where
-  pub says : kind named f at ≡ got (kindIn r) e
+  pub own : Kind
+  pub says : kind named f at ≡ got own e
+  pub kept : noted own ≡ kindIn r
   pub inside : at ≤ length f → e ≤ length f
-  pub told : Told named r
+  pub first : r .first ≤ 32
 
 pub record KindRefused (named : ℕ → Bool) (f : List ℕ) (at n p : ℕ) : Type 0 where
   pub says : kind named f at ≡ no n p
   pub inside : at ≤ length f → p ≤ length f
 
+was-noted : (o : Out Kind) {k : Kind} {e : ℕ} → got k e ≡ turned noted o → (x : Kind) × (o ≡ got x e) × (noted x ≡ k)
+was-noted (got x p) {k} {e} q =
+    let z : k ≡ noted x = cc q in
+    let y : e ≡ p = cc q in
+    (x, ap (λ (n : ℕ). got x n) (sym y), sym z)
+was-noted (no n p) q = differ (cc q)
+
+never-noted : (o : Out Kind) {n p : ℕ} → no n p ≡ turned noted o → o ≡ no n p
+never-noted (got x e) q = differ (cc q)
+never-noted (no m r) q = sym q
+
 module _ {named : ℕ → Bool} {f : List ℕ} {at : ℕ} {a : KindRead} (R : KindReads named f at a) where
   pub kind-was-got : {r : KindRow} {c : Cursor} → a ≡ kinds.Got r c → KindValue named f at r (c .at)
   kind-was-got h =
       let S = rw h at R in
-      record { says = sym (S .says); inside = S .inside; told = S .told }
+      let (x, read, kept) = was-noted (kind named f at) (S .says) in
+      record { own = x; says = read; kept = kept; inside = S .inside; first = S .told }
 
   -- of what `refused_kind` gives
   pub kind-refusal : {e u : Refusal} → a ≡ kinds.No e → u ≡ refusalOfKind a → KindRefused named f at (u .number) (u .place)
   kind-refusal {e} {u} h q =
       let S = rw h at R in
       let z : u ≡ e = q ∙ ap refusalOfKind h in
-      rw z (record { says = sym (S .says); inside = S .inside })
+      rw z (record { says = never-noted (kind named f at) (S .says); inside = S .inside })
 
--- where so many types are declared, a number that names one is below their end
-pub told-below : (b : Bool) (n : ℕ) {r : KindRow} → b ≡ true → Told (namedBy b n) r → 32 ≤ r .last → r .last < 32 + n
-told-below b n {r} e t le = named-strict n (r .last) (rw e at (t .stands le)) le
+-- ── what the row leaves out ──
 
--- which types a kind asks for is seen from its last number
-pub stands-by-last : {named : ℕ → Bool} (s : State) {r : KindRow} → Told named r → kindStands? s (kindIn r) ≡ aType? s (r .last)
-unfolding kindStands? kindFrom aType? if_then_else_
-stands-by-last s {r} t = go (leb (r .first) 3) refl (eqb (r .first) 4) refl (eqb (r .first) 15) (leb 17 (r .first) && leb (r .first) 19)
+abbrev map? : Kind → Bool
+map? (constant k v) = false
+map? (plain k) = false
+map? (array l k) = false
+map? (many c k) = false
+map? (mapping ks) = true
+
+no-map : (k a e : ℕ) → (k ≡ 20 → ⊥) → map? (kindFrom k a e) ≡ false
+unfolding kindFrom if_then_else_
+no-map k a e other = rw (ne-eqb k 20 other) (go (leb k 3) (eqb k 4) (eqb k 15) (leb 17 k && leb k 19))
   where
-    free : r .first ≤ 4 → true ≡ aType? s (r .last)
-    free le = rw (t .constant le)
-
     go :
-        (x : Bool) → leb (r .first) 3 ≡ x → (y : Bool) → eqb (r .first) 4 ≡ y → (z w : Bool)
-        → kindStands? s (if x then constant (r .first) (signed (2 ^ r .first) (r .bits)) else if y then constant (r .first) (signed 8 (r .bits)) else if z then array (r .bits) (r .last) else if w then many (r .first) (r .last) else plain (r .last)) ≡ aType? s (r .last)
-    go true p y q z w = free (omega (arith, leb-true (r .first) 3 p))
-    go false p true q z w = free (omega (arith, eqb-true (r .first) 4 q))
-    go false p false q true w = refl
-    go false p false q false true = refl
-    go false p false q false false = refl
+        (x y z w : Bool)
+        → map? (if x then constant k (signed (2 ^ k) a) else if y then constant k (signed 8 a) else if z then array a e else if w then many k e else plain e) ≡ false
+    go true y z w = refl
+    go false true z w = refl
+    go false false true w = refl
+    go false false false true = refl
+    go false false false false = refl
 
-pub told-stands : (s : State) {r : KindRow} → Told (aType? s) r → kindStands? s (kindIn r) ≡ true
-unfolding aType?
-told-stands s {r} t = stands-by-last s t ∙ go (ltb (r .last) 32) refl
-  where
-    go : (b : Bool) → ltb (r .last) 32 ≡ b → aType? s (r .last) ≡ true
-    go true e = rw e
-    go false e = t .stands (ltb-false (r .last) 32 e)
+noted-map : (x : Kind) → map? (noted x) ≡ map? x
+unfolding noted
+noted-map (constant k v) = refl
+noted-map (plain k) = refl
+noted-map (array l k) = refl
+noted-map (many c k) = refl
+noted-map (mapping ks) = refl
+
+abbrev kindsIn : Kind → List ℕ
+kindsIn (constant k v) = []
+kindsIn (plain k) = []
+kindsIn (array l k) = []
+kindsIn (many c k) = []
+kindsIn (mapping ks) = ks
+
+is-map : (x : Kind) → map? x ≡ true → x ≡ mapping (kindsIn x)
+is-map (constant k v) h = differ (cc h)
+is-map (plain k) h = differ (cc h)
+is-map (array l k) h = differ (cc h)
+is-map (many c k) h = differ (cc h)
+is-map (mapping ks) h = refl
+
+-- a map has as many element kinds as the row says
+pub mapped : (r : KindRow) (x : Kind) → r .first ≡ 20 → noted x ≡ kindIn r → (ks : List ℕ) × (x ≡ mapping ks) × (length ks ≡ r .bits)
+unfolding noted
+mapped r x is kept =
+    let row : kindIn r ≡ mapping (putFixed (r .bits) (r .last)) = kind-mapping (r .first) (r .bits) (r .last) is in
+    let own : x ≡ mapping (kindsIn x) = is-map x (sym (noted-map x) ∙ ap map? (kept ∙ row)) in
+    let bytes : map (min 255) (kindsIn x) ≡ putFixed (r .bits) (r .last) = ap kindsIn (sym (ap noted own) ∙ kept ∙ row) in
+    (kindsIn x, own, sym (length-map (kindsIn x) (min 255)) ∙ ap length bytes ∙ fixed-length (r .bits) (r .last))
+
+-- only a map's element kinds are not all kept
+pub exact : (r : KindRow) (x : Kind) → (r .first ≡ 20 → ⊥) → noted x ≡ kindIn r → x ≡ kindIn r
+unfolding noted
+exact r (constant k v) other is = is
+exact r (plain k) other is = is
+exact r (array l k) other is = is
+exact r (many c k) other is = is
+exact r (mapping ks) other is =
+    let z : true ≡ false = ap map? is ∙ no-map (r .first) (r .bits) (r .last) other in
+    differ (cc z)

@@ -5,12 +5,12 @@ use mathlib.Core.List.{List}
 use Prim.Native.Nat.{ℕ, _-_, _^_, _≤_}
 use lib.Dec.{ltb}
 use lib.ListN.{length}
-use Rattle.paper.specs.Reader.{if_then_else_, Reader, Out, got, no, _>>=_, give}
+use Rattle.paper.specs.Reader.{if_then_else_, Reader, Out, got, no, turned, _>>=_, give, repeat}
 use Rattle.paper.specs.Numbers.{fixed, v64, number}
-use Rattle.paper.specs.Bounds.{mostObjects}
-use Rattle.paper.specs.Ledger.{Kind, constant, plain, array, many}
-use Rattle.paper.specs.Rules.{anyType, elementKind?, elementKindRules}
+use Rattle.paper.specs.Ledger.{Kind, constant, array, many, mapping}
+use Rattle.paper.specs.Rules.{anyType, elementKindRules, typesRules, noted}
 use Rattle.paper.specs.File.{small, wholeOf, kind}
+use Rattle.laws.specs.Packed.{packed}
 use Rattle.table.specs.View.{kindFrom}
 use Rattle.numbers.specs.declared.Refusal.{Refusal}
 use Rattle.reader.specs.declared.kinds.Named.{Named}
@@ -50,6 +50,16 @@ manyOf named k = do
   e ← number (elementKindRules named)
   give (many k e)
 
+unfoldable pub mappingOf : (ℕ → Bool) → Reader Kind
+mappingOf named = do
+  n ← number typesRules
+  ks ← repeat n (number (elementKindRules named))
+  give (mapping ks)
+
+-- so many element kinds in one number
+unfoldable pub packedOf : (ℕ → Bool) → ℕ → Reader ℕ
+packedOf named n f at = turned packed (repeat n (number (elementKindRules named)) f at)
+
 -- ── answers ──
 
 abbrev pub kindIn : KindRow → Kind
@@ -67,32 +77,16 @@ abbrev pub refusalOfKind : KindRead → Refusal
 refusalOfKind (kinds.Got r c) = record { number = 0; place = c .at }
 refusalOfKind (kinds.No e) = e
 
--- a kind whose chunk can be read: there is a reader for its elements, and an array's length has the bound
-unfoldable pub Listed : Kind → Type 0
-Listed (constant k v) = k ≤ 4
-Listed (plain k) = elementKind? k ≡ true
-Listed (array l k) = (l ≤ mostObjects) × (elementKind? k ≡ true)
-Listed (many c k) = elementKind? k ≡ true
+-- a row of the table has room for the first number of a kind that was read
+abbrev pub toldKind : KindRead → Type 0
+toldKind (kinds.Got r c) = r .first ≤ 32
+toldKind (kinds.No e) = Unit {0}
 
--- what is known of a kind that was read, besides which it is
-pub record Told (named : ℕ → Bool) (r : KindRow) : Type 0 where
-  -- so a row of the table has room for it
-  pub first : r .first ≤ 32
-  pub listed : Listed (kindIn r)
-  -- a constant has no last number
-  pub constant : r .first ≤ 4 → r .last ≡ 0
-  -- the last number is the one that may name a type
-  pub stands : 32 ≤ r .last → named (r .last) ≡ true
-
-abbrev pub toldKind : (ℕ → Bool) → KindRead → Type 0
-toldKind named (kinds.Got r c) = Told named r
-toldKind named (kinds.No e) = Unit {0}
-
--- the answer is what the reader `r` gives at `at`; from a place within the file it leads to one
-pub record KindReadBy (r : Reader Kind) (named : ℕ → Bool) (f : List ℕ) (at : ℕ) (a : KindRead) : Type 0 where
-  pub says : outKind a ≡ r f at
+-- the answer is what is kept of the kind that the reader `r` gives at `at`; from a place within the file it leads to one
+pub record KindReadBy (r : Reader Kind) (f : List ℕ) (at : ℕ) (a : KindRead) : Type 0 where
+  pub says : outKind a ≡ turned noted (r f at)
   pub inside : at ≤ length f → placeOfKind a ≤ length f
-  pub told : toldKind named a
+  pub told : toldKind a
 
 abbrev pub KindReads : (ℕ → Bool) → List ℕ → ℕ → KindRead → Type 0
-KindReads named f at a = KindReadBy (kind named) named f at a
+KindReads named f at a = KindReadBy (kind named) f at a

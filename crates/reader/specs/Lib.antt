@@ -4,6 +4,7 @@ pub mod Ruled
 pub mod Keeping
 pub mod Going
 pub mod Kinds
+pub mod MapKinds
 pub mod KindLaws
 pub mod FieldNumbers
 pub mod Fields

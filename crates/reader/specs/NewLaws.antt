@@ -7,6 +7,7 @@ use native.Mathlib.Omega.{arith}
 use lib.ListN.{length}
 use Rattle.paper.specs.Reader.{Out, got, no, andThen, _>>=_, give}
 use Rattle.paper.specs.Numbers.{number}
+use Rattle.paper.specs.Ledger.{Kind}
 use Rattle.paper.specs.Rules.{fieldNameRules}
 use Rattle.paper.specs.File.{restrictions, kind, endOffset, newField}
 use Rattle.numbers.specs.Cursors.{Read, was-got, was-refused}
@@ -14,11 +15,11 @@ use Rattle.numbers.specs.declared.Number.{Number}
 use Rattle.numbers.specs.declared.Number.the-variants.{Got, No}
 use Rattle.numbers.specs.declared.Cursor.{Cursor}
 use Rattle.numbers.specs.declared.Refusal.{Refusal}
-use Rattle.table.specs.View.{fldsOf, view, Holds, Said, said, fieldsIn}
+use Rattle.table.specs.View.{fldsOf, view, Holds, Said, said, Now, fieldsIn}
 use Rattle.reader.specs.declared.kinds.Kind.{Kind as KindRow}
 use Rattle.reader.specs.declared.kinds.KindRead.{KindRead}
 use Rattle.reader.specs.declared.kinds.KindRead.the-variants as kinds
-use Rattle.reader.specs.Kinds.{kindIn, refusalOfKind, KindReads}
+use Rattle.reader.specs.Kinds.{refusalOfKind, KindReads}
 use Rattle.reader.specs.KindLaws.{kind-was-got, kind-refusal}
 use Rattle.reader.specs.Sound.{Open}
 use Rattle.reader.specs.Going.{Going, goNew}
@@ -67,23 +68,30 @@ module _ {f l : List ℕ} (h : Holds f l) (named : ℕ → Bool) (t n end : ℕ)
             rw is (refused-new h t (length (fldsOf l)) (λ lo. R .inside (R₃ .inside (R₂ .inside (R₁ .inside lo)))) (rw (R₁ .says, R₂ .says, R₃ .says, R .says)))
 
         module _ {e : ℕ} {c₄ : Cursor} (is₄ : d ≡ Got e c₄) {l′ : List ℕ} (added : FieldAdded t n m row (e - end) l l′) {i : ℕ} (o : Open (said f l) t i) (room : fieldsIn l < 128) where
-          new-is : newGo named t n (going f l end) f at ≡ got (goNew t n (going f l end) (record { kind = kindIn row; name = m }, e)) (c₄ .at)
-          unfolding newGo newField _>>=_ give
+          -- the kind that was read
+          own : Kind
+          own = kind-was-got kinded is₂ .own
+
+          now : Now f l′ (addNew t n (said f l) (record { kind = own; name = m }) (e - end))
+          unfolding own
+          now = added .says f h own (kind-was-got kinded is₂ .kept)
+
+          new-is : newGo named t n (going f l end) f at ≡ got (goNew t n (going f l end) (record { kind = own; name = m }, e)) (c₄ .at)
+          unfolding own newGo newField _>>=_ give
           new-is = rw (was-got restricted is₁ .says, kind-was-got kinded is₂ .says, was-got name is₃ .says, was-got ended is₄ .says)
 
           new-says : outGoing f l′ (Got e c₄) ≡ newGo named t n (going f l end) f at
           unfolding goNew addNew
-          new-says = ap (λ (s : Said). got (record { said = s; end = e }) (c₄ .at)) (added .says f h .says) ∙ sym new-is
+          new-says = ap (λ (s : Said). got (record { said = s; end = e }) (c₄ .at)) (now .says) ∙ sym new-is
 
           pub new-got : Went f l′ t (length (fldsOf l′)) at (Got e c₄) (newGo named t n (going f l end) f at)
           new-got =
-              let now = added .says f h in
               let more : length (fldsOf l′) ≡ length (fldsOf l) + 1 = new-counts named t n f (going f l end) (going f l′ e) at (c₄ .at) new-says in
               record {
                 holds = now .holds;
                 says = new-says;
                 inside = λ lo. was-got ended is₄ .inside (was-got name is₃ .inside (kind-was-got kinded is₂ .inside (was-got restricted is₁ .inside lo)));
-                still-open = rw more (open-due h o room n (e - end) (record { kind = kindIn row; name = m }) now);
+                still-open = rw more (open-due h o room n (e - end) (record { kind = own; name = m }) now);
               }
 
 -- ── all of them ──

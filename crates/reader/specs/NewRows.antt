@@ -6,8 +6,9 @@ use native.Mathlib.Omega.{arith}
 use native.Mathlib.Nat.{le-refl}
 use lib.ListN.{length}
 use lib.Seq.{slice}
-use Rattle.paper.specs.Ledger.{plain, New, text}
-use Rattle.paper.specs.Rules.{afterNew, valuesDue}
+use Rattle.paper.specs.Ledger.{Kind, plain, New, text}
+use Rattle.paper.specs.Rules.{noted, afterNew, valuesDue}
+use Rattle.laws.specs.Count.{noted-due}
 use Rattle.table.specs.View.{strsOf, fldsOf, duesOf, view, Ok, Holds, Said, said, Now, fieldsIn, duesIn}
 use Rattle.table.specs.Answers.{Stands, fieldIn}
 use Rattle.table.specs.Adds.{addField, addDue}
@@ -28,20 +29,23 @@ rowOf t k start end = record { start = start; end = end; owner = t; kind = k .fi
 
 module _ {l : List ℕ} (ok : Ok l) (room : fieldsIn l < 128) (due-room : duesIn l < 128) (t n name : ℕ) (k : KindRow) (size : ℕ) {start end i v : ℕ} {l₁ l₂ : List ℕ} (stands : Stands strsOf l (name - 1) start end) (i-is : i ≡ fieldsIn l) (p : Pushed 2 2192 16 (fieldCells (rowOf t k start end)) l l₁) (v-is : v ≡ valuesDue (kindIn k) n) (q : Pushed 4 7312 4 (dueCells i v size) l₁ l₂) where
   rows-are :
-      (f : List ℕ)
+      (f : List ℕ) (x : Kind) → noted x ≡ kindIn k
       → addDue (addField (said f l) (slice start end f) (fieldIn (rowOf t k start end))) (record { field = i; values = v }) size
-      ≡ addNew t n (said f l) (record { kind = kindIn k; name = name }) size
+      ≡ addNew t n (said f l) (record { kind = x; name = name }) size
   unfolding addDue addField addNew afterNew text
-  rows-are f = let j : i ≡ length (fldsOf l) = i-is ∙ sym (ok .flds-count) in rw (j, v-is, stands .is f) refl
+  rows-are f x kept =
+      let j : i ≡ length (fldsOf l) = i-is ∙ sym (ok .flds-count) in
+      let due : v ≡ valuesDue x n = v-is ∙ ap (λ (y : Kind). valuesDue y n) (sym kept) ∙ noted-due x n in
+      rw (j, due, kept, stands .is f) refl
 
   pub field-added-by : FieldAdded t n name k size l l₂
   field-added-by =
       let more-room : duesIn l₁ < 128 = omega (arith, p .dues) in
       record {
-        says = λ f h.
+        says = λ f h x kept.
             let first = pushed-field h (rowOf t k start end) room (stands .within f h) (p .push) in
             let last = pushed-due (first .holds) i v size more-room (q .push) in
-            record { holds = last .holds; says = last .says ∙ ap (λ (s : Said). addDue s (record { field = i; values = v }) size) (first .says) ∙ rows-are f };
+            record { holds = last .holds; says = last .says ∙ ap (λ (s : Said). addDue s (record { field = i; values = v }) size) (first .says) ∙ rows-are f x kept };
       }
 
 -- ── there is room, and the table stays as it must ──
@@ -53,7 +57,7 @@ module _ {f l : List ℕ} (h : Holds f l) {t i : ℕ} (o : Open (said f l) t i) 
   with-field : (x : New) → Said
   with-field x = record { state = afterNew t (view f l) x; due = duesOf l; chunks = said f l .chunks }
 
-  fielded : (x : New) → Fielded (view f l) (with-field x .state) (record { owner = t; kind = x .kind })
+  fielded : (x : New) → Fielded (view f l) (with-field x .state) (record { owner = t; kind = noted (x .kind) })
   unfolding with-field afterNew
   fielded x = record { fields = refl; typeNames = refl; log = refl; block = refl }
 

@@ -8,7 +8,7 @@ use lib.ListN.{length, length-append}
 use Rattle.paper.specs.Reader.{Out, got, no, andThen, turned, times}
 use Rattle.paper.specs.Lists.{fold}
 use Rattle.paper.specs.Ledger.{New}
-use Rattle.paper.specs.Rules.{afterNew}
+use Rattle.paper.specs.Rules.{noted, afterNew}
 use Rattle.paper.specs.File.{newField, uptoNew}
 use Rattle.reader.specs.Going.{Going, goNew}
 use Rattle.reader.specs.Fields.{upto, newGo, newsGo}
@@ -41,5 +41,5 @@ module _ (named : ℕ → Bool) (t n : ℕ) (f : List ℕ) where
       go : (o : Out (New × ℕ)) → got g′ e ≡ turned (goNew t n g) o → length (g′ .said .state .fields) ≡ length (g .said .state .fields) + 1
       go (got x p) r =
           let z : g′ ≡ goNew t n g x = cc r in
-          ap (λ (h : Going). length (h .said .state .fields)) z ∙ length-append (g .said .state .fields) (record { owner = t; kind = x .0 .kind } ∷ [])
+          ap (λ (h : Going). length (h .said .state .fields)) z ∙ length-append (g .said .state .fields) (record { owner = t; kind = noted (x .0 .kind) } ∷ [])
       go (no k p) r = let z : _≡_ {A = ℕ} 0 1 = cc r in absurd (omega arith)

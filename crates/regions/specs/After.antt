@@ -13,11 +13,12 @@ use Rattle.paper.specs.File.{what}
 use Rattle.paper.specs.Ledger.{Due, State, fieldAt}
 use Rattle.paper.specs.Rules.{entered?}
 use Rattle.paper.specs.Encode.{zip, putChunks}
+use Rattle.laws.specs.Pools.{Pooled}
 use Rattle.lay.specs.Laid.{most}
 use Rattle.table.specs.View.{duesOf, view, said, Said}
 use Rattle.reader.specs.Counting.{one, at?}
 use Rattle.reader.specs.Sound.{Sound, Every, Declared, fieldOfDue, any-due}
-use Rattle.walk.specs.Low.{Low}
+use Rattle.lookups.specs.Low.{Low}
 use Rattle.walk.specs.Listed.{Listed}
 use Rattle.walk.specs.Region.{sizes}
 use Rattle.regions.specs.Chunks.{put-count}
@@ -97,6 +98,7 @@ module _ {t l : List ℕ} {from e : ℕ} {l′ : List ℕ} (S : Sized t l from e
         holds = S .now .holds;
         sound = still-sound {g = said t l} {g′ = said t l′} (R .sound) same-view same-dues (ap (λ (g : Said). g .chunks) (S .now .says));
         low = subst (λ (s : State). Low 0 (s .log)) (sym same-view) (R .low);
+        pooled = subst Pooled (sym same-view) (R .pooled);
         listed = subst (λ (s : State). Listed (s .fields)) (sym same-view) (R .listed);
       }
 

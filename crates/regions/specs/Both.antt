@@ -37,7 +37,7 @@ pub record DueLaid (t l : List ℕ) (from i : ℕ) (out : List ℕ) (at : ℕ) (
   pub laid : (k : Taken) → r ≡ Got k → OneLaid t l from i out at m k l′
   pub refused : r ≡ Bad → (c : Chunk) (e : ℕ) → chunkText (view t l) (dueAt l i) t from ≡ got c e → most ≤ at + length (putChunk (view t l) (dueAt l i) c)
 
-module _ {t l : List ℕ} {i : ℕ} (D : DueReady t l i) {from : ℕ} {out : List ℕ} {at : ℕ} {m : List ℕ} where
+module _ {t l pools : List ℕ} {i : ℕ} (D : DueReady t l pools i) {from : ℕ} {out : List ℕ} {at : ℕ} {m : List ℕ} where
   due-bad : ((c : Chunk) (e : ℕ) → chunkText (view t l) (dueAt l i) t from ≡ got c e → most ≤ at + length (putChunk (view t l) (dueAt l i) c)) → DueLaid t l from i out at m Bad l
   due-bad h = record { holds = D .holds; laid = λ k q. let z : _≡_ {A = ℕ} 0 1 = cc q in absurd (omega arith); refused = λ q. h }
 

@@ -10,6 +10,7 @@ use Rattle.paper.specs.File.{what}
 use Rattle.paper.specs.Ledger.{Chunk, Due, State}
 use Rattle.paper.specs.Encode.{zip, putChunk, putChunks}
 use Rattle.paper.specs.Scan.{chunkText}
+use Rattle.laws.specs.Pools.{Pooled}
 use Rattle.lay.specs.Laid.{most}
 use Rattle.table.specs.View.{fldsOf, logOf, duesOf, chunksOf, view, said, Said, Holds, Now, fieldsIn, duesIn}
 use Rattle.table.specs.Answers.{dueIn, noDue}
@@ -19,7 +20,8 @@ use Rattle.words.specs.declared.read.Place.{Place}
 use Rattle.words.specs.declared.read.Step.{Step}
 use Rattle.words.specs.declared.read.Step.the-variants as step
 use Rattle.reader.specs.Sound.{Sound, Every, Declared}
-use Rattle.walk.specs.Low.{Low}
+use Rattle.lookups.specs.Low.{Low}
+use Rattle.lookups.specs.Named.{Noted}
 use Rattle.walk.specs.Listed.{Listed}
 use Rattle.texts.specs.Told.{Told, was-got, was-bad}
 use Rattle.texts.specs.declared.Taken.{Taken}
@@ -33,6 +35,7 @@ pub record RegionReady (t l : List ℕ) : Type 0 where
   pub holds : Holds t l
   pub sound : Sound (said t l)
   pub low : Low 0 (logOf l)
+  pub pooled : Pooled (view t l)
   pub listed : Listed (fldsOf l)
 
 abbrev pub whatDue : List ℕ → List Due
@@ -45,10 +48,11 @@ every-at P (d ∷ ds) (suc i) h lt = every-at P ds i (h .1) (omega arith)
 
 -- ── one chunk, by its place among those due ──
 
--- what a turn asks
-pub record DueReady (t l : List ℕ) (i : ℕ) : Type 0 where
+-- what a turn asks, with a list that says which annotations keep the rule
+pub record DueReady (t l pools : List ℕ) (i : ℕ) : Type 0 where
   pub holds : Holds t l
   pub low : Low 0 (logOf l)
+  pub noted : Noted pools (view t l)
   pub listed : Listed (fldsOf l)
   pub due : i < duesIn l
   pub declared : getD (duesOf l) i noDue .0 .field < fieldsIn l
@@ -56,19 +60,20 @@ pub record DueReady (t l : List ℕ) (i : ℕ) : Type 0 where
 abbrev pub dueAt : List ℕ → ℕ → Due
 dueAt l i = getD (duesOf l) i noDue .0
 
-pub ready-at : {t l : List ℕ} → RegionReady t l → (i : ℕ) → i < duesIn l → DueReady t l i
-ready-at {t} {l} R i lt =
+ready-at : {t l pools : List ℕ} → RegionReady t l → Noted pools (view t l) → (i : ℕ) → i < duesIn l → DueReady t l pools i
+ready-at {t} {l} R N i lt =
     let ok = R .holds .ok in
     record {
       holds = R .holds;
       low = R .low;
+      noted = N;
       listed = R .listed;
       due = lt;
       declared = omega (arith, ok .flds-count, every-at (Declared (view t l)) (duesOf l) i (R .sound .declared) (omega (arith, ok .dues-count)) .below);
     }
 
-pub field-declared : {t l : List ℕ} {i : ℕ} → DueReady t l i → (d : DueRow) → dueIn d ≡ getD (duesOf l) i noDue → d .field < fieldsIn l
-field-declared {t} {l} {i} D d is = omega (arith, ap (λ (x : Due × ℕ). x .0 .field) is, D .declared)
+pub field-declared : {t l pools : List ℕ} {i : ℕ} → DueReady t l pools i → (d : DueRow) → dueIn d ≡ getD (duesOf l) i noDue → d .field < fieldsIn l
+field-declared D d is = omega (arith, ap (λ (x : Due × ℕ). x .0 .field) is, D .declared)
 
 -- its reading and its bytes
 abbrev pub DueTold : List ℕ → List ℕ → ℕ → ℕ → List ℕ → ℕ → List ℕ → TextRead → Type 0
@@ -93,7 +98,7 @@ pub record ChunkSized (t l : List ℕ) (from i : ℕ) (r : Step) (l′ : List �
   pub sized : (next : Place) → r ≡ step.To next → OneSized t l from i (next .at) l′
   pub refused : r ≡ step.Bad → chunkText (view t l) (dueAt l i) t from ≡ no 20 0
 
-module _ {t l : List ℕ} {i : ℕ} (D : DueReady t l i) {from : ℕ} {out : List ℕ} {at : ℕ} {m : List ℕ} {a : TextRead} (T : DueTold t l i from out at m a) where
+module _ {t l pools : List ℕ} {i : ℕ} (D : DueReady t l pools i) {from : ℕ} {out : List ℕ} {at : ℕ} {m : List ℕ} {a : TextRead} (T : DueTold t l i from out at m a) where
   pub sized-bad : a ≡ Bad → ChunkSized t l from i step.Bad l
   sized-bad is =
       record {
@@ -184,15 +189,16 @@ module _ {t l₀ : List ℕ} {from : ℕ} (R : RegionReady t l₀) {l : List ℕ
         sized-long : (ds : List (Due × ℕ)) (cs : List Chunk) → length (sizedBy (view t l₀) ds cs) ≡ length ds
         sized-long ds cs = sym (length-map (sizedBy (view t l₀) ds cs) what) ∙ ap length (sized-same (view t l₀) ds cs) ∙ length-map ds what
 
-    pub sizing-ready : DueReady t l i
-    sizing-ready =
+    pub sizing-ready : {pools : List ℕ} → Noted pools (view t l₀) → DueReady t l pools i
+    sizing-ready {pools} N =
         let own = G .holds .ok in
         let before = R .holds .ok in
         let fields : length (fldsOf l) ≡ length (fldsOf l₀) = ap (λ (s : State). length (s .fields)) (G .state) in
-        let first = ready-at R i lt in
+        let first = ready-at R N i lt in
         record {
           holds = G .holds;
           low = subst (λ (s : State). Low 0 (s .log)) (sym (G .state)) (R .low);
+          noted = subst (Noted pools) (sym (G .state)) N;
           listed = subst (λ (s : State). Listed (s .fields)) (sym (G .state)) (R .listed);
           due = omega (arith, own .dues-count, before .dues-count, dues-long);
           declared = subst (λ (d : Due × ℕ). d .0 .field < fieldsIn l) (sym row-same) (omega (arith, own .flds-count, before .flds-count, fields, first .declared));

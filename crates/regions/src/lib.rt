@@ -2,20 +2,29 @@
 // ends, so the table is told how many bytes each one has: by a pass that only counts them, and by one that lays them, where it
 // is known how long the front will be.
 ghost use mathlib.Core.Path.{_≡_};
+ghost use mathlib.Core.Bool.{true};
 ghost use Prim.Native.Nat.{_+_, _<_, _≤_, min};
+ghost use lib.ListN.{length};
+ghost use Rattle.paper.specs.Lists.{all};
+ghost use Rattle.paper.specs.Rules.{elementKind?};
 ghost use Rattle.paper.specs.Encode.{putChunk};
 ghost use Rattle.paper.specs.Scan.{chunkText};
 ghost use Rattle.lay.specs.Laid.{most};
 ghost use Rattle.table.specs.View.{fldsOf, logOf, duesOf, view, Ok, Holds, fieldsIn};
 ghost use Rattle.table.specs.Answers.{dueIn};
 ghost use Rattle.values.specs.Chunks.{Kinds};
-ghost use Rattle.walk.specs.Low.{Low};
+ghost use Rattle.lookups.specs.Low.{Low};
+ghost use Rattle.lookups.specs.Named.{Noted};
 ghost use Rattle.walk.specs.Listed.{Listed};
 ghost use Rattle.walk.specs.Region.{sizes};
+ghost use Rattle.walk.specs.Steps.{NotedKind};
 ghost use Rattle.texts.specs.Told.{Told};
-ghost use Rattle.regions.specs.Chunk.{KindTaken};
+ghost use Rattle.regions.specs.Chunk.{KindTaken, PoolsSay, MapsTold};
 ghost use Rattle.regions.specs.Turns.{RegionReady, DueReady, DueTold, ChunkSized, RegionSized};
 ghost use Rattle.regions.specs.Both.{DueLaid, LaidSized};
+use lookups::named::pools_due;
+use lookups::ranges::gather;
+use lookups::ranges::group;
 use paper::Ledger;
 use table::pushes::size_due;
 use table::rows::DueRow;
@@ -27,7 +36,8 @@ use table::rows::strings;
 use texts::Taken;
 use texts::TextRead;
 use texts::chunk_text;
-use walk::chunks::gather;
+use texts::maps::maps_text;
+use values::maps::map_kinds;
 use words::read::Place;
 use words::read::Step;
 
@@ -45,7 +55,7 @@ fn linked_bytes(
     at: usize,
 ) -> TextRead
     requires { ⌜ Holds (now text) (now work) × Low 0 (logOf (now work)) ⌝ }
-    requires { ⌜ Kinds (kind .kind) (kind .a) (kind .e) × (32 ≤ kind .e) ⌝ }
+    requires { ⌜ Kinds (kind .kind) (kind .a) (kind .e) × (kind .kind ≡ 20 → ⊥) × (32 ≤ kind .e) ⌝ }
     ensures { λ r. ⌜ KindTaken n kind (now (work .entry)) (now (text .entry)) (p .at) (now (out .entry)) at (now (out .exit)) r ⌝ }
 {
     let mut first = [0u32; Ledger::RANGES as usize];
@@ -59,6 +69,7 @@ fn linked_bytes(
         kind.a,
         kind.e,
         strings(work) as u64,
+        &work[..0],
         &first[..k],
         &last[..k],
         out,
@@ -66,8 +77,8 @@ fn linked_bytes(
     )
 }
 
-// n values of any kind.
-fn kind_bytes(
+// n constants: they have no elements, so what their row says of an element's kind is not asked for.
+fn constant_bytes(
     text: &[u8],
     p: Place,
     n: u32,
@@ -76,10 +87,100 @@ fn kind_bytes(
     out: &mut [u8],
     at: usize,
 ) -> TextRead
-    requires { ⌜ Holds (now text) (now work) × Low 0 (logOf (now work)) ⌝ }
+    requires { ⌜ Holds (now text) (now work) × (kind .kind ≤ 4) ⌝ }
+    ensures { λ r. ⌜ KindTaken n kind (now (work .entry)) (now (text .entry)) (p .at) (now (out .entry)) at (now (out .exit)) r ⌝ }
+{
+    chunk_text(
+        text,
+        p,
+        n,
+        kind.kind as u64,
+        kind.a,
+        0,
+        strings(work) as u64,
+        &work[..0],
+        &work[..0],
+        &work[..0],
+        out,
+        at,
+    )
+}
+
+// n maps of these kinds, whose annotations are held to the pools: the ranges of all types are gathered once.
+fn grouped_bytes(
+    text: &[u8],
+    p: Place,
+    n: u32,
+    kinds: &[u64],
+    pools: &[u32],
+    work: &[u32],
+    out: &mut [u8],
+    at: usize,
+) -> TextRead
+    requires { ⌜ Holds (now text) (now work) × Low 0 (logOf (now work)) × PoolsSay (now kinds) (now pools) (view (now text) (now work)) ⌝ }
+    requires { ⌜ (1 ≤ length (now kinds)) × (all elementKind? (now kinds) ≡ true) ⌝ }
+    ensures { λ r. ⌜ MapsTold n (now (kinds .entry)) (now (work .entry)) (now (text .entry)) (p .at) (now (out .entry)) at (now (out .exit)) r ⌝ }
+{
+    let mut starts = [0u32; Ledger::TYPES as usize + 1];
+    let mut first = [0u32; Ledger::RANGES as usize];
+    let mut last = [0u32; Ledger::RANGES as usize];
+    group(work, &mut starts, &mut first, &mut last);
+    maps_text(
+        text,
+        p,
+        n,
+        kinds,
+        strings(work) as u64,
+        pools,
+        &starts,
+        &first,
+        &last,
+        out,
+        at,
+    )
+}
+
+// n maps: their kinds stand in the row, a byte each.
+fn map_bytes(
+    text: &[u8],
+    p: Place,
+    n: u32,
+    kind: FieldRow,
+    pools: &[u32],
+    work: &[u32],
+    out: &mut [u8],
+    at: usize,
+) -> TextRead
+    requires { ⌜ Holds (now text) (now work) × Low 0 (logOf (now work)) × NotedKind (now pools) (kind .kind) (kind .a) (kind .e) (view (now text) (now work)) ⌝ }
+    requires { ⌜ Kinds (kind .kind) (kind .a) (kind .e) × (kind .kind ≡ 20) ⌝ }
+    ensures { λ r. ⌜ KindTaken n kind (now (work .entry)) (now (text .entry)) (p .at) (now (out .entry)) at (now (out .exit)) r ⌝ }
+{
+    let mut kinds = [0u64; 8];
+    let k = map_kinds(kind.a, kind.e, &mut kinds);
+    grouped_bytes(text, p, n, &kinds[..k], pools, work, out, at)
+}
+
+// n values of any kind, whose annotations are held to the pools.
+fn kind_bytes(
+    text: &[u8],
+    p: Place,
+    n: u32,
+    kind: FieldRow,
+    pools: &[u32],
+    work: &[u32],
+    out: &mut [u8],
+    at: usize,
+) -> TextRead
+    requires { ⌜ Holds (now text) (now work) × Low 0 (logOf (now work)) × NotedKind (now pools) (kind .kind) (kind .a) (kind .e) (view (now text) (now work)) ⌝ }
     requires { ⌜ Kinds (kind .kind) (kind .a) (kind .e) ⌝ }
     ensures { λ r. ⌜ KindTaken n kind (now (work .entry)) (now (text .entry)) (p .at) (now (out .entry)) at (now (out .exit)) r ⌝ }
 {
+    if kind.kind <= 4 {
+        return constant_bytes(text, p, n, kind, work, out, at);
+    }
+    if kind.kind == 20 {
+        return map_bytes(text, p, n, kind, pools, work, out, at);
+    }
     if 32 <= kind.e {
         return linked_bytes(text, p, n, kind, work, out, at);
     }
@@ -92,6 +193,7 @@ fn kind_bytes(
         kind.a,
         kind.e,
         strings(work) as u64,
+        pools,
         &work[..0],
         &work[..0],
         out,
@@ -104,34 +206,43 @@ fn chunk_bytes(
     text: &[u8],
     p: Place,
     d: DueRow,
+    pools: &[u32],
     work: &[u32],
     out: &mut [u8],
     at: usize,
 ) -> TextRead
-    requires { ⌜ Holds (now text) (now work) × Low 0 (logOf (now work)) × Listed (fldsOf (now work)) ⌝ }
+    requires { ⌜ Holds (now text) (now work) × Low 0 (logOf (now work)) × Noted (now pools) (view (now text) (now work)) × Listed (fldsOf (now work)) ⌝ }
     requires { ⌜ d .field < fieldsIn (now work) ⌝ }
     ensures { λ r. ⌜ Told (chunkText (view (now (text .entry)) (now (work .entry))) (dueIn d .0)) (putChunk (view (now (text .entry)) (now (work .entry))) (dueIn d .0)) (now (text .entry)) (p .at) (now (out .entry)) at (now (out .exit)) r ⌝ }
 {
     let kind = field_at(work, d.field);
-    kind_bytes(text, p, d.values, kind, work, out, at)
+    kind_bytes(text, p, d.values, kind, pools, work, out, at)
 }
 
 // The i-th chunk that is due, laid as its bytes.
-fn due_bytes(text: &[u8], p: Place, i: u32, work: &[u32], out: &mut [u8], at: usize) -> TextRead
-    requires { ⌜ DueReady (now text) (now work) i ⌝ }
+fn due_bytes(
+    text: &[u8],
+    p: Place,
+    i: u32,
+    pools: &[u32],
+    work: &[u32],
+    out: &mut [u8],
+    at: usize,
+) -> TextRead
+    requires { ⌜ DueReady (now text) (now work) (now pools) i ⌝ }
     ensures { λ r. ⌜ DueTold (now (text .entry)) (now (work .entry)) i (p .at) (now (out .entry)) at (now (out .exit)) r ⌝ }
 {
     let d = due_at(work, i);
-    chunk_bytes(text, p, d, work, out, at)
+    chunk_bytes(text, p, d, pools, work, out, at)
 }
 
 // The size of the i-th chunk that is due: lent no room, its bytes are only counted.
-fn size_chunk(text: &[u8], p: Place, i: u32, work: &mut [u32]) -> Step
-    requires { ⌜ DueReady (now text) (now work) i ⌝ }
+fn size_chunk(text: &[u8], p: Place, i: u32, pools: &[u32], work: &mut [u32]) -> Step
+    requires { ⌜ DueReady (now text) (now work) (now pools) i ⌝ }
     ensures { λ r. ⌜ ChunkSized (now (text .entry)) (now (work .entry)) (p .at) i r (now (work .exit)) ⌝ }
 {
     let mut none = [0u8; 1];
-    let a = due_bytes(text, p, i, work, &mut none[..0], 0);
+    let a = due_bytes(text, p, i, pools, work, &mut none[..0], 0);
     let TextRead::Got(k) = a else {
         return Step::Bad;
     };
@@ -140,16 +251,16 @@ fn size_chunk(text: &[u8], p: Place, i: u32, work: &mut [u32]) -> Step
     Step::To(next)
 }
 
-// The lines of all chunks that are due, judged: the place behind them, and each chunk's size in the table.
-pub fn size_chunks(text: &[u8], p: Place, work: &mut [u32]) -> Step
-    requires { ⌜ RegionReady (now text) (now work) ⌝ }
+// The chunks that are due, judged one after the other, where it is known what strings name.
+fn size_each(text: &[u8], p: Place, pools: &[u32], work: &mut [u32]) -> Step
+    requires { ⌜ RegionReady (now text) (now work) × Noted (now pools) (view (now text) (now work)) ⌝ }
     ensures { λ r. ⌜ RegionSized (now (text .entry)) (now (work .entry)) (p .at) r (now (work .exit)) ⌝ }
 {
     let n = dues(work);
     let mut here = p.at;
     let mut i = 0;
     while i < n {
-        let a = size_chunk(text, Place { at: here }, i, work);
+        let a = size_chunk(text, Place { at: here }, i, pools, work);
         let Step::To(next) = a else {
             return Step::Bad;
         };
@@ -157,6 +268,17 @@ pub fn size_chunks(text: &[u8], p: Place, work: &mut [u32]) -> Step
         i += 1;
     }
     Step::To(Place { at: here })
+}
+
+// The lines of all chunks that are due, judged: the place behind them, and each chunk's size in the table. What strings name is
+// looked up once for all.
+pub fn size_chunks(text: &[u8], p: Place, work: &mut [u32]) -> Step
+    requires { ⌜ RegionReady (now text) (now work) ⌝ }
+    ensures { λ r. ⌜ RegionSized (now (text .entry)) (now (work .entry)) (p .at) r (now (work .exit)) ⌝ }
+{
+    let mut list = [0u32; Ledger::STRINGS as usize];
+    let k = pools_due(text, work, &mut list);
+    size_each(text, p, &list[..k], work)
 }
 
 // A sum that stands still at the largest number.
@@ -187,11 +309,18 @@ pub fn region_size(work: &[u32]) -> u64
 
 // The i-th chunk that is due, laid as its bytes, and its size. It gives up at the largest number: a count that stands still
 // says no size.
-fn lay_due(text: &[u8], here: Taken, i: u32, work: &mut [u32], out: &mut [u8]) -> TextRead
-    requires { ⌜ DueReady (now text) (now work) i ⌝ }
+fn lay_due(
+    text: &[u8],
+    here: Taken,
+    i: u32,
+    pools: &[u32],
+    work: &mut [u32],
+    out: &mut [u8],
+) -> TextRead
+    requires { ⌜ DueReady (now text) (now work) (now pools) i ⌝ }
     ensures { λ r. ⌜ DueLaid (now (text .entry)) (now (work .entry)) (here .next .at) i (now (out .entry)) (here .at) (now (out .exit)) r (now (work .exit)) ⌝ }
 {
-    let a = due_bytes(text, here.next, i, work, out, here.at);
+    let a = due_bytes(text, here.next, i, pools, work, out, here.at);
     let TextRead::Got(k) = a else {
         return TextRead::Bad;
     };
@@ -203,16 +332,23 @@ fn lay_due(text: &[u8], here: Taken, i: u32, work: &mut [u32], out: &mut [u8]) -
     TextRead::Got(k)
 }
 
-// The lines of all chunks that are due, laid as their bytes, and each chunk's size in the table.
-pub fn lay_sized(text: &[u8], p: Place, work: &mut [u32], out: &mut [u8], at: usize) -> TextRead
-    requires { ⌜ RegionReady (now text) (now work) ⌝ }
+// The chunks that are due, laid one after the other, where it is known what strings name.
+fn lay_each(
+    text: &[u8],
+    p: Place,
+    pools: &[u32],
+    work: &mut [u32],
+    out: &mut [u8],
+    at: usize,
+) -> TextRead
+    requires { ⌜ RegionReady (now text) (now work) × Noted (now pools) (view (now text) (now work)) ⌝ }
     ensures { λ r. ⌜ LaidSized (now (text .entry)) (now (work .entry)) (p .at) (now (out .entry)) at (now (out .exit)) r (now (work .exit)) ⌝ }
 {
     let n = dues(work);
     let mut here = Taken { next: p, at };
     let mut i = 0;
     while i < n {
-        let a = lay_due(text, here, i, work, out);
+        let a = lay_due(text, here, i, pools, work, out);
         let TextRead::Got(k) = a else {
             return TextRead::Bad;
         };
@@ -220,4 +356,15 @@ pub fn lay_sized(text: &[u8], p: Place, work: &mut [u32], out: &mut [u8], at: us
         i += 1;
     }
     TextRead::Got(here)
+}
+
+// The lines of all chunks that are due, laid as their bytes, and each chunk's size in the table. What strings name is looked up
+// once for all.
+pub fn lay_sized(text: &[u8], p: Place, work: &mut [u32], out: &mut [u8], at: usize) -> TextRead
+    requires { ⌜ RegionReady (now text) (now work) ⌝ }
+    ensures { λ r. ⌜ LaidSized (now (text .entry)) (now (work .entry)) (p .at) (now (out .entry)) at (now (out .exit)) r (now (work .exit)) ⌝ }
+{
+    let mut list = [0u32; Ledger::STRINGS as usize];
+    let k = pools_due(text, work, &mut list);
+    lay_each(text, p, &list[..k], work, out, at)
 }

@@ -9,8 +9,8 @@ use lib.Dec.{leb, ltb, eqb}
 use lib.ListN.{length, getD}
 use lib.Seq.{slice}
 use Rattle.paper.specs.Reader.{if_then_else_}
-use Rattle.paper.specs.Numbers.{signed}
-use Rattle.paper.specs.Ledger.{Kind, constant, plain, array, many, Typ, Field, Range, Due, State}
+use Rattle.paper.specs.Numbers.{signed, putFixed}
+use Rattle.paper.specs.Ledger.{Kind, constant, plain, array, many, mapping, Typ, Field, Range, Due, State}
 use Rattle.paper.specs.Places.{Spot}
 use Rattle.table.specs.Rows.{seg, Each}
 
@@ -71,8 +71,8 @@ textOf f r = slice (getD r 0 0) (getD r 1 0) f
 abbrev pub typOf : List ℕ → Typ
 typOf r = record { super = maybe (getD r 2 0); base = getD r 3 0 }
 
--- a kind by its first number k, of which 32 stands for all above; by a, a constant's bits or an array's length; and by e, its
--- last number, which is k itself where there is only one
+-- a kind by its first number k, of which 32 stands for all above; by a, a constant's bits, an array's length or a map's number
+-- of types; and by e, its last number, which is k itself where there is only one; of a map it has the kinds, a byte each
 unfoldable pub kindFrom : ℕ → ℕ → ℕ → Kind
 kindFrom k a e =
     if leb k 3 then
@@ -83,6 +83,8 @@ kindFrom k a e =
     array a e else
     if leb 17 k && leb k 19 then
     many k e else
+    if eqb k 20 then
+    mapping (putFixed a e) else
     plain e
 
 abbrev pub fldOf : List ℕ → Field

@@ -1,34 +1,35 @@
 -- Elements, values and chunks of a listing as bytes. Assumes nothing.
 use mathlib.Core.Path.{_≡_, refl, sym, ap, _∙_}
-use mathlib.Core.Bool.{Bool, true, false, _&&_}
+use mathlib.Core.Bool.{Bool, true, false, _&&_, not}
 use mathlib.Core.List.{List, [], _∷_, _++_}
-use Prim.Native.Nat.{ℕ, zero, suc, _+_, _^_, _≤_, _<_}
+use Prim.Native.Nat.{ℕ, zero, suc, _+_, _/_, _^_, _≤_, _<_}
 use native.Mathlib.Omega.{arith}
 use native.Mathlib.Nat.{lt-of-not-le}
 use native.Mathlib.Decide.{decLe}
 use lib.Dec.{eqb}
 use lib.IntN.{ℤ}
 use lib.ListN.{length}
-use borrow.Author.Tests.{le-leb}
+use borrow.Author.Tests.{not-true, not-false, le-leb, lt-ltb}
 use Rattle.paper.specs.Reader.{if_then_else_, Reader, Out, got, no as bad, andThen, _>>=_, _>>_, give, each, times, repeat}
 use Rattle.paper.specs.Lists.{flat, all}
 use Rattle.paper.specs.Numbers.{signed, put}
-use Rattle.paper.specs.Ledger.{constant, Element, State}
+use Rattle.paper.specs.Ledger.{constant, Element, annotation, State}
 use Rattle.paper.specs.Rules.{smallRules, elementKind?}
 use Rattle.paper.specs.Keeps.{number?, element?, value?}
 use Rattle.paper.specs.Encode.{putElement, putValue}
 use Rattle.paper.specs.Listing.{ascii, tab, newline}
-use Rattle.paper.specs.Scan.{heed, byteIs, literal, ended, readElement, readValue, elementsKind, valueText}
+use Rattle.paper.specs.Scan.{heed, byteIs, literal, ended, natural, readElement, readValue, readLine, valueText}
 use Rattle.lay.specs.Laid.{Laid, laid-then, laid-as}
 use Rattle.laws.specs.Laws.{not-got, bind-inv, then-inv}
 use Rattle.table.specs.View.{kindFrom}
 use Rattle.words.specs.ReadBytes.{ended-not, ended-open, ended-got}
 use Rattle.values.specs.Filling.{repeat-first, repeat-none}
+use Rattle.values.specs.Annotations.{placed?}
 use Rattle.values.specs.Items.{Known}
 use Rattle.values.specs.Chunks.{kind-array, kind-many, kind-plain}
-use Rattle.texts.specs.Quiet.{tabsFrom}
-use Rattle.texts.specs.Exact.{judged, behindTab, exactly, tested, listed, line-exactly, listed-refused, listed-many, listed-as, repeat-more, repeat-over}
-use Rattle.texts.specs.Elements.{and-yes, kept, kept-known, numberOf, inBytes, boundIn, reckoned, Writes}
+use Rattle.texts.specs.Quiet.{wordsOf, tabsFrom, same-then, natural-word, parted}
+use Rattle.texts.specs.Exact.{judged, behindTab, exactly, tested, listed, line-exactly, listed-refused, listed-many, listed-as, repeat-more, repeat-over, then-then}
+use Rattle.texts.specs.Elements.{and-yes, kept, kept-known, noted, numberOf, inBytes, boundIn, reckoned, Writes}
 use Rattle.texts.specs.Told.{Lays, Told, takes, refuses, was-got, was-bad}
 use Rattle.texts.specs.declared.Taken.{Taken}
 use Rattle.texts.specs.declared.TextRead.{TextRead}
@@ -39,9 +40,9 @@ unfoldable pub putList : ℕ → List Element → List ℕ
 putList e es = put (length es) ++ flat (putElement e) es
 
 -- the answer is that of n values of the kind, for every state that has these numbers
-pub record ChunkTaken (n k a e strings : ℕ) (first last t : List ℕ) (from : ℕ) (l : List ℕ) (at : ℕ) (m : List ℕ) (o : TextRead) : Type 0 where
+pub record ChunkTaken (n k a e strings : ℕ) (pools first last t : List ℕ) (from : ℕ) (l : List ℕ) (at : ℕ) (m : List ℕ) (o : TextRead) : Type 0 where
   pub told :
-      (s : State) → Known s e strings first last
+      (s : State) → Known s e strings pools first last
       → Told (repeat n (valueText s (kindFrom k a e))) (flat (putValue (kindFrom k a e))) t from l at m o
 
 -- ── the next element ──
@@ -109,14 +110,58 @@ module _ (ok : Element → Bool) (e : ℕ) (t : List ℕ) (from : ℕ) where
             laid = rw y (laid-as L (ap (inBytes e) (F .number) ∙ sym (writes (F .element) (F .keeps) .bytes)));
           }
 
--- ── a line ──
-
 -- the same reading in other words
 pub told-as :
     {A : Type 0} {r q : Reader A} {w : A → List ℕ} {t : List ℕ} {from to : ℕ} {l : List ℕ} {at : ℕ} {m : List ℕ} {o : TextRead}
     → r t from ≡ q t to → Told q w t to l at m o → Told r w t from l at m o
 told-as same (takes k L) = takes k (record { value = L .value; reads = same ∙ L .reads; laid = L .laid })
 told-as same (refuses h) = refuses (same ∙ h)
+
+-- ── an annotation ──
+
+module _ (pools t : List ℕ) (from : ℕ) where
+  pub noted-none : bad 20 0 ≡ ended tab natural t from → noted pools t from ≡ bad 20 0
+  unfolding noted _>>=_
+  noted-none h = rw (← h)
+
+  module _ {a p : ℕ} (name : got a p ≡ ended tab natural t from) where
+    pub noted-half : bad 20 0 ≡ natural t p → noted pools t from ≡ bad 20 0
+    unfolding noted _>>=_
+    noted-half h = rw (← name, ← h)
+
+    module _ {b q : ℕ} (object : got b q ≡ natural t p) {c : Bool} (asked : c ≡ placed? pools a b) where
+      pub noted-wrong : not c ≡ true → noted pools t from ≡ bad 20 0
+      unfolding noted heed if_then_else_ _>>=_ _>>_
+      noted-wrong h = rw (← name, ← object, sym asked ∙ not-true c h)
+
+      pub noted-lays :
+          {l m n : List ℕ} {at d r : ℕ} → not c ≡ false → (k : Taken) → k .next .at ≡ q → k .at ≡ r → Laid l at (put a) m d → Laid m d (put b) n r
+          → Lays (noted pools) (putElement 5) t from l at n k
+      unfolding noted heed if_then_else_ _>>=_ _>>_ give putElement
+      noted-lays h k x y L M =
+          record {
+            value = annotation a b;
+            reads = rw (← name, ← object, sym asked ∙ not-false c h, x);
+            laid = rw y (laid-then L M);
+          }
+
+module _ (strings : ℕ) (pools first last t : List ℕ) where
+  -- that is what an element of this kind is held to
+  noted-as : (at : ℕ) → judged (kept strings pools first last 5) 5 t at ≡ noted pools t at
+  unfolding judged readElement noted kept heed if_then_else_ _>>=_ _>>_ give
+  noted-as at =
+      then-then (ended tab natural t at) _ _
+      ∙ same-then _ _ (parted t at) (λ a p s.
+      then-then (natural t p) _ _
+      ∙ same-then _ _ (natural-word t p) (λ b q w. rw (lt-ltb a (256 ^ 8) (s .below), lt-ltb b (256 ^ 8) (w .holds .below))))
+
+  pub next-noted :
+      {e from : ℕ} {u : Unit {0}} {p : ℕ} {l : List ℕ} {at : ℕ} {m : List ℕ} {o : TextRead} → e ≡ 5 → got u p ≡ byteIs tab t from
+      → Told (noted pools) (putElement 5) t p l at m o → Told (behindTab (kept strings pools first last e) e) (putElement e) t from l at m o
+  unfolding behindTab _>>_
+  next-noted {e} {from} {u} {p} is tabbed T = rw is (told-as {r = behindTab (kept strings pools first last 5) 5} {from = from} (rw (← tabbed) (noted-as p)) T)
+
+-- ── a line ──
 
 module _ {r : Reader (List Element)} {w : List Element → List ℕ} {t : List ℕ} {from : ℕ} {l : List ℕ} {at : ℕ} {m : List ℕ} {o : TextRead} (T : Told r w t from l at m o) where
   pub rest-bad : o ≡ Bad → ended newline r t from ≡ bad 20 0
@@ -157,12 +202,16 @@ line-length m r t q d es h =
     let same : B .value ≡ es = cc (C .rest) in
     sym (ap length same) ∙ repeat-length r t m q (B .value) (B .next) (B .first)
 
+-- so many elements as there are tabs for
+pub tabs-over : (w : ℕ) {m n tabs : ℕ} → m ≡ n / w → n ≡ tabs → m ≡ tabs / w
+tabs-over w h is = h ∙ ap (λ (x : ℕ). x / w) is
+
 module _ (ok : Element → Bool) (e : ℕ) (t : List ℕ) (from : ℕ) where
   pub list-refused : bad 20 0 ≡ literal (118 ∷ 97 ∷ 108 ∷ []) t from → listed ok e t from ≡ bad 20 0
   unfolding ascii
   list-refused h = listed-refused ok e t from (sym h)
 
-  module _ {u : Unit {0}} {q m : ℕ} (word : got u q ≡ literal (118 ∷ 97 ∷ 108 ∷ []) t from) (count : m ≡ tabsFrom t q) where
+  module _ {u : Unit {0}} {q m : ℕ} (word : got u q ≡ literal (118 ∷ 97 ∷ 108 ∷ []) t from) (count : m ≡ tabsFrom t q / wordsOf e) where
     pub list-long : 65535 < m → listed ok e t from ≡ bad 20 0
     unfolding ascii
     list-long h = listed-many ok e t from (sym word) (omega (arith, count))
@@ -201,7 +250,7 @@ module _ {A : Type 0} (r q : Reader A) (t : List ℕ) (same : (p : ℕ) → r t 
         let F = repeat-first q n t p l d h in
         rw (F .is, alike p (F .value) (F .next) (F .first), flat-same n (F .next) (F .more) d (F .rest))
 
-    told-all :
+    pub told-all :
         (n : ℕ) {from : ℕ} {l : List ℕ} {at : ℕ} {m : List ℕ} {o : TextRead} → Told (repeat n q) (flat w) t from l at m o → Told (repeat n r) (flat v) t from l at m o
     told-all n {from} (takes k L) =
         takes k (record {
@@ -261,39 +310,39 @@ none-read ok e t p v d h =
     empty (x ∷ l) h = absurd (omega arith)
 
 -- the line of a value, as code reads it
-module _ {s : State} {e strings : ℕ} {first last : List ℕ} (K : Known s e strings first last) (t : List ℕ) (p : ℕ) where
-  text-constant : (k : ℕ) (z : ℤ) → valueText s (constant k z) t p ≡ exactly 0 (kept strings first last e) e t p
-  unfolding valueText elementsKind value? tested
+module _ {s : State} {e strings : ℕ} {pools first last : List ℕ} (K : Known s e strings pools first last) (t : List ℕ) (p : ℕ) where
+  text-constant : (k : ℕ) (z : ℤ) → valueText s (constant k z) t p ≡ exactly 0 (kept strings pools first last e) e t p
+  unfolding valueText readLine value? tested
   text-constant k z =
       line-exactly (λ x. true) 0 t (λ v. eqb (length v) 0) 0 (omega arith) (λ v. rw (all-true v) (sym (and-yes (eqb (length v) 0)))) p
-      ∙ exactly-none (λ x. true) (kept strings first last e) 0 e t p
+      ∙ exactly-none (λ x. true) (kept strings pools first last e) 0 e t p
 
   module _ (kind : elementKind? e ≡ true) where
-    all-kept : (v : List Element) → all (element? s e) v ≡ all (kept strings first last e) v
-    all-kept = all-same (element? s e) (kept strings first last e) (kept-known K kind)
+    all-kept : (v : List Element) → all (element? s e) v ≡ all (kept strings pools first last e) v
+    all-kept = all-same (element? s e) (kept strings pools first last e) (kept-known K kind)
 
-    text-exactly : (m : ℕ) → m ≤ 65535 → tested (λ v. eqb (length v) m && all (element? s e) v) e t p ≡ exactly m (kept strings first last e) e t p
-    text-exactly m h = line-exactly (kept strings first last e) e t _ m h (λ v. rw (all-kept v)) p
+    text-exactly : (m : ℕ) → m ≤ 65535 → tested (λ v. eqb (length v) m && all (element? s e) v) e t p ≡ exactly m (kept strings pools first last e) e t p
+    text-exactly m h = line-exactly (kept strings pools first last e) e t _ m h (λ v. rw (all-kept v)) p
 
-    text-listed : tested (λ v. number? smallRules (length v) && all (element? s e) v) e t p ≡ listed (kept strings first last e) e t p
+    text-listed : tested (λ v. number? smallRules (length v) && all (element? s e) v) e t p ≡ listed (kept strings pools first last e) e t p
     unfolding listed
     text-listed = tested-same _ _ (λ v. rw (all-kept v)) e t p
 
-module _ (n k a e strings : ℕ) (first last t : List ℕ) {from : ℕ} {l : List ℕ} {at : ℕ} {m : List ℕ} {o : TextRead} where
+module _ (n k a e strings : ℕ) (pools first last t : List ℕ) {from : ℕ} {l : List ℕ} {at : ℕ} {m : List ℕ} {o : TextRead} where
   -- what is written where nothing is read is nothing
-  pub chunk-constant : k ≤ 4 → Told (repeat n (exactly 0 (kept strings first last e) e)) (flat (flat (putElement e))) t from l at m o → ChunkTaken n k a e strings first last t from l at m o
+  pub chunk-constant : k ≤ 4 → Told (repeat n (exactly 0 (kept strings pools first last e) e)) (flat (flat (putElement e))) t from l at m o → ChunkTaken n k a e strings pools first last t from l at m o
   unfolding putValue flat
   chunk-constant h T =
       let C = kind-constant k a e h in
       record {
         told = λ s K. rw (C .is)
             (told-all _ _ t (λ p. text-constant K t p k (C .value)) (flat (putElement e)) (λ es. [])
-            (λ p v d q. ap (flat (putElement e)) (none-read (kept strings first last e) e t p v d q)) n T);
+            (λ p v d q. ap (flat (putElement e)) (none-read (kept strings pools first last e) e t p v d q)) n T);
       }
 
   module _ (kind : elementKind? e ≡ true) where
-    pub chunk-array : k ≡ 15 → a ≤ 65535 → Told (repeat n (exactly a (kept strings first last e) e)) (flat (flat (putElement e))) t from l at m o → ChunkTaken n k a e strings first last t from l at m o
-    unfolding valueText elementsKind value? tested putValue
+    pub chunk-array : k ≡ 15 → a ≤ 65535 → Told (repeat n (exactly a (kept strings pools first last e) e)) (flat (flat (putElement e))) t from l at m o → ChunkTaken n k a e strings pools first last t from l at m o
+    unfolding valueText readLine value? tested putValue
     chunk-array h le T =
         record {
           told = λ s K. rw (kind-array k a e h)
@@ -301,17 +350,17 @@ module _ (n k a e strings : ℕ) (first last t : List ℕ) {from : ℕ} {l : Lis
         }
 
     pub chunk-plain :
-        4 < k → (k ≡ 15 → ⊥) → (17 ≤ k → 19 < k) → Told (repeat n (exactly 1 (kept strings first last e) e)) (flat (flat (putElement e))) t from l at m o
-        → ChunkTaken n k a e strings first last t from l at m o
-    unfolding valueText elementsKind value? tested putValue
-    chunk-plain h x y T =
+        4 < k → (k ≡ 15 → ⊥) → (17 ≤ k → 19 < k) → (k ≡ 20 → ⊥) → Told (repeat n (exactly 1 (kept strings pools first last e) e)) (flat (flat (putElement e))) t from l at m o
+        → ChunkTaken n k a e strings pools first last t from l at m o
+    unfolding valueText readLine value? tested putValue
+    chunk-plain h x y z T =
         record {
-          told = λ s K. rw (kind-plain k a e h x y)
+          told = λ s K. rw (kind-plain k a e h x y z)
               (told-all _ _ t (λ p. text-exactly K t p kind 1 (omega arith)) (flat (putElement e)) (λ es. flat (putElement e) es) (λ p v d q. refl) n T);
         }
 
-    pub chunk-lists : 17 ≤ k → k ≤ 19 → Told (repeat n (listed (kept strings first last e) e)) (flat (putList e)) t from l at m o → ChunkTaken n k a e strings first last t from l at m o
-    unfolding valueText elementsKind value? tested putValue putList
+    pub chunk-lists : 17 ≤ k → k ≤ 19 → Told (repeat n (listed (kept strings pools first last e) e)) (flat (putList e)) t from l at m o → ChunkTaken n k a e strings pools first last t from l at m o
+    unfolding valueText readLine value? tested putValue putList
     chunk-lists h le T =
         record {
           told = λ s K. rw (kind-many k a e h le)

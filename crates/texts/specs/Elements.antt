@@ -11,27 +11,31 @@ use lib.Dec.{leb, ltb, eqb, lit<}
 use lib.IntN.{ℤ, pos, negsuc}
 use lib.ListN.{getD}
 use borrow.Author.Tests.{leb-false, ltb-true, eqb-true, not-true, le-leb, lt-leb, lt-ltb, le-ltb, eq-eqb, ne-eqb}
-use Rattle.paper.specs.Reader.{if_then_else_, Reader, Out, got, no as bad, andThen, _>>=_, give}
+use Rattle.paper.specs.Reader.{if_then_else_, Reader, Out, got, no as bad, andThen, _>>=_, _>>_, give}
 use Rattle.paper.specs.Numbers.{signed, unsigned, putFixed, put}
-use Rattle.paper.specs.Ledger.{Element, flag, whole, float, link, State}
-use Rattle.paper.specs.Rules.{elementKind?, link?, linkRules}
+use Rattle.paper.specs.Ledger.{Element, flag, whole, float, link, annotation, keys, State}
+use Rattle.paper.specs.Rules.{singleKind?, elementKind?, link?, linkRules, annotation?}
 use Rattle.paper.specs.Encode.{putWhole, putElement}
 use Rattle.paper.specs.Keeps.{hold?, number?, signed?, whole?, element?}
-use Rattle.paper.specs.Scan.{natural, integer, hexOn, readFlag, readElement}
-use Rattle.laws.specs.Bools.{and-split}
+use Rattle.paper.specs.Listing.{tab}
+use Rattle.paper.specs.Scan.{heed, ended, natural, integer, hexOn, readFlag, readElement}
+use Rattle.laws.specs.Bools.{not-so, and-split}
 use Rattle.words.specs.Answers.{Peeked}
 use Rattle.values.specs.Listed.{listed-object}
+use Rattle.values.specs.Annotations.{placed?}
 use Rattle.values.specs.Items.{atMost, someObject, Known, link-is}
 use Rattle.texts.specs.Quiet.{Fate, gives, refuses, Word, Small, natural-word, hex-word}
 
 -- ── what an element is held to ──
 
--- by the number of strings and the ranges of objects
-unfoldable pub kept : ℕ → List ℕ → List ℕ → ℕ → Element → Bool
-kept strings first last e (flag b) = eqb e 6
-kept strings first last e (whole v) = not (eqb e 6) && leb e 11 && whole? (e - 7) v
-kept strings first last e (float w n) = not (leb e 11) && leb e 13 && eqb w (4 * (e - 11)) && ltb n (256 ^ w)
-kept strings first last e (link n) = not (leb e 13) && (ltb n (256 ^ 8) && (if eqb e 14 then atMost strings n else someObject first last n))
+-- by the number of strings, the numbers of objects in pools and the ranges of objects
+unfoldable pub kept : ℕ → List ℕ → List ℕ → List ℕ → ℕ → Element → Bool
+kept strings pools first last e (flag b) = eqb e 6
+kept strings pools first last e (whole v) = not (eqb e 5) && (not (eqb e 6) && leb e 11 && whole? (e - 7) v)
+kept strings pools first last e (float w n) = not (leb e 11) && leb e 13 && eqb w (4 * (e - 11)) && ltb n (256 ^ w)
+kept strings pools first last e (link n) = not (leb e 13) && (ltb n (256 ^ 8) && (if eqb e 14 then atMost strings n else someObject first last n))
+kept strings pools first last e (annotation m n) = eqb e 5 && (ltb m (256 ^ 8) && (ltb n (256 ^ 8) && placed? pools m n))
+kept strings pools first last e (keys n) = false
 
 pub and-yes : (b : Bool) → (b && true) ≡ b
 and-yes true = refl
@@ -39,19 +43,37 @@ and-yes false = refl
 
 -- that is what the state holds it to
 pub kept-known :
-    {s : State} {e strings : ℕ} {first last : List ℕ} → Known s e strings first last → elementKind? e ≡ true → (x : Element)
-    → element? s e x ≡ kept strings first last e x
+    {s : State} {e strings : ℕ} {pools first last : List ℕ} → Known s e strings pools first last → elementKind? e ≡ true → (x : Element)
+    → element? s e x ≡ kept strings pools first last e x
 unfolding element? kept number? hold? linkRules if_then_else_
 kept-known K listed (flag b) = refl
 kept-known K listed (whole v) = refl
 kept-known K listed (float w n) = refl
-kept-known {s} {e} {strings} {first} {last} K listed (link n) = go (leb e 13) refl
+kept-known K listed (keys n) = refl
+kept-known {s} {e} {strings} {pools} {first} {last} K listed (annotation m n) = go (eqb e 5) refl
+  where
+    go :
+        (b : Bool) → eqb e 5 ≡ b
+        → (b && (ltb m (256 ^ 8) && (ltb n (256 ^ 8) && annotation? s m n))) ≡ (b && (ltb m (256 ^ 8) && (ltb n (256 ^ 8) && placed? pools m n)))
+    go false t = refl
+    go true t = rw (K .pools-are (eqb-true e 5 t) m n)
+kept-known {s} {e} {strings} {pools} {first} {last} K listed (link n) = go (leb e 13) refl
   where
     go :
         (b : Bool) → leb e 13 ≡ b
         → (not b && (ltb n (256 ^ 8) && (link? s e n && true))) ≡ (not b && (ltb n (256 ^ 8) && (if eqb e 14 then atMost strings n else someObject first last n)))
     go true t = refl
     go false t = rw (and-yes (link? s e n), link-is K listed (leb-false e 13 t) n)
+
+-- ── annotations ──
+
+-- two numbers, held to the rule when both are read
+unfoldable pub noted : List ℕ → Reader Element
+noted pools = do
+  m ← ended tab natural
+  n ← natural
+  heed (placed? pools m n)
+  give (annotation m n)
 
 -- ── the number that stands for an element ──
 
@@ -63,6 +85,9 @@ numberOf e (flag b) = if b then 255 else 0
 numberOf e (whole v) = unsigned (wholeWidth e) v
 numberOf e (float w n) = n
 numberOf e (link n) = n
+-- neither is one number
+numberOf e (annotation m n) = 0
+numberOf e (keys n) = 0
 
 -- the bytes of the number of kind e
 unfoldable pub inBytes : ℕ → ℕ → List ℕ
@@ -101,67 +126,67 @@ wholeNumber w t at = andThen (integer t at) λ z d. if signed? w z then got (uns
 unfoldable pub linkNumber : (ℕ → Bool) → Reader ℕ
 linkNumber ok t at = andThen (natural t at) λ n d. if ok n then got n d else bad 20 0
 
-module _ (strings : ℕ) (first last : List ℕ) (e : ℕ) (t : List ℕ) (at : ℕ) where
-  pub reckoned-flag : e ≡ 6 → flagNumber t at ≡ reckoned (kept strings first last e) e t at
+module _ (strings : ℕ) (pools first last : List ℕ) (e : ℕ) (t : List ℕ) (at : ℕ) where
+  pub reckoned-flag : e ≡ 6 → flagNumber t at ≡ reckoned (kept strings pools first last e) e t at
   unfolding reckoned readElement readFlag flagNumber kept numberOf if_then_else_
   reckoned-flag is = rw is (go (eqb (getD t at 256) 48) (eqb (getD t at 256) 49))
     where
       go :
           (x y : Bool)
           → (if x then got 0 (at + 1) else if y then got 255 (at + 1) else bad 20 0)
-          ≡ andThen (if x then got (flag false) (at + 1) else if y then got (flag true) (at + 1) else bad 20 0) (λ f d. if kept strings first last 6 f then got (numberOf 6 f) d else bad 20 0)
+          ≡ andThen (if x then got (flag false) (at + 1) else if y then got (flag true) (at + 1) else bad 20 0) (λ f d. if kept strings pools first last 6 f then got (numberOf 6 f) d else bad 20 0)
       go true y = refl
       go false true = refl
       go false false = refl
 
-  pub reckoned-whole : 6 < e → e < 12 → wholeNumber (wholeWidth e) t at ≡ reckoned (kept strings first last e) e t at
+  pub reckoned-whole : 6 < e → e < 12 → wholeNumber (wholeWidth e) t at ≡ reckoned (kept strings pools first last e) e t at
   unfolding reckoned readElement wholeNumber wholeWidth kept whole? numberOf if_then_else_ _>>=_ give
-  reckoned-whole h l = simp (ne-eqb e 6 (λ z. omega arith), le-leb e 11 (omega arith)) (go (integer t at))
+  reckoned-whole h l = simp (ne-eqb e 5 (λ z. omega arith), ne-eqb e 6 (λ z. omega arith), le-leb e 11 (omega arith)) (go (integer t at))
     where
       go :
           (o : Out ℤ)
           → andThen o (λ z d. if signed? (wholeWidth e) z then got (unsigned (wholeWidth e) z) d else bad 20 0)
-          ≡ andThen (andThen o (λ z d. got (whole z) d)) (λ x d. if kept strings first last e x then got (numberOf e x) d else bad 20 0)
-      go (got z d) = rw (ne-eqb e 6 (λ z. omega arith), le-leb e 11 (omega arith))
+          ≡ andThen (andThen o (λ z d. got (whole z) d)) (λ x d. if kept strings pools first last e x then got (numberOf e x) d else bad 20 0)
+      go (got z d) = rw (ne-eqb e 5 (λ z. omega arith), ne-eqb e 6 (λ z. omega arith), le-leb e 11 (omega arith))
       go (bad n p) = refl
 
   -- so many digits fill the width
-  reckoned-float : 11 < e → e < 14 → 16 ^ (2 * (4 * (e - 11))) ≡ 256 ^ (4 * (e - 11)) → hexOn (2 * (4 * (e - 11))) 0 t at ≡ reckoned (kept strings first last e) e t at
+  reckoned-float : 11 < e → e < 14 → 16 ^ (2 * (4 * (e - 11))) ≡ 256 ^ (4 * (e - 11)) → hexOn (2 * (4 * (e - 11))) 0 t at ≡ reckoned (kept strings pools first last e) e t at
   unfolding reckoned readElement kept numberOf if_then_else_ _>>=_ give
   reckoned-float h l fills =
-      rw (ne-eqb e 6 (λ z. omega arith), lt-leb e 11 h, le-leb e 13 (omega arith))
+      rw (ne-eqb e 5 (λ z. omega arith), ne-eqb e 6 (λ z. omega arith), lt-leb e 11 h, le-leb e 13 (omega arith))
       (go (hex-word t (2 * (4 * (e - 11))) 0 0 at (omega arith)))
     where
       go :
           {o : Out ℕ} → Fate (Word (λ n. n < 16 ^ (0 + 2 * (4 * (e - 11)))) t at) o
-          → o ≡ andThen (andThen o (λ n d. got (float (4 * (e - 11)) n) d)) (λ x d. if kept strings first last e x then got (numberOf e x) d else bad 20 0)
+          → o ≡ andThen (andThen o (λ n d. got (float (4 * (e - 11)) n) d)) (λ x d. if kept strings pools first last e x then got (numberOf e x) d else bad 20 0)
       go (gives n d w) =
           let small : n < 256 ^ (4 * (e - 11)) = rw (zero-add, fills) at (w .holds) in
           rw (lt-leb e 11 h, le-leb e 13 (omega arith), eq-eqb (4 * (e - 11)) (4 * (e - 11)) refl, lt-ltb n (256 ^ (4 * (e - 11))) small)
       go refuses = refl
 
-  pub reckoned-f32 : e ≡ 12 → hexOn 8 0 t at ≡ reckoned (kept strings first last e) e t at
+  pub reckoned-f32 : e ≡ 12 → hexOn 8 0 t at ≡ reckoned (kept strings pools first last e) e t at
   reckoned-f32 is = ap (λ (k : ℕ). hexOn (2 * (4 * (k - 11))) 0 t at) (sym is) ∙ reckoned-float (omega arith) (omega arith) (rw is)
 
-  pub reckoned-f64 : e ≡ 13 → hexOn 16 0 t at ≡ reckoned (kept strings first last e) e t at
+  pub reckoned-f64 : e ≡ 13 → hexOn 16 0 t at ≡ reckoned (kept strings pools first last e) e t at
   reckoned-f64 is = ap (λ (k : ℕ). hexOn (2 * (4 * (k - 11))) 0 t at) (sym is) ∙ reckoned-float (omega arith) (omega arith) (rw is)
 
-  reckoned-link : 13 < e → linkNumber (λ n. if eqb e 14 then atMost strings n else someObject first last n) t at ≡ reckoned (kept strings first last e) e t at
+  reckoned-link : 13 < e → linkNumber (λ n. if eqb e 14 then atMost strings n else someObject first last n) t at ≡ reckoned (kept strings pools first last e) e t at
   unfolding reckoned readElement linkNumber kept numberOf if_then_else_ _>>=_ give
-  reckoned-link h = rw (ne-eqb e 6 (λ z. omega arith), lt-leb e 11 (omega arith), lt-leb e 13 h) (go (natural-word t at))
+  reckoned-link h = rw (ne-eqb e 5 (λ z. omega arith), ne-eqb e 6 (λ z. omega arith), lt-leb e 11 (omega arith), lt-leb e 13 h) (go (natural-word t at))
     where
       go :
           {o : Out ℕ} → Fate (Word Small t at) o
           → andThen o (λ n d. if (if eqb e 14 then atMost strings n else someObject first last n) then got n d else bad 20 0)
-          ≡ andThen (andThen o (λ n d. got (link n) d)) (λ x d. if kept strings first last e x then got (numberOf e x) d else bad 20 0)
+          ≡ andThen (andThen o (λ n d. got (link n) d)) (λ x d. if kept strings pools first last e x then got (numberOf e x) d else bad 20 0)
       go (gives n d w) = rw (lt-leb e 13 h, lt-ltb n (256 ^ 8) (w .holds .below))
       go refuses = refl
 
-  pub reckoned-string : e ≡ 14 → linkNumber (atMost strings) t at ≡ reckoned (kept strings first last e) e t at
+  pub reckoned-string : e ≡ 14 → linkNumber (atMost strings) t at ≡ reckoned (kept strings pools first last e) e t at
   unfolding if_then_else_
   reckoned-string is = sym (ap (λ (b : Bool). linkNumber (λ n. if b then atMost strings n else someObject first last n) t at) (eq-eqb e 14 is)) ∙ reckoned-link (omega arith)
 
-  pub reckoned-object : 32 ≤ e → linkNumber (someObject first last) t at ≡ reckoned (kept strings first last e) e t at
+  pub reckoned-object : 32 ≤ e → linkNumber (someObject first last) t at ≡ reckoned (kept strings pools first last e) e t at
   unfolding if_then_else_
   reckoned-object h =
       sym (ap (λ (b : Bool). linkNumber (λ n. if b then atMost strings n else someObject first last n) t at) (ne-eqb e 14 (λ z. omega arith))) ∙ reckoned-link (omega arith)
@@ -274,7 +299,7 @@ v64-kind e h b c d =
     ]
 
 -- and once all but those of objects are
-pub object-kind : (e : ℕ) → elementKind? e ≡ true → 11 < e → (e ≡ 12 → ⊥) → (e ≡ 13 → ⊥) → (e ≡ 14 → ⊥) → 32 ≤ e
+pub object-kind : (e : ℕ) → singleKind? e ≡ true → 11 < e → (e ≡ 12 → ⊥) → (e ≡ 13 → ⊥) → (e ≡ 14 → ⊥) → 32 ≤ e
 object-kind e listed h a b c = listed-object e listed (past (past h a) b) c
 
 pub v64-bytes : (e n : ℕ) → (e ≡ 11) ⊎ (13 < e) → inBytes e n ≡ put n
@@ -301,16 +326,18 @@ writes-whole e v x y = go (ltb (e - 7) 4) refl
     go true z h = record { bytes = rw (x, y, z); fits = rw (x, y, z) (unsigned-below (2 ^ (e - 7)) v h) }
     go false z h = record { bytes = rw (x, y, z); fits = rw (x, y, z) (unsigned-below 8 v h) }
 
-module _ (strings : ℕ) (first last : List ℕ) where
-  pub kept-writes : (e : ℕ) (x : Element) → kept strings first last e x ≡ true → Writes e x
+module _ (strings : ℕ) (pools first last : List ℕ) where
+  pub kept-writes : (e : ℕ) → eqb e 5 ≡ false → (x : Element) → kept strings pools first last e x ≡ true → Writes e x
   unfolding kept putElement inBytes boundIn numberOf if_then_else_ putFixed
-  kept-writes e (flag true) h = let is = eqb-true e 6 h in record { bytes = rw is; fits = rw is (omega arith) }
-  kept-writes e (flag false) h = let is = eqb-true e 6 h in record { bytes = rw is; fits = rw is (omega arith) }
-  kept-writes e (whole v) h =
-      let (a, b) = and-split (not (eqb e 6) && leb e 11) _ h in
+  kept-writes e single (flag true) h = let is = eqb-true e 6 h in record { bytes = rw is; fits = rw is (omega arith) }
+  kept-writes e single (flag false) h = let is = eqb-true e 6 h in record { bytes = rw is; fits = rw is (omega arith) }
+  kept-writes e single (annotation m n) h = not-so (sym single ∙ and-split (eqb e 5) _ h .0)
+  kept-writes e single (keys n) h = not-so h
+  kept-writes e single (whole v) h =
+      let (a, b) = and-split (not (eqb e 6) && leb e 11) _ (and-split (not (eqb e 5)) _ h .1) in
       let (x, y) = and-split (not (eqb e 6)) _ a in
       writes-whole e v (not-true (eqb e 6) x) y b
-  kept-writes e (float w n) h =
+  kept-writes e single (float w n) h =
       let (a, z) = and-split (not (leb e 11) && leb e 13 && eqb w (4 * (e - 11))) _ h in
       let (b, d) = and-split (not (leb e 11) && leb e 13) _ a in
       let (x, y) = and-split (not (leb e 11)) _ b in
@@ -321,7 +348,7 @@ module _ (strings : ℕ) (first last : List ℕ) where
         bytes = rw (ne-eqb e 6 (λ q. omega arith), not-true (leb e 11) x, y, is);
         fits = rw (ne-eqb e 6 (λ q. omega arith), not-true (leb e 11) x, y) small;
       }
-  kept-writes e (link n) h =
+  kept-writes e single (link n) h =
       let (x, y) = and-split (not (leb e 13)) _ h in
       let (z, _) = and-split (ltb n (256 ^ 8)) _ y in
       let above = leb-false e 13 (not-true (leb e 13) x) in

@@ -3,12 +3,12 @@
 use mathlib.Core.Path.{_≡_, refl, sym, _∙_}
 use mathlib.Core.Bool.{Bool, true, false, _&&_}
 use mathlib.Core.List.{List, [], _∷_}
-use Prim.Native.Nat.{ℕ, zero, suc, _+_, _-_, _^_, _≤_, _<_}
+use Prim.Native.Nat.{ℕ, zero, suc, _+_, _-_, _*_, _/_, _^_, _≤_, _<_}
 use native.Mathlib.Omega.{arith}
 use native.Mathlib.Decide.{ℕ-discrete}
 use lib.Dec.{eqb, eqb·zero-suc, eqb·suc-zero, eqb·suc-suc}
 use lib.ListN.{length, getD}
-use borrow.Author.Tests.{eqb-true, eq-eqb, ne-eqb, lt-ltb, le-leb}
+use borrow.Author.Tests.{eq-eqb, ne-eqb, lt-ltb, le-leb}
 use Rattle.paper.specs.Reader.{if_then_else_, Reader, Out, got, no as bad, andThen, _>>=_, _>>_, give, each, times, repeat}
 use Rattle.paper.specs.Lists.{all}
 use Rattle.paper.specs.Ledger.{Element}
@@ -17,7 +17,7 @@ use Rattle.paper.specs.Scan.{heed, byteIs, literal, ended, readElement, tabbed,
 use Rattle.paper.specs.Bounds.{mostObjects}
 use Rattle.paper.specs.Rules.{smallRules}
 use Rattle.paper.specs.Keeps.{hold?, number?}
-use Rattle.texts.specs.Quiet.{tabsFrom, at-newline, Fate, gives, refuses, refused-then, same-then, Word, Any, element-word, Counted, tabbed-counts}
+use Rattle.texts.specs.Quiet.{tabsFrom, at-newline, Fate, refused-then, same-then, byte-fate, wordsOf, Worded, element-word, Counted, tabbed-counts}
 
 -- ── the readings in the order of the code ──
 
@@ -43,14 +43,6 @@ tested test e = do
   give v
 
 -- ── one byte ──
-
-byte-fate : (b : ℕ) (t : List ℕ) (at : ℕ) → Fate (λ u e. getD t at 256 ≡ b) (byteIs b t at)
-unfolding byteIs if_then_else_
-byte-fate b t at = go (eqb (getD t at 256) b) refl
-  where
-    go : (x : Bool) → eqb (getD t at 256) b ≡ x → Fate (λ u e. getD t at 256 ≡ b) (if x then got (tt {0}) (at + 1) else bad 20 0)
-    go true z = gives tt (at + 1) (eqb-true (getD t at 256) b z)
-    go false z = refuses
 
 byte-other : (b : ℕ) (t : List ℕ) (at : ℕ) → (getD t at 256 ≡ b → ⊥) → byteIs b t at ≡ bad 20 0
 unfolding byteIs if_then_else_
@@ -81,19 +73,19 @@ and-no true = refl
 and-no false = refl
 
 -- one reading after two
-then-then : {A B C : Type 0} (o : Out A) (k : A → ℕ → Out B) (l : B → ℕ → Out C) → andThen (andThen o k) l ≡ andThen o (λ a e. andThen (k a e) l)
+pub then-then : {A B C : Type 0} (o : Out A) (k : A → ℕ → Out B) (l : B → ℕ → Out C) → andThen (andThen o k) l ≡ andThen o (λ a e. andThen (k a e) l)
 then-then (got a e) k l = refl
 then-then (bad n p) k l = refl
 
 -- ── elements behind tabs ──
 
 module _ (ok : Element → Bool) (e : ℕ) (t : List ℕ) where
-  word : (at : ℕ) → Fate (Word Any t at) (readElement e t at)
+  word : (at : ℕ) → Fate (Worded (wordsOf e) t at) (readElement e t at)
   word = element-word e t
 
   -- elements that are read only to be refused
   all-refused : {B : Type 0} (n at : ℕ) (k : List Element → ℕ → Out B) → ((l : List Element) (q : ℕ) → k l q ≡ bad 20 0) → andThen (tabbed n (readElement e) t at) k ≡ bad 20 0
-  all-refused n at k h = refused-then k (tabbed-counts (readElement e) t word n at) (λ l q C. h l q)
+  all-refused n at k h = refused-then k (tabbed-counts (readElement e) (wordsOf e) t word n at) (λ l q C. h l q)
 
   module _ {B : Type 0} (at : ℕ) where
     tabbed-tab :
@@ -189,7 +181,7 @@ module _ (ok : Element → Bool) (e : ℕ) (t : List ℕ) where
               (x : Element) (p : ℕ) (b : Bool)
               → andThen (tabbed n (readElement e) t p) (λ l q. ends (eqb (suc (length l)) (suc m) && (b && all ok l)) q (k (x ∷ l)))
               ≡ (if b then andThen (repeat m (behindTab ok e) t p) (λ l q. ends true q (k (x ∷ l))) else bad 20 0)
-          by x p true = same-then _ _ (tabbed-counts (readElement e) t word n p) (λ l q C. rw (eqb·suc-suc (length l) m)) ∙ more p (λ l. k (x ∷ l))
+          by x p true = same-then _ _ (tabbed-counts (readElement e) (wordsOf e) t word n p) (λ l q C. rw (eqb·suc-suc (length l) m)) ∙ more p (λ l. k (x ∷ l))
           by x p false = all-refused n p _ (λ l q. rw (and-no (eqb (suc (length l)) (suc m))) (ends-no q (k (x ∷ l))))
 
   -- ── lines ──
@@ -203,7 +195,7 @@ module _ (ok : Element → Bool) (e : ℕ) (t : List ℕ) where
     unfolding rest ended ends heed _>>=_ _>>_ give if_then_else_
     rest-ends n q =
         then-then (tabbed n (readElement e) t q) _ _
-        ∙ same-then _ _ (tabbed-counts (readElement e) t word n q) (λ v d C. then-then (byteIs newline t d) _ _ ∙ same-then _ _ (byte-fate newline t d) (λ u p h. by v p (test v)))
+        ∙ same-then _ _ (tabbed-counts (readElement e) (wordsOf e) t word n q) (λ v d C. then-then (byteIs newline t d) _ _ ∙ same-then _ _ (byte-fate newline t d) (λ u p h. by v p (test v)))
       where
         by : (v : List Element) (p : ℕ) (b : Bool) → andThen (if b then got (tt {0}) p else bad 20 0) (λ u q. got v q) ≡ (if b then got v p else bad 20 0)
         by v p true = refl
@@ -211,20 +203,20 @@ module _ (ok : Element → Bool) (e : ℕ) (t : List ℕ) where
 
     -- where the test is that of exactly m elements
     rest-exact :
-        (n m q : ℕ) → m ≤ n → ((v : List Element) (d : ℕ) → Counted t q n v d → getD t d 256 ≡ newline → test v ≡ (eqb (length v) m && all ok v))
+        (n m q : ℕ) → m ≤ n → ((v : List Element) (d : ℕ) → Counted (wordsOf e) t q n v d → getD t d 256 ≡ newline → test v ≡ (eqb (length v) m && all ok v))
         → rest n q ≡ ended newline (repeat m (behindTab ok e)) t q
     unfolding ends ended _>>=_ _>>_ give if_then_else_
     rest-exact n m q h same =
         rest-ends n q
-        ∙ same-then _ _ (tabbed-counts (readElement e) t word n q) (λ v d C. same-then _ _ (byte-fate newline t d) (λ u p z. rw (same v d C z)))
+        ∙ same-then _ _ (tabbed-counts (readElement e) (wordsOf e) t word n q) (λ v d C. same-then _ _ (byte-fate newline t d) (λ u p z. rw (same v d C (z .0))))
         ∙ exact m n h q (λ v p. got v p)
 
     rest-none :
-        (n q : ℕ) → ((v : List Element) (d : ℕ) → Counted t q n v d → getD t d 256 ≡ newline → test v ≡ false) → rest n q ≡ bad 20 0
+        (n q : ℕ) → ((v : List Element) (d : ℕ) → Counted (wordsOf e) t q n v d → getD t d 256 ≡ newline → test v ≡ false) → rest n q ≡ bad 20 0
     unfolding ends if_then_else_
     rest-none n q never =
         rest-ends n q
-        ∙ refused-then _ (tabbed-counts (readElement e) t word n q) (λ v d C. refused-then _ (byte-fate newline t d) (λ u p z. rw (never v d C z)))
+        ∙ refused-then _ (tabbed-counts (readElement e) (wordsOf e) t word n q) (λ v d C. refused-then _ (byte-fate newline t d) (λ u p z. rw (never v d C (z .0))))
 
     -- a line that is read, and held to its rule then
     tested-rest : (at : ℕ) → tested test e t at ≡ andThen (literal (ascii "val") t at) (λ u. rest mostObjects)
@@ -258,20 +250,25 @@ module _ (ok : Element → Bool) (e : ℕ) (t : List ℕ) (at : ℕ) where
   listed-refused h = tested-rest ok e t _ at ∙ rw h
 
   module _ {u : Unit {0}} {q : ℕ} (val : literal (ascii "val") t at ≡ got u q) where
-    -- so many elements as there are tabs
-    counted : {v : List Element} {d : ℕ} → Counted t q mostObjects v d → getD t d 256 ≡ newline → length v ≡ tabsFrom t q
-    counted {v} {d} C z = omega (arith, C .tabs, at-newline t d z)
+    -- so many elements as there are tabs for
+    counted : {v : List Element} {d : ℕ} → Counted (wordsOf e) t q mostObjects v d → getD t d 256 ≡ newline → length v ≡ tabsFrom t q / wordsOf e
+    unfolding wordsOf if_then_else_
+    counted {v} {d} C z = go (eqb e 5) (C .tabs)
+      where
+        go : (b : Bool) → tabsFrom t q ≡ length v * (if b then 2 else 1) + tabsFrom t d → length v ≡ tabsFrom t q / (if b then 2 else 1)
+        go true h = omega (arith, h, at-newline t d z)
+        go false h = omega (arith, h, at-newline t d z)
 
-    pub listed-many : mostObjects < tabsFrom t q → listed ok e t at ≡ bad 20 0
+    pub listed-many : mostObjects < tabsFrom t q / wordsOf e → listed ok e t at ≡ bad 20 0
     unfolding listed
     listed-many h =
         tested-rest ok e t _ at
         ∙ rw val
         (rest-none ok e t _ mostObjects q (λ v d C z. absurd (omega (arith, h, counted C z, C .few))))
 
-    pub listed-as : tabsFrom t q ≤ mostObjects → listed ok e t at ≡ ended newline (repeat (tabsFrom t q) (behindTab ok e)) t q
+    pub listed-as : tabsFrom t q / wordsOf e ≤ mostObjects → listed ok e t at ≡ ended newline (repeat (tabsFrom t q / wordsOf e) (behindTab ok e)) t q
     unfolding listed
     listed-as h =
         tested-rest ok e t _ at
         ∙ rw val
-        (rest-exact ok e t _ mostObjects (tabsFrom t q) q h (λ v d C z. rw (small-enough (length v) (C .few), eq-eqb (length v) (tabsFrom t q) (counted C z))))
+        (rest-exact ok e t _ mostObjects (tabsFrom t q / wordsOf e) q h (λ v d C z. rw (small-enough (length v) (C .few), eq-eqb (length v) (tabsFrom t q / wordsOf e) (counted C z))))

@@ -1,22 +1,22 @@
 -- The words of a line: none has a tab or a newline in it, and what is no word is refused by 20. So the tabs that are to come in a
--- line are as many as the elements that are read from it. Assumes nothing.
+-- line are as many as the words of the elements that are read from it. Assumes nothing.
 use mathlib.Core.Path.{_≡_, refl, sym, ap, _∙_}
 use mathlib.Core.Bool.{Bool, true, false}
 use mathlib.Core.List.{List, [], _∷_}
 use Prim.Native.Nat.{ℕ, zero, suc, _+_, _-_, _*_, _^_, _≤_, _<_}
 use native.Mathlib.Omega.{arith}
 use native.Mathlib.Numerals.{add-one}
-use native.Mathlib.Nat.{add-zero, zero-add, pow-suc, lt-of-not-le}
+use native.Mathlib.Nat.{add-zero, zero-add, suc-mul, zero-mul, pow-suc, lt-of-not-le}
 use native.Mathlib.Decide.{decLe}
 use lib.Dec.{leb, ltb, eqb}
 use lib.IntN.{pos, negsuc}
 use lib.ListN.{length, getD, drop, drop-of-length-le, List·getD-eq-default}
 use lib.Seq.{drop-cons, drop-drop}
 use borrow.Author.Tests.{leb-true, leb-false, ltb-true, eqb-true, ne-eqb}
-use Rattle.paper.specs.Reader.{if_then_else_, Reader, Out, got, no as bad, andThen, _>>=_, give}
-use Rattle.paper.specs.Ledger.{flag, whole, float, link}
+use Rattle.paper.specs.Reader.{if_then_else_, Reader, Out, got, no as bad, andThen, _>>=_, _>>_, give}
+use Rattle.paper.specs.Ledger.{flag, whole, float, link, annotation}
 use Rattle.paper.specs.Listing.{tab, newline, dash}
-use Rattle.paper.specs.Scan.{digit?, tooLarge?, digitsOn, decimalIn, natural, negative, positive, integer, nibble, hexOn, readFlag, readElement, tabbed}
+use Rattle.paper.specs.Scan.{digit?, tooLarge?, digitsOn, decimalIn, natural, negative, positive, integer, nibble, hexOn, byteIs, ended, readFlag, readElement, tabbed}
 use Rattle.laws.specs.Bools.{not-so, and-split}
 use Rattle.words.specs.Answers.{Peeked}
 
@@ -264,9 +264,9 @@ turned-word :
 unfolding _>>=_ give
 turned-word r g F = fate-then _ F (λ a e w. gives (g a) e (record { tabs = w .tabs; holds = tt }))
 
-pub element-word : (k : ℕ) (t : List ℕ) (at : ℕ) → Fate (Word Any t at) (readElement k t at)
+single-word : (k : ℕ) (t : List ℕ) (at : ℕ) → eqb k 5 ≡ false → Fate (Word Any t at) (readElement k t at)
 unfolding readElement if_then_else_
-element-word k t at = go (eqb k 6) (leb k 11) (leb k 13)
+single-word k t at single = rw single (go (eqb k 6) (leb k 11) (leb k 13))
   where
     go :
         (x y z : Bool)
@@ -279,24 +279,82 @@ element-word k t at = go (eqb k 6) (leb k 11) (leb k 13)
     go false false true = turned-word (hexOn (2 * (4 * (k - 11))) 0) (float (4 * (k - 11))) (hex-word t (2 * (4 * (k - 11))) 0 0 at (omega arith))
     go false false false = turned-word natural link (natural-word t at)
 
+-- ── one byte ──
+
+pub byte-fate : (b : ℕ) (t : List ℕ) (at : ℕ) → Fate (λ u e. (getD t at 256 ≡ b) × (e ≡ at + 1)) (byteIs b t at)
+unfolding byteIs if_then_else_
+byte-fate b t at = go (eqb (getD t at 256) b) refl
+  where
+    go : (x : Bool) → eqb (getD t at 256) b ≡ x → Fate (λ u e. (getD t at 256 ≡ b) × (e ≡ at + 1)) (if x then got (tt {0}) (at + 1) else bad 20 0)
+    go true z = gives tt (at + 1) (eqb-true (getD t at 256) b z, refl)
+    go false z = refuses
+
+-- ── the words of an element: an annotation has two, and a tab between them ──
+
+unfoldable pub wordsOf : ℕ → ℕ
+wordsOf k = if eqb k 5 then 2 else 1
+
+pub words-two : (k : ℕ) → k ≡ 5 → wordsOf k ≡ 2
+unfolding wordsOf if_then_else_
+words-two k is = rw is
+
+pub words-one : (k : ℕ) → (k ≡ 5 → ⊥) → wordsOf k ≡ 1
+unfolding wordsOf if_then_else_
+words-one k other = rw (ne-eqb k 5 other)
+
+-- with the tab before them there are as many tabs as words
+pub record Worded {A : Type 0} (w : ℕ) (t : List ℕ) (at : ℕ) (a : A) (e : ℕ) : Type 0 where
+  pub tabs : suc (tabsFrom t at) ≡ w + tabsFrom t e
+
+-- a decimal and the tab behind it
+pub record Parted (t : List ℕ) (at n e : ℕ) : Type 0 where
+  pub tabs : tabsFrom t at ≡ suc (tabsFrom t e)
+  pub below : n < 2 ^ 64
+
+pub parted : (t : List ℕ) (at : ℕ) → Fate (Parted t at) (ended tab natural t at)
+unfolding ended _>>=_ _>>_ give
+parted t at =
+    fate-then _ (natural-word t at) (λ n e w.
+    fate-then _ (byte-fate tab t e) (λ u d h.
+    gives n d (record { tabs = w .tabs ∙ over-tab t e (h .0) ∙ ap (λ (p : ℕ). suc (tabsFrom t p)) (sym (h .1)); below = w .holds .below })))
+
+annotation-word : (t : List ℕ) (at : ℕ) → Fate (Worded 2 t at) (readElement 5 t at)
+unfolding readElement if_then_else_ _>>=_ give
+annotation-word t at =
+    fate-then _ (parted t at) (λ m e h.
+    fate-then _ (natural-word t e) (λ n d w.
+    gives (annotation m n) d (record { tabs = omega (arith, h .tabs, w .tabs) })))
+
+pub element-word : (k : ℕ) (t : List ℕ) (at : ℕ) → Fate (Worded (wordsOf k) t at) (readElement k t at)
+unfolding wordsOf if_then_else_
+element-word k t at = go (eqb k 5) refl
+  where
+    single : {A : Type 0} {o : Out A} → Fate (Word Any t at) o → Fate (Worded 1 t at) o
+    single (gives a e w) = gives a e (record { tabs = omega (arith, w .tabs) })
+    single refuses = refuses
+
+    go : (b : Bool) → eqb k 5 ≡ b → Fate (Worded (if b then 2 else 1) t at) (readElement k t at)
+    go true z = rw (eqb-true k 5 z) (annotation-word t at)
+    go false z = single (single-word k t at z)
+
 -- ── elements, each behind a tab ──
 
--- n at the most, and as many as there are tabs
-pub record Counted {A : Type 0} (t : List ℕ) (at n : ℕ) (l : List A) (e : ℕ) : Type 0 where
-  pub tabs : tabsFrom t at ≡ length l + tabsFrom t e
+-- n at the most, and as many words as there are tabs
+pub record Counted {A : Type 0} (w : ℕ) (t : List ℕ) (at n : ℕ) (l : List A) (e : ℕ) : Type 0 where
+  pub tabs : tabsFrom t at ≡ length l * w + tabsFrom t e
   pub few : length l ≤ n
 
 pub tabbed-counts :
-    {A : Type 0} (r : Reader A) (t : List ℕ) → ((at : ℕ) → Fate (Word Any t at) (r t at)) → (n at : ℕ) → Fate (Counted t at n) (tabbed n r t at)
+    {A : Type 0} (r : Reader A) (w : ℕ) (t : List ℕ) → ((at : ℕ) → Fate (Worded w t at) (r t at)) → (n at : ℕ) → Fate (Counted w t at n) (tabbed n r t at)
 unfolding tabbed if_then_else_
-tabbed-counts {A} r t W zero at = gives [] at (record { tabs = sym (zero-add _); few = omega arith })
-tabbed-counts {A} r t W (suc n) at = go (eqb (getD t at 256) tab) refl (λ e. tabbed-counts r t W n e)
+tabbed-counts {A} r w t W zero at = gives [] at (record { tabs = rw (zero-mul w) (sym (zero-add _)); few = omega arith })
+tabbed-counts {A} r w t W (suc n) at = go (eqb (getD t at 256) tab) refl (λ e. tabbed-counts r w t W n e)
   where
     go :
-        (x : Bool) → eqb (getD t at 256) tab ≡ x → ((e : ℕ) → Fate (Counted t e n) (tabbed n r t e))
-        → Fate (Counted t at (suc n)) (if x then andThen (r t (at + 1)) (λ a e. andThen (tabbed n r t e) λ l d. got (a ∷ l) d) else got [] at)
-    go false z more = gives [] at (record { tabs = sym (zero-add _); few = omega arith })
+        (x : Bool) → eqb (getD t at 256) tab ≡ x → ((e : ℕ) → Fate (Counted w t e n) (tabbed n r t e))
+        → Fate (Counted w t at (suc n)) (if x then andThen (r t (at + 1)) (λ a e. andThen (tabbed n r t e) λ l d. got (a ∷ l) d) else got [] at)
+    go false z more = gives [] at (record { tabs = rw (zero-mul w) (sym (zero-add _)); few = omega arith })
     go true z more =
         let first = over-tab t at (eqb-true (getD t at 256) tab z) in
         fate-then _ (W (at + 1)) (λ a e one.
-        fate-then _ (more e) (λ l d C. gives (a ∷ l) d (record { tabs = omega (arith, one .tabs, C .tabs); few = omega (arith, C .few) })))
+        fate-then _ (more e) (λ l d C. gives (a ∷ l) d (record { tabs = omega (arith, one .tabs, C .tabs, suc-mul (length l) w); few = omega (arith, C .few) })))

@@ -6,7 +6,7 @@ use native.Mathlib.Omega.{arith}
 use lib.ListN.{length}
 use Rattle.paper.specs.Reader.{Reader, Out, got, no as bad, andThen, repeat}
 use Rattle.paper.specs.Lists.{flat}
-use Rattle.lay.specs.Laid.{most, Laid, laid-none, laid-then, laid-as}
+use Rattle.lay.specs.Laid.{most, Laid, laid-none, laid-then, laid-long, laid-as}
 use Rattle.laws.specs.Loops.{alone, one-on}
 use Rattle.texts.specs.Exact.{repeat-some, repeat-over}
 use Rattle.texts.specs.declared.Taken.{Taken}
@@ -55,6 +55,13 @@ module _ {A : Type 0} (r : Reader A) (w : A → List ℕ) (t : List ℕ) (n : �
   unfolding flat
   taking-start o h k is =
       record { long = refl; fewer = omega arith; done = []; reads = alone (repeat n r t (o .next .at)); laid = rw is (laid-none h (rw is at k)) }
+
+-- behind bytes that are laid already
+pub taking-behind :
+    {A : Type 0} (r : Reader A) (w : A → List ℕ) (t : List ℕ) (n : ℕ) (o : Taken) {l₀ v l : List ℕ} {at₀ at : ℕ} → Laid l₀ at₀ v l at → o .at ≡ at
+    → Taking r w t n (o .next .at) l at n l o
+taking-behind r w t n o {l₀} {v} {l} {at₀} {at} L is =
+    taking-start r w t n l at o (omega (arith, laid-long L, L .room)) (omega (arith, L .next)) is
 
 module _ {A : Type 0} {r : Reader A} {w : A → List ℕ} {t : List ℕ} {n from : ℕ} {l : List ℕ} {at rest : ℕ} {m : List ℕ} {o : Taken} (g : Taking r w t n from l at rest m o) where
   module _ (due : 0 < rest) where

@@ -1,9 +1,11 @@
-// An element from its word: the number that stands for it in a file, which has the width of its kind, and that number as bytes.
+// An element of one number from its word: the number that stands for it in a file, which has the width of its kind, and that number as
+// bytes.
 ghost use mathlib.Core.Path.{_≡_};
 ghost use mathlib.Core.Bool.{true};
+ghost use mathlib.Core.List.{List};
 ghost use Prim.Native.Nat.{ℕ, _+_, _^_, _≤_, _<_};
 ghost use lib.ListN.{length};
-ghost use Rattle.paper.specs.Rules.{elementKind?};
+ghost use Rattle.paper.specs.Rules.{singleKind?};
 ghost use Rattle.lay.specs.Laid.{Laid};
 ghost use Rattle.words.specs.Answers.{outNumber};
 ghost use Rattle.values.specs.Items.{atMost, someObject};
@@ -101,11 +103,11 @@ fn object_number(t: &[u8], p: Place, first: &[u32], last: &[u32]) -> Number
     Number::Got(n, next)
 }
 
-// The number of an element of kind e that keeps the rules. Of strings there are so many, and the objects of a type are those
+// The number of an element of kind e that keeps the rules; an annotation has two. Of strings there are so many, and the objects of a type are those
 // behind first[i] up to last[i], for each i.
 pub fn element_text(t: &[u8], p: Place, e: u64, strings: u64, first: &[u32], last: &[u32]) -> Number
-    requires { ⌜ (elementKind? e ≡ true) × (length (now first) ≡ length (now last)) ⌝ }
-    ensures { λ r. ⌜ outNumber r ≡ reckoned (kept strings (now (first .entry)) (now (last .entry)) e) e (now (t .entry)) (p .at) ⌝ }
+    requires { ⌜ (singleKind? e ≡ true) × (length (now first) ≡ length (now last)) ⌝ }
+    ensures { λ r. ⌜ ((pools : List ℕ) → outNumber r ≡ reckoned (kept strings pools (now (first .entry)) (now (last .entry)) e) e (now (t .entry)) (p .at)) ⌝ }
 {
     match e {
         6 => flag(t, p),

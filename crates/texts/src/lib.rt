@@ -1,10 +1,11 @@
 // The values of a chunk from the lines of a listing: read, held to the rules, and laid as the bytes of a file, all in one pass.
 // Lent an empty output, the same code judges and counts.
 pub mod elements;
+pub mod maps;
 
 ghost use mathlib.Core.Path.{_≡_};
 ghost use mathlib.Core.Bool.{true};
-ghost use Prim.Native.Nat.{_<_};
+ghost use Prim.Native.Nat.{_/_, _<_};
 ghost use lib.ListN.{length};
 ghost use Rattle.paper.specs.Reader.{repeat};
 ghost use Rattle.paper.specs.Lists.{flat};
@@ -13,8 +14,8 @@ ghost use Rattle.paper.specs.Listing.{newline};
 ghost use Rattle.paper.specs.Encode.{putElement};
 ghost use Rattle.paper.specs.Scan.{ended};
 ghost use Rattle.values.specs.Chunks.{Kinds};
-ghost use Rattle.texts.specs.Elements.{kept};
-ghost use Rattle.texts.specs.Quiet.{tabsFrom};
+ghost use Rattle.texts.specs.Elements.{kept, noted};
+ghost use Rattle.texts.specs.Quiet.{wordsOf, tabsFrom};
 ghost use Rattle.texts.specs.Exact.{behindTab, exactly, listed};
 ghost use Rattle.texts.specs.Told.{Told};
 ghost use Rattle.texts.specs.Chunks.{putList, ChunkTaken};
@@ -22,6 +23,7 @@ use elements::element_text;
 use elements::put_bits;
 use numbers::write::put_v64;
 use paper::Ledger;
+use values::annotations::placed;
 use words::read::Number;
 use words::read::Place;
 use words::read::Step;
@@ -43,23 +45,45 @@ pub enum TextRead {
     Bad,
 }
 
+// An annotation: the number of a base type's name, and behind a tab that of an object of this type.
+fn annotation_text(t: &[u8], p: Place, pools: &[u32], out: &mut [u8], at: usize) -> TextRead
+    ensures { λ r. ⌜ Told (noted (now (pools .entry))) (putElement 5) (now (t .entry)) (p .at) (now (out .entry)) at (now (out .exit)) r ⌝ }
+{
+    let Number::Got(m, object) = p.natural_ended(t, TAB) else {
+        return TextRead::Bad;
+    };
+    let Number::Got(n, next) = object.natural(t) else {
+        return TextRead::Bad;
+    };
+    if !placed(pools, m, n) {
+        return TextRead::Bad;
+    }
+    let behind = put_v64(out, at, m);
+    let end = put_v64(out, behind, n);
+    TextRead::Got(Taken { next, at: end })
+}
+
 // A tab and the element of kind e behind it.
-fn next_element(
+pub fn next_element(
     t: &[u8],
     p: Place,
     e: u64,
     strings: u64,
+    pools: &[u32],
     first: &[u32],
     last: &[u32],
     out: &mut [u8],
     at: usize,
 ) -> TextRead
     requires { ⌜ (elementKind? e ≡ true) × (length (now first) ≡ length (now last)) ⌝ }
-    ensures { λ r. ⌜ Told (behindTab (kept strings (now (first .entry)) (now (last .entry)) e) e) (putElement e) (now (t .entry)) (p .at) (now (out .entry)) at (now (out .exit)) r ⌝ }
+    ensures { λ r. ⌜ Told (behindTab (kept strings (now (pools .entry)) (now (first .entry)) (now (last .entry)) e) e) (putElement e) (now (t .entry)) (p .at) (now (out .entry)) at (now (out .exit)) r ⌝ }
 {
     let Step::To(word) = p.byte(t, TAB) else {
         return TextRead::Bad;
     };
+    if e == 5 {
+        return annotation_text(t, word, pools, out, at);
+    }
     let Number::Got(n, next) = element_text(t, word, e, strings, first, last) else {
         return TextRead::Bad;
     };
@@ -74,18 +98,19 @@ fn next_elements(
     m: u64,
     e: u64,
     strings: u64,
+    pools: &[u32],
     first: &[u32],
     last: &[u32],
     out: &mut [u8],
     at: usize,
 ) -> TextRead
     requires { ⌜ (0 < m → elementKind? e ≡ true) × (length (now first) ≡ length (now last)) ⌝ }
-    ensures { λ r. ⌜ Told (repeat m (behindTab (kept strings (now (first .entry)) (now (last .entry)) e) e)) (flat (putElement e)) (now (t .entry)) (p .at) (now (out .entry)) at (now (out .exit)) r ⌝ }
+    ensures { λ r. ⌜ Told (repeat m (behindTab (kept strings (now (pools .entry)) (now (first .entry)) (now (last .entry)) e) e)) (flat (putElement e)) (now (t .entry)) (p .at) (now (out .entry)) at (now (out .exit)) r ⌝ }
 {
     let mut here = Taken { next: p, at };
     let mut rest = m;
     while 0 < rest {
-        let a = next_element(t, here.next, e, strings, first, last, out, here.at);
+        let a = next_element(t, here.next, e, strings, pools, first, last, out, here.at);
         let TextRead::Got(k) = a else {
             return TextRead::Bad;
         };
@@ -102,15 +127,16 @@ fn rest_of_line(
     m: u64,
     e: u64,
     strings: u64,
+    pools: &[u32],
     first: &[u32],
     last: &[u32],
     out: &mut [u8],
     at: usize,
 ) -> TextRead
     requires { ⌜ (0 < m → elementKind? e ≡ true) × (length (now first) ≡ length (now last)) ⌝ }
-    ensures { λ r. ⌜ Told (ended newline (repeat m (behindTab (kept strings (now (first .entry)) (now (last .entry)) e) e))) (flat (putElement e)) (now (t .entry)) (p .at) (now (out .entry)) at (now (out .exit)) r ⌝ }
+    ensures { λ r. ⌜ Told (ended newline (repeat m (behindTab (kept strings (now (pools .entry)) (now (first .entry)) (now (last .entry)) e) e))) (flat (putElement e)) (now (t .entry)) (p .at) (now (out .entry)) at (now (out .exit)) r ⌝ }
 {
-    let a = next_elements(t, p, m, e, strings, first, last, out, at);
+    let a = next_elements(t, p, m, e, strings, pools, first, last, out, at);
     let TextRead::Got(k) = a else {
         return TextRead::Bad;
     };
@@ -127,18 +153,19 @@ fn value_text(
     m: u64,
     e: u64,
     strings: u64,
+    pools: &[u32],
     first: &[u32],
     last: &[u32],
     out: &mut [u8],
     at: usize,
 ) -> TextRead
     requires { ⌜ (0 < m → elementKind? e ≡ true) × (length (now first) ≡ length (now last)) ⌝ }
-    ensures { λ r. ⌜ Told (exactly m (kept strings (now (first .entry)) (now (last .entry)) e) e) (flat (putElement e)) (now (t .entry)) (p .at) (now (out .entry)) at (now (out .exit)) r ⌝ }
+    ensures { λ r. ⌜ Told (exactly m (kept strings (now (pools .entry)) (now (first .entry)) (now (last .entry)) e) e) (flat (putElement e)) (now (t .entry)) (p .at) (now (out .entry)) at (now (out .exit)) r ⌝ }
 {
     let Step::To(elements) = p.literal(t, b"val") else {
         return TextRead::Bad;
     };
-    rest_of_line(t, elements, m, e, strings, first, last, out, at)
+    rest_of_line(t, elements, m, e, strings, pools, first, last, out, at)
 }
 
 // How many tabs are to come in the line: a list's length stands before its elements.
@@ -160,29 +187,41 @@ fn tabs_left(t: &[u8], p: Place) -> u64
     n
 }
 
+// So many tabs stand before so many elements of kind e: an annotation has two words. One tab more leaves a word that no element
+// takes, so the line does not end there.
+fn elements_in(tabs: u64, e: u64) -> u64
+    ensures { λ r. ⌜ r ≡ tabs / wordsOf e ⌝ }
+{
+    if e == 5 {
+        return tabs / 2;
+    }
+    tabs
+}
+
 // The line of an array that gives its own length.
 fn list_text(
     t: &[u8],
     p: Place,
     e: u64,
     strings: u64,
+    pools: &[u32],
     first: &[u32],
     last: &[u32],
     out: &mut [u8],
     at: usize,
 ) -> TextRead
     requires { ⌜ (elementKind? e ≡ true) × (length (now first) ≡ length (now last)) ⌝ }
-    ensures { λ r. ⌜ Told (listed (kept strings (now (first .entry)) (now (last .entry)) e) e) (putList e) (now (t .entry)) (p .at) (now (out .entry)) at (now (out .exit)) r ⌝ }
+    ensures { λ r. ⌜ Told (listed (kept strings (now (pools .entry)) (now (first .entry)) (now (last .entry)) e) e) (putList e) (now (t .entry)) (p .at) (now (out .entry)) at (now (out .exit)) r ⌝ }
 {
     let Step::To(elements) = p.literal(t, b"val") else {
         return TextRead::Bad;
     };
-    let m = tabs_left(t, elements);
+    let m = elements_in(tabs_left(t, elements), e);
     if !Ledger::is_small(m) {
         return TextRead::Bad;
     }
     let behind = put_v64(out, at, m);
-    rest_of_line(t, elements, m, e, strings, first, last, out, behind)
+    rest_of_line(t, elements, m, e, strings, pools, first, last, out, behind)
 }
 
 // The lines of n values with m elements each.
@@ -193,18 +232,30 @@ fn values_text(
     m: u64,
     e: u64,
     strings: u64,
+    pools: &[u32],
     first: &[u32],
     last: &[u32],
     out: &mut [u8],
     at: usize,
 ) -> TextRead
     requires { ⌜ (0 < m → elementKind? e ≡ true) × (length (now first) ≡ length (now last)) ⌝ }
-    ensures { λ r. ⌜ Told (repeat n (exactly m (kept strings (now (first .entry)) (now (last .entry)) e) e)) (flat (flat (putElement e))) (now (t .entry)) (p .at) (now (out .entry)) at (now (out .exit)) r ⌝ }
+    ensures { λ r. ⌜ Told (repeat n (exactly m (kept strings (now (pools .entry)) (now (first .entry)) (now (last .entry)) e) e)) (flat (flat (putElement e))) (now (t .entry)) (p .at) (now (out .entry)) at (now (out .exit)) r ⌝ }
 {
     let mut here = Taken { next: p, at };
     let mut rest = n;
     while 0 < rest {
-        let a = value_text(t, here.next, m, e, strings, first, last, out, here.at);
+        let a = value_text(
+            t,
+            here.next,
+            m,
+            e,
+            strings,
+            pools,
+            first,
+            last,
+            out,
+            here.at,
+        );
         let TextRead::Got(k) = a else {
             return TextRead::Bad;
         };
@@ -221,18 +272,19 @@ fn lists_text(
     n: u32,
     e: u64,
     strings: u64,
+    pools: &[u32],
     first: &[u32],
     last: &[u32],
     out: &mut [u8],
     at: usize,
 ) -> TextRead
     requires { ⌜ (elementKind? e ≡ true) × (length (now first) ≡ length (now last)) ⌝ }
-    ensures { λ r. ⌜ Told (repeat n (listed (kept strings (now (first .entry)) (now (last .entry)) e) e)) (flat (putList e)) (now (t .entry)) (p .at) (now (out .entry)) at (now (out .exit)) r ⌝ }
+    ensures { λ r. ⌜ Told (repeat n (listed (kept strings (now (pools .entry)) (now (first .entry)) (now (last .entry)) e) e)) (flat (putList e)) (now (t .entry)) (p .at) (now (out .entry)) at (now (out .exit)) r ⌝ }
 {
     let mut here = Taken { next: p, at };
     let mut rest = n;
     while 0 < rest {
-        let a = list_text(t, here.next, e, strings, first, last, out, here.at);
+        let a = list_text(t, here.next, e, strings, pools, first, last, out, here.at);
         let TextRead::Got(k) = a else {
             return TextRead::Bad;
         };
@@ -243,8 +295,9 @@ fn lists_text(
 }
 
 // The lines of a chunk's n values, whose kind has the first number k, a constant's bits or an array's length a, and the last
-// number e, laid as the bytes of the chunk. Of strings there are so many, and the objects of a type are those behind first[i] up
-// to last[i], for each i.
+// number e, laid as the bytes of the chunk. Of strings there are so many, of the base type that string s names there are
+// pools[s - 1] objects, and the objects of a type are those behind first[i] up to last[i], for each i. Only annotations ask for
+// pools, and only references for ranges. Maps have a way of their own.
 pub fn chunk_text(
     t: &[u8],
     p: Place,
@@ -253,19 +306,20 @@ pub fn chunk_text(
     a: u64,
     e: u64,
     strings: u64,
+    pools: &[u32],
     first: &[u32],
     last: &[u32],
     out: &mut [u8],
     at: usize,
 ) -> TextRead
-    requires { ⌜ Kinds k a e × (length (now first) ≡ length (now last)) ⌝ }
-    ensures { λ r. ⌜ ChunkTaken n k a e strings (now (first .entry)) (now (last .entry)) (now (t .entry)) (p .at) (now (out .entry)) at (now (out .exit)) r ⌝ }
+    requires { ⌜ Kinds k a e × (k ≡ 20 → ⊥) × (length (now first) ≡ length (now last)) ⌝ }
+    ensures { λ r. ⌜ ChunkTaken n k a e strings (now (pools .entry)) (now (first .entry)) (now (last .entry)) (now (t .entry)) (p .at) (now (out .entry)) at (now (out .exit)) r ⌝ }
 {
     match k {
         // A constant has no elements in its chunk.
-        0..=4 => values_text(t, p, n, 0, e, strings, first, last, out, at),
-        15 => values_text(t, p, n, a, e, strings, first, last, out, at),
-        17..=19 => lists_text(t, p, n, e, strings, first, last, out, at),
-        _ => values_text(t, p, n, 1, e, strings, first, last, out, at),
+        0..=4 => values_text(t, p, n, 0, e, strings, pools, first, last, out, at),
+        15 => values_text(t, p, n, a, e, strings, pools, first, last, out, at),
+        17..=19 => lists_text(t, p, n, e, strings, pools, first, last, out, at),
+        _ => values_text(t, p, n, 1, e, strings, pools, first, last, out, at),
     }
 }

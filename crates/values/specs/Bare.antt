@@ -113,9 +113,10 @@ module _ (s : State) (k : ℕ) (f : List ℕ) (at : ℕ) (e : Element) (p : ℕ)
       let (a, t) = ruled-inv v64 (link? s k) 14 f at n p x in
       (n, rw (a, le-leb n (2 ^ 63 - 1) (omega (arith, L .below h n t))), y)
 
-  pub element-stands : Linkable s k → element s k f at ≡ got e p → Stands k f at e p
+  -- an annotation has two numbers
+  pub element-stands : eqb k 5 ≡ false → Linkable s k → element s k f at ≡ got e p → Stands k f at e p
   unfolding element bare made if_then_else_ boolRules
-  element-stands L q = go (eqb k 6) refl (leb k 11) refl (leb k 13) refl q
+  element-stands one L q = go (eqb k 6) refl (leb k 11) refl (leb k 13) refl (rw one at q)
     where
       go :
           (x : Bool) → eqb k 6 ≡ x → (y : Bool) → leb k 11 ≡ y → (z : Bool) → leb k 13 ≡ z

@@ -8,8 +8,10 @@ use native.Mathlib.Nat.{mul-one, lt-of-not-le}
 use native.Mathlib.Decide.{decLe}
 use lib.ListN.{length}
 use borrow.Author.Tests.{le-leb, lt-leb, ne-eqb}
-use Rattle.paper.specs.Reader.{if_then_else_, Reader, _>>=_, give, repeat}
-use Rattle.paper.specs.Ledger.{plain, array, many, State}
+use Rattle.paper.specs.Reader.{if_then_else_, Reader, got, _>>=_, give, repeat}
+use Rattle.paper.specs.Numbers.{putFixed}
+use Rattle.paper.specs.Lists.{all}
+use Rattle.paper.specs.Ledger.{plain, array, many, mapping, State}
 use Rattle.paper.specs.Rules.{elementKind?}
 use Rattle.paper.specs.File.{small, element, value}
 use Rattle.table.specs.View.{kindFrom}
@@ -22,17 +24,20 @@ use Rattle.values.specs.Pass.{forget, Passed, Alike, alike-then, alike-r
 use Rattle.values.specs.Items.{item, Known, alike-item, Checked}
 
 -- an array that gives its own length
-unfoldable pub listOf : ℕ → List ℕ → List ℕ → ℕ → Reader (List ℕ)
-listOf strings first last e = small >>= λ n. repeat n (item strings first last e)
+unfoldable pub listOf : ℕ → List ℕ → List ℕ → List ℕ → ℕ → Reader (List ℕ)
+listOf strings pools first last e = small >>= λ n. repeat n (item strings pools first last e)
 
--- the numbers of a kind: only a constant has no element kind, and an array's length is held to the bound
+-- the numbers of a kind: only a constant has no element kind, an array's length is held to the bound, and a map has so many
+-- element kinds
 pub record Kinds (k a e : ℕ) : Type 0 where
-  pub element : 4 < k → elementKind? e ≡ true
+  pub element : 4 < k → (k ≡ 20 → ⊥) → elementKind? e ≡ true
   pub length : k ≡ 15 → a ≤ 65535
+  pub types : k ≡ 20 → (2 ≤ a) × (a ≤ 8)
+  pub kinds : k ≡ 20 → all elementKind? (putFixed a e) ≡ true
 
 -- the answer is that of n values of the kind, for every state that has these numbers
-pub record ChunkChecked (n k a e strings : ℕ) (first last f : List ℕ) (r : Number) : Type 0 where
-  pub says : (s : State) → Known s e strings first last → forget (outOf r) ≡ forget (repeat n (value s (kindFrom k a e)) f 0)
+pub record ChunkChecked (n k a e strings : ℕ) (pools first last f : List ℕ) (r : Number) : Type 0 where
+  pub says : (s : State) → Known s e strings pools first last → forget (outOf r) ≡ forget (repeat n (value s (kindFrom k a e)) f 0)
   pub inside : placeOf r ≤ length f
 
 -- ── the four forms of a kind ──
@@ -55,63 +60,65 @@ module _ (k a e : ℕ) where
   kind-many h l =
       rw (lt-leb k 3 (omega arith), ne-eqb k 4 (λ q. omega arith), ne-eqb k 15 (λ q. omega arith), le-leb 17 k h, le-leb k 19 l)
 
-  pub kind-plain : 4 < k → (k ≡ 15 → ⊥) → (17 ≤ k → 19 < k) → kindFrom k a e ≡ plain e
+  pub kind-plain : 4 < k → (k ≡ 15 → ⊥) → (17 ≤ k → 19 < k) → (k ≡ 20 → ⊥) → kindFrom k a e ≡ plain e
   unfolding kindFrom if_then_else_
-  kind-plain h x y =
+  kind-plain h x y z =
       rw (lt-leb k 3 (omega arith), ne-eqb k 4 (λ q. omega arith), ne-eqb k 15 x)
       (elim (decLe 17 k) [
-        | yes d ↦ rw (le-leb 17 k d, lt-leb k 19 (y d))
-        | no d ↦ rw (lt-leb 17 k (lt-of-not-le d))
+        | yes d ↦ rw (le-leb 17 k d, lt-leb k 19 (y d), ne-eqb k 20 z)
+        | no d ↦ rw (lt-leb 17 k (lt-of-not-le d), ne-eqb k 20 z)
       ])
 
 -- ── n values are read as code reads them ──
 
 -- arrays of one length lie there as one run
 alike-run :
-    (n m : ℕ) {s : State} {e strings : ℕ} {first last : List ℕ} (f : List ℕ) → Known s e strings first last → elementKind? e ≡ true
-    → Alike (repeat n (repeat m (element s e))) (repeat (n * m) (item strings first last e)) f
+    (n m : ℕ) {s : State} {e strings : ℕ} {pools first last : List ℕ} (f : List ℕ) → Known s e strings pools first last → elementKind? e ≡ true
+    → Alike (repeat n (repeat m (element s e))) (repeat (n * m) (item strings pools first last e)) f
 alike-run n m {s} {e} f K listed = alike-then (alike-flat (element s e) n m) (alike-repeat (alike-item K listed) (n * m))
 
-module _ {n k a e strings : ℕ} {first last f : List ℕ} {r : Number} where
+module _ {n k a e strings : ℕ} {pools first last f : List ℕ} {r : Number} where
   chunk-by :
       {B : Type 0} (q : Reader B) → Passed q f 0 r
-      → ((s : State) → Known s e strings first last → Alike (repeat n (value s (kindFrom k a e))) q f)
-      → ChunkChecked n k a e strings first last f r
+      → ((s : State) → Known s e strings pools first last → Alike (repeat n (value s (kindFrom k a e))) q f)
+      → ChunkChecked n k a e strings pools first last f r
   chunk-by q P x = record { says = λ s K. P .says ∙ sym (x s K .at 0); inside = P .inside (omega arith) }
 
-  pub chunk-constant : k ≤ 4 → Passed (give (tt {0})) f 0 r → ChunkChecked n k a e strings first last f r
-  chunk-constant h P = chunk-by (give (tt {0})) P (λ s K. rw (value-constant k a e s h) (alike-nothing [] n))
-
   module _ (listed : elementKind? e ≡ true) where
-    pub chunk-array : k ≡ 15 → Checked (n * a) e strings first last f 0 r → ChunkChecked n k a e strings first last f r
+    pub chunk-array : k ≡ 15 → Checked (n * a) e strings pools first last f 0 r → ChunkChecked n k a e strings pools first last f r
     unfolding value
     chunk-array h C =
-        chunk-by (repeat (n * a) (item strings first last e)) (C .passes) (λ s K. rw (kind-array k a e h) (alike-run n a f K listed))
+        chunk-by (repeat (n * a) (item strings pools first last e)) (C .passes) (λ s K. rw (kind-array k a e h) (alike-run n a f K listed))
 
-    pub chunk-plain : 4 < k → (k ≡ 15 → ⊥) → (17 ≤ k → 19 < k) → Checked n e strings first last f 0 r → ChunkChecked n k a e strings first last f r
+    pub chunk-plain : 4 < k → (k ≡ 15 → ⊥) → (17 ≤ k → 19 < k) → (k ≡ 20 → ⊥) → Checked n e strings pools first last f 0 r → ChunkChecked n k a e strings pools first last f r
     unfolding value
-    chunk-plain h x y C =
-        chunk-by (repeat n (item strings first last e)) (C .passes)
-        (λ s K. rw (kind-plain k a e h x y) (rw mul-one at (alike-run n 1 f K listed)))
+    chunk-plain h x y z C =
+        chunk-by (repeat n (item strings pools first last e)) (C .passes)
+        (λ s K. rw (kind-plain k a e h x y z) (rw mul-one at (alike-run n 1 f K listed)))
 
-    pub chunk-lists : 17 ≤ k → k ≤ 19 → Passed (repeat n (listOf strings first last e)) f 0 r → ChunkChecked n k a e strings first last f r
+    pub chunk-lists : 17 ≤ k → k ≤ 19 → Passed (repeat n (listOf strings pools first last e)) f 0 r → ChunkChecked n k a e strings pools first last f r
     unfolding value listOf
     chunk-lists h l P =
-        chunk-by (repeat n (small >>= λ m. repeat m (item strings first last e))) P
+        chunk-by (repeat n (small >>= λ m. repeat m (item strings pools first last e))) P
         (λ s K. rw (kind-many k a e h l) (alike-repeat (alike-bind small (λ m. alike-repeat (alike-item K listed) m)) n))
+
+-- constants are no bytes
+pub constants-read : (n k a e : ℕ) (s : State) (f : List ℕ) → k ≤ 4 → forget (repeat n (value s (kindFrom k a e)) f 0) ≡ got tt 0
+unfolding give forget
+constants-read n k a e s f h = rw (value-constant k a e s h) (alike-nothing [] n .at 0)
 
 -- ── an array that gives its own length ──
 
-module _ (strings : ℕ) (first last : List ℕ) (e : ℕ) {f : List ℕ} {at : ℕ} {a : Number} (R : Read small 65536 f at a) where
-  pub list-cut : {u : Refusal} → a ≡ No u → Passed (listOf strings first last e) f at a
+module _ (strings : ℕ) (pools first last : List ℕ) (e : ℕ) {f : List ℕ} {at : ℕ} {a : Number} (R : Read small 65536 f at a) where
+  pub list-cut : {u : Refusal} → a ≡ No u → Passed (listOf strings pools first last e) f at a
   unfolding listOf _>>=_ forget
   list-cut {u} is =
       let W = was-refused R is in
       rw is (record { says = sym (rw (W .says)); inside = W .inside })
 
   pub list-then :
-      {n : ℕ} {c : Cursor} {b : Number} → a ≡ Got n c → Checked n e strings first last f (c .at) b
-      → Passed (listOf strings first last e) f at b
+      {n : ℕ} {c : Cursor} {b : Number} → a ≡ Got n c → Checked n e strings pools first last f (c .at) b
+      → Passed (listOf strings pools first last e) f at b
   unfolding listOf _>>=_
   list-then is C =
       let W = was-got R is in

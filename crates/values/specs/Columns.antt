@@ -3,6 +3,7 @@ use mathlib.Core.Path.{_≡_, sym, _∙_}
 use mathlib.Core.Bool.{Bool, true, false}
 use mathlib.Core.List.{List}
 use Prim.Native.Nat.{ℕ, _^_, _<_}
+use lib.Dec.{eqb}
 use lib.IntN.{ℤ, pos}
 use lib.Signed.{mag}
 use Rattle.paper.specs.Reader.{Out, got, no, _>>=_, give}
@@ -92,7 +93,7 @@ pub record ValueRead (k : ℕ) (f : List ℕ) (at : ℕ) (r : Valued) : Type 0 w
   pub storable : StorableIn r
   pub reads : (s : State) (e : Element) (p : ℕ) → Linkable s k → element s k f at ≡ got e p → valued r ≡ got e p
 
-module _ {k : ℕ} {f : List ℕ} {at : ℕ} {r : Valued} where
+module _ {k : ℕ} (one : eqb k 5 ≡ false) {f : List ℕ} {at : ℕ} {r : Valued} where
   value-read : valued r ≡ (bare k >>= λ n. give (made k n)) f at → StorableIn r → ValueRead k f at r
   unfolding _>>=_ give
   value-read h t =
@@ -100,16 +101,16 @@ module _ {k : ℕ} {f : List ℕ} {at : ℕ} {r : Valued} where
         stands = h;
         storable = t;
         reads = λ s e p L q.
-            let S = element-stands s k f at e p L q in
+            let S = element-stands s k f at e p one L q in
             h ∙ rw (S .reads, S .is);
       }
 
-module _ {k : ℕ} {f : List ℕ} {at : ℕ} {a : Number} (R : Read (bare k) (boundOf k) f at a) where
+module _ {k : ℕ} (one : eqb k 5 ≡ false) {f : List ℕ} {at : ℕ} {a : Number} (R : Read (bare k) (boundOf k) f at a) where
   pub value-cut : {e u : Refusal} → a ≡ number.No e → u ≡ refusalOf a → ValueRead k f at (No u)
   unfolding _>>=_ give valued StorableIn
-  value-cut is same = let W = its-refusal R is same in value-read (sym (rw (W .says))) tt
+  value-cut is same = let W = its-refusal R is same in value-read one (sym (rw (W .says))) tt
 
   pub value-got :
       {n : ℕ} {c : Cursor} {v : Value} → a ≡ number.Got n c → (elementOf v ≡ made k n) × Storable v → ValueRead k f at (Got v c)
   unfolding _>>=_ give valued StorableIn
-  value-got is h = let W = was-got R is in value-read (sym (rw (W .says, h .0))) (h .1)
+  value-got is h = let W = was-got R is in value-read one (sym (rw (W .says, h .0))) (h .1)

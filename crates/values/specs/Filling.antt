@@ -1,10 +1,12 @@
 -- A column, filled value by value up to the end of a chunk. Assumes nothing.
 use mathlib.Core.Path.{_≡_, refl, sym, ap, _∙_}
+use mathlib.Core.Bool.{false}
 use mathlib.Core.List.{List, [], _∷_, _++_}
 use Prim.Native.Nat.{ℕ, zero, suc, _+_, _-_, _≤_, _<_}
 use native.Mathlib.Omega.{arith}
 use native.Mathlib.Numerals.{add-one}
 use native.Mathlib.Nat.{add-zero, zero-add}
+use lib.Dec.{eqb}
 use lib.IntN.{ℤ}
 use lib.ListN.{length, set, replicate, length-set, length-replicate}
 use lib.Seq.{sets, sets-eq}
@@ -147,9 +149,9 @@ one-left {s} {k} {f} {l} {at} {n} {vs} {m} {p} {from} L h = go (L .rest) (L .rea
 
 module _ {k : ℕ} {f : List ℕ} {l : List ℤ} {at : ℕ} {m : List ℤ} {p from : ℕ} (g : Filling k f l at m p from) where
   -- at the end none is left
-  none-left : length f ≤ from → {s : State} {n : ℕ} {vs : List (List Element)} → Fillable s k f l at n vs → (m ≡ sets l at (storedAll vs)) × (p ≡ at + n)
+  none-left : eqb k 5 ≡ false → length f ≤ from → {s : State} {n : ℕ} {vs : List (List Element)} → Fillable s k f l at n vs → (m ≡ sets l at (storedAll vs)) × (p ≡ at + n)
   unfolding storedAll
-  none-left e {s} {n} {vs} h = go (L .rest) (L .reads) (L .count)
+  none-left single e {s} {n} {vs} h = go (L .rest) (L .reads) (L .count)
     where
       L : Left s k f l at n vs m p from
       L = g .left s n vs h
@@ -158,11 +160,11 @@ module _ {k : ℕ} {f : List ℕ} {l : List ℤ} {at : ℕ} {m : List ℤ} {p fr
       go zero q c = (rw (repeat-none (value s (plain k)) f from (L .more) (length f) q .0) at (L .stores), omega arith)
       go (suc j) q c =
           let F = value-first s k j f from (L .more) (length f) q in
-          let S = element-stands s k f from (F .one) (F .next) (h .linkable) (F .first) in
+          let S = element-stands s k f from (F .one) (F .next) single (h .linkable) (F .first) in
           not-got (sym (bare-end f from e k) ∙ S .reads)
 
-  pub fill-done : length f ≤ from → Filled k f l at m p
-  fill-done e = record { numbers = λ s n vs h. none-left e h .0; place = λ s n vs h. none-left e h .1 }
+  pub fill-done : eqb k 5 ≡ false → length f ≤ from → Filled k f l at m p
+  fill-done single e = record { numbers = λ s n vs h. none-left single e h .0; place = λ s n vs h. none-left single e h .1 }
 
   module _ (before : from < length f) where
     never : ((s : State) (n : ℕ) (vs : List (List Element)) → Fillable s k f l at n vs → ⊥) → Filled k f l at m p

@@ -1,6 +1,6 @@
--- What the elements of a chunk are held to, by numbers alone: the number of strings, and the ranges of a type's objects.
--- Assumes nothing.
-use mathlib.Core.Path.{_≡_, refl, ap}
+-- What the elements of a chunk are held to, by numbers alone: the number of strings, for each of them the objects of the base type
+-- of that name, and the ranges of a type's objects. Assumes nothing.
+use mathlib.Core.Path.{_≡_, refl, sym, ap}
 use mathlib.Core.Bool.{Bool, true, false, _&&_, _||_}
 use mathlib.Core.List.{List, [], _∷_}
 use Prim.Native.Nat.{ℕ, zero, suc, _+_, _-_, _*_, _^_, _≤_, _<_}
@@ -9,16 +9,17 @@ use native.Mathlib.Nat.{lt-of-not-le}
 use native.Mathlib.Decide.{decLe}
 use lib.Dec.{leb, ltb, eqb}
 use lib.ListN.{length, getD}
-use borrow.Author.Tests.{leb-false, eqb-false, le-leb, lt-leb, lt-ltb, ne-eqb}
+use borrow.Author.Tests.{leb-false, eqb-true, eqb-false, le-leb, lt-leb, lt-ltb, ne-eqb}
 use Rattle.paper.specs.Reader.{if_then_else_, Reader, _>>=_, give, must, _orNo_, repeat}
 use Rattle.paper.specs.Numbers.{signed, fixed, v64, number}
-use Rattle.paper.specs.Ledger.{flag, whole, float, link, State, object?}
-use Rattle.paper.specs.Rules.{elementKind?, boolRules, link?, linkRules}
-use Rattle.paper.specs.File.{wholeOf, element}
+use Rattle.paper.specs.Ledger.{flag, whole, float, link, annotation, State, object?}
+use Rattle.paper.specs.Rules.{singleKind?, elementKind?, boolRules, link?, linkRules, annotation?, annotationRules}
+use Rattle.paper.specs.File.{wholeOf, twoNumbers, element}
 use Rattle.numbers.specs.Cursors.{outOf}
 use Rattle.numbers.specs.declared.Number.{Number}
-use Rattle.values.specs.Listed.{listed-object, Fixed, widthOf}
-use Rattle.values.specs.Pass.{forget, Passed, passed-as, Alike, alike-then, alike-turned, alike-must, alike-repeat}
+use Rattle.values.specs.Listed.{listed-object, other-single, Fixed, widthOf}
+use Rattle.values.specs.Pass.{forget, Passed, passed-as, Alike, alike-then, alike-back, alike-turned, alike-must, alike-repeat}
+use Rattle.values.specs.Annotations.{placed?, annotated}
 
 -- ── ranges of objects: the i-th begins behind object first_i and ends with object last_i ──
 
@@ -66,8 +67,10 @@ someObject first last n = eqb n 0 || inRanges first last n
 
 -- ── an element of kind k ──
 
-unfoldable pub item : ℕ → List ℕ → List ℕ → ℕ → Reader ℕ
-item strings first last k =
+unfoldable pub item : ℕ → List ℕ → List ℕ → List ℕ → ℕ → Reader ℕ
+item strings pools first last k =
+    if eqb k 5 then
+    annotated (placed? pools) else
     if eqb k 6 then
     must (fixed 1) boolRules else
     if leb k 11 then
@@ -78,9 +81,10 @@ item strings first last k =
     linked (atMost strings) else
     linked (someObject first last)
 
--- the numbers are those of the state: of its strings, and of the objects of the type that k names
-pub record Known (s : State) (k strings : ℕ) (first last : List ℕ) : Type 0 where
+-- the numbers are those of the state: of its strings, of the objects that an annotation may name, and of those of the type that k names
+pub record Known (s : State) (k strings : ℕ) (pools first last : List ℕ) : Type 0 where
   pub strings-are : length (s .strings) ≡ strings
+  pub pools-are : k ≡ 5 → (m n : ℕ) → placed? pools m n ≡ annotation? s m n
   pub objects-are : 32 ≤ k → (n : ℕ) → inRanges first last n ≡ object? s (k - 32) n
 
 alike-whole : (k : ℕ) {f : List ℕ} → Alike (wholeOf (k - 7)) (if ltb (k - 7) 4 then fixed (2 ^ (k - 7)) else v64) f
@@ -94,7 +98,7 @@ alike-whole k {f} = go (ltb (k - 7) 4)
     go true = alike-turned (fixed (2 ^ (k - 7))) _
     go false = alike-turned v64 _
 
-module _ {s : State} {k strings : ℕ} {first last : List ℕ} (K : Known s k strings first last) (listed : elementKind? k ≡ true) where
+module _ {s : State} {k strings : ℕ} {pools first last : List ℕ} (K : Known s k strings pools first last) (listed : elementKind? k ≡ true) where
   pub link-is : 13 < k → (n : ℕ) → link? s k n ≡ (if eqb k 14 then atMost strings n else someObject first last n)
   unfolding link? atMost someObject if_then_else_
   link-is h n = go (eqb k 14) refl
@@ -104,7 +108,7 @@ module _ {s : State} {k strings : ℕ} {first last : List ℕ} (K : Known s k st
           → (if b then leb n (length (s .strings)) else (eqb n 0 || object? s (k - 32) n))
           ≡ (if b then leb n strings else (eqb n 0 || inRanges first last n))
       go true t = rw (K .strings-are)
-      go false t = rw (K .objects-are (listed-object k listed h (eqb-false k 14 t)) n)
+      go false t = rw (K .objects-are (listed-object k (other-single k listed (λ q. omega arith)) h (eqb-false k 14 t)) n)
 
   module _ {f : List ℕ} where
     alike-link : 13 < k → Alike (number (linkRules s k)) (if eqb k 14 then linked (atMost strings) else linked (someObject first last)) f
@@ -118,10 +122,17 @@ module _ {s : State} {k strings : ℕ} {first last : List ℕ} (K : Known s k st
         go true q = alike-must v64 _ _ (λ n. ap (λ (t : Bool). (t orNo 14) ∷ []) (q n))
         go false q = alike-must v64 _ _ (λ n. ap (λ (t : Bool). (t orNo 14) ∷ []) (q n))
 
+    alike-noted : k ≡ 5 → Alike (must twoNumbers (annotationRules s) >>= λ p. give (annotation (p .0) (p .1))) (annotated (placed? pools)) f
+    unfolding annotated annotationRules
+    alike-noted is =
+        alike-then (alike-turned (must twoNumbers (λ p. (annotation? s (p .0) (p .1) orNo 14) ∷ [])) _)
+        (alike-then (alike-must twoNumbers _ _ (λ p. ap (λ (t : Bool). (t orNo 14) ∷ []) (sym (K .pools-are is (p .0) (p .1)))))
+        (alike-back (alike-turned (must twoNumbers (λ p. (placed? pools (p .0) (p .1) orNo 14) ∷ [])) _)))
+
     -- an element is read alike by the definitions and by the numbers
-    pub alike-item : Alike (element s k) (item strings first last k) f
+    pub alike-item : Alike (element s k) (item strings pools first last k) f
     unfolding element item if_then_else_
-    alike-item = go₁ (eqb k 6) (leb k 11) (leb k 13) refl
+    alike-item = go₀ (eqb k 5) refl (go₁ (eqb k 6) (leb k 11) (leb k 13) refl)
       where
         Tests : Bool → Bool → Bool → Type 0
         Tests = λ x y z. Alike
@@ -133,6 +144,21 @@ module _ {s : State} {k strings : ℕ} {first last : List ℕ} (K : Known s k st
             if z then fixed (4 * (k - 11)) else
             if eqb k 14 then linked (atMost strings) else linked (someObject first last)) f
 
+        go₀ :
+            (b : Bool) → eqb k 5 ≡ b → Tests (eqb k 6) (leb k 11) (leb k 13)
+            → Alike
+            (if b then (must twoNumbers (annotationRules s) >>= λ p. give (annotation (p .0) (p .1))) else
+            if eqb k 6 then (must (fixed 1) boolRules >>= λ b. give (flag (eqb b 255))) else
+            if leb k 11 then (wholeOf (k - 7) >>= λ v. give (whole v)) else
+            if leb k 13 then (fixed (4 * (k - 11)) >>= λ n. give (float (4 * (k - 11)) n)) else (number (linkRules s k) >>= λ n. give (link n)))
+            (if b then annotated (placed? pools) else
+            if eqb k 6 then must (fixed 1) boolRules else
+            if leb k 11 then (if ltb (k - 7) 4 then fixed (2 ^ (k - 7)) else v64) else
+            if leb k 13 then fixed (4 * (k - 11)) else
+            if eqb k 14 then linked (atMost strings) else linked (someObject first last)) f
+        go₀ true t others = alike-noted (eqb-true k 5 t)
+        go₀ false t others = others
+
         go₁ : (x y z : Bool) → leb k 13 ≡ z → Tests x y z
         go₁ true y z t = alike-turned (must (fixed 1) boolRules) _
         go₁ false true z t = alike-then (alike-turned (wholeOf (k - 7)) _) (alike-whole k)
@@ -142,41 +168,45 @@ module _ {s : State} {k strings : ℕ} {first last : List ℕ} (K : Known s k st
 -- ── a run of elements ──
 
 -- the answer is that of m elements of kind k, for every state that has these numbers
-pub record Checked (m k strings : ℕ) (first last f : List ℕ) (at : ℕ) (n : Number) : Type 0 where
-  pub passes : Passed (repeat m (item strings first last k)) f at n
-  pub says : (s : State) → Known s k strings first last → forget (outOf n) ≡ forget (repeat m (element s k) f at)
+pub record Checked (m k strings : ℕ) (pools first last f : List ℕ) (at : ℕ) (n : Number) : Type 0 where
+  pub passes : Passed (repeat m (item strings pools first last k)) f at n
+  pub says : (s : State) → Known s k strings pools first last → forget (outOf n) ≡ forget (repeat m (element s k) f at)
 
 -- by the reader that code chose for the kind
 pub checked-by :
-    {m k strings : ℕ} {first last f : List ℕ} {at : ℕ} {n : Number} → elementKind? k ≡ true → (q : Reader ℕ)
-    → item strings first last k ≡ q → Passed (repeat m q) f at n → Checked m k strings first last f at n
-checked-by {m} {k} {strings} {first} {last} {f} {at} {n} listed q is P =
-    let R : Passed (repeat m (item strings first last k)) f at n = rw is P in
+    {m k strings : ℕ} {pools first last f : List ℕ} {at : ℕ} {n : Number} → elementKind? k ≡ true → (q : Reader ℕ)
+    → item strings pools first last k ≡ q → Passed (repeat m q) f at n → Checked m k strings pools first last f at n
+checked-by {m} {k} {strings} {pools} {first} {last} {f} {at} {n} listed q is P =
+    let R : Passed (repeat m (item strings pools first last k)) f at n = rw is P in
     record { passes = R; says = λ s K. passed-as R (alike-repeat (alike-item K listed) m) .says }
 
 -- the reader of a kind, as code chooses it
-module _ (strings : ℕ) (first last : List ℕ) where
-  pub item-bool : (k : ℕ) → k ≡ 6 → item strings first last k ≡ must (fixed 1) boolRules
+module _ (strings : ℕ) (pools first last : List ℕ) where
+  pub item-annotation : (k : ℕ) → k ≡ 5 → item strings pools first last k ≡ annotated (placed? pools)
+  unfolding item if_then_else_
+  item-annotation k h = rw h
+
+  pub item-bool : (k : ℕ) → k ≡ 6 → item strings pools first last k ≡ must (fixed 1) boolRules
   unfolding item if_then_else_
   item-bool k h = rw h
 
-  pub item-v64 : (k : ℕ) → k ≡ 11 → item strings first last k ≡ v64
+  pub item-v64 : (k : ℕ) → k ≡ 11 → item strings pools first last k ≡ v64
   unfolding item if_then_else_
   item-v64 k h = rw h
 
-  pub item-string : (k : ℕ) → k ≡ 14 → item strings first last k ≡ linked (atMost strings)
+  pub item-string : (k : ℕ) → k ≡ 14 → item strings pools first last k ≡ linked (atMost strings)
   unfolding item if_then_else_
   item-string k h = rw h
 
-  pub item-object : (k : ℕ) → 32 ≤ k → item strings first last k ≡ linked (someObject first last)
+  pub item-object : (k : ℕ) → 32 ≤ k → item strings pools first last k ≡ linked (someObject first last)
   unfolding item if_then_else_
   item-object k h =
-      rw (ne-eqb k 6 (λ e. omega arith), lt-leb k 11 (omega arith), lt-leb k 13 (omega arith), ne-eqb k 14 (λ e. omega arith))
+      rw (ne-eqb k 5 (λ e. omega arith), ne-eqb k 6 (λ e. omega arith), lt-leb k 11 (omega arith), lt-leb k 13 (omega arith), ne-eqb k 14 (λ e. omega arith))
 
-  pub item-fixed : (k : ℕ) → Fixed k → item strings first last k ≡ fixed (widthOf k)
+  pub item-fixed : (k : ℕ) → Fixed k → item strings pools first last k ≡ fixed (widthOf k)
   unfolding item widthOf if_then_else_
   item-fixed k h =
-      rw (ne-eqb k 6 (λ e. omega (arith, h .low)))
+      rw (ne-eqb k 5 (λ e. omega (arith, h .low)), ne-eqb k 6 (λ e. omega (arith, h .low)))
       (elim (decLe k 10) [
         | yes d ↦ simp (le-leb k 11 (omega arith), le-leb k 10 d, lt-ltb (k - 7) 4 (omega arith))
         | no d ↦

@@ -1,10 +1,16 @@
 -- Passing over elements, and holding them to the rules
 pub mod Pass
 pub mod Listed
+pub mod Annotations
 pub mod Items
 pub mod Held
 pub mod RangeLaws
 pub mod Chunks
+-- Maps of several types
+pub mod Maps
+pub mod Spans
+pub mod Ways
+pub mod MapChunks
 -- Values of a column
 pub mod Bare
 pub mod Linkable
@@ -12,3 +18,5 @@ pub mod Ends
 pub mod Columns
 pub mod Constants
 pub mod Filling
+-- The kinds of a map
+pub mod Unpacked

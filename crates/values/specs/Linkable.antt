@@ -12,7 +12,7 @@ use Rattle.paper.specs.Lists.{any, all}
 use Rattle.paper.specs.Ledger.{Range, State, of?, holds?, object?}
 use Rattle.paper.specs.Rules.{elementKind?, link?}
 use Rattle.laws.specs.Bools.{not-so, and-split}
-use Rattle.values.specs.Listed.{listed-object}
+use Rattle.values.specs.Listed.{listed-object, other-single}
 use Rattle.values.specs.Items.{inRanges, Known}
 use Rattle.values.specs.Bare.{Linkable}
 
@@ -55,15 +55,15 @@ ranges-below bound n (a ∷ first) (b ∷ last) h q =
     q
 
 pub known-linkable :
-    {s : State} {k strings : ℕ} {first last : List ℕ} → Known s k strings first last → elementKind? k ≡ true → strings < 2 ^ 63
+    {s : State} {k strings : ℕ} {pools first last : List ℕ} → Known s k strings pools first last → elementKind? k ≡ true → strings < 2 ^ 63
     → ((i : ℕ) → getD last i 0 < 2 ^ 63) → Linkable s k
 unfolding link? if_then_else_
-known-linkable {s} {k} {strings} {first} {last} K listed few small = record { below = λ h n. go h (eqb k 14) refl n }
+known-linkable {s} {k} {strings} {pools} {first} {last} K listed few small = record { below = λ h n. go h (eqb k 14) refl n }
   where
     go : 14 ≤ k → (b : Bool) → eqb k 14 ≡ b → (n : ℕ) → (if b then leb n (length (s .strings)) else (eqb n 0 || object? s (k - 32) n)) ≡ true → n < 2 ^ 63
     go h true t n q = omega (arith, leb-true n (length (s .strings)) q, K .strings-are)
     go h false t n q =
-        let big = listed-object k listed h (eqb-false k 14 t) in
+        let big = listed-object k (other-single k listed (λ e. omega arith)) h (eqb-false k 14 t) in
         or-split (eqb n 0) (object? s (k - 32) n) (λ z. omega (arith, eqb-true n 0 z))
         (λ z. ranges-below (2 ^ 63) n first last small (K .objects-are big n ∙ z))
         q

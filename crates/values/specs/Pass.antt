@@ -81,6 +81,9 @@ module _ {f : List ℕ} where
   pub alike-then : {A B C : Type 0} {r : Reader A} {q : Reader B} {v : Reader C} → Alike r q f → Alike q v f → Alike r v f
   alike-then x y = record { at = λ p. x .at p ∙ y .at p }
 
+  pub alike-back : {A B : Type 0} {r : Reader A} {q : Reader B} → Alike r q f → Alike q r f
+  alike-back x = record { at = λ p. sym (x .at p) }
+
   pub alike-repeat : {A B : Type 0} {r : Reader A} {q : Reader B} → Alike r q f → (n : ℕ) → Alike (repeat n r) (repeat n q) f
   alike-repeat {A} {B} {r} {q} x n = record { at = go n }
     where

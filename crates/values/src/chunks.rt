@@ -9,6 +9,7 @@ ghost use Rattle.values.specs.Pass.{Passed};
 ghost use Rattle.values.specs.Listed.{Fixed, widthOf};
 ghost use Rattle.values.specs.Items.{Checked};
 ghost use Rattle.values.specs.Chunks.{listOf, Kinds, ChunkChecked};
+use crate::annotations::annotations;
 use crate::references::references;
 use crate::runs::bools;
 use crate::runs::fixed_widths;
@@ -30,52 +31,71 @@ fn width(k: u64) -> u64
     }
 }
 
-// m elements of kind k, one after the other: the cursor behind them, or the first refusal. Of strings there are so many, and
-// the objects of a type are those behind first[i] up to last[i], for each i.
+// m elements of kind k, one after the other: the cursor behind them, or the first refusal. Of strings there are so many, of the
+// base type that string s names there are pools[s - 1] objects, and the objects of a type are those behind first[i] up to last[i],
+// for each i. Only annotations ask for pools, and only references for ranges.
 pub fn elements(
     part: &[u8],
     c: Cursor,
     m: u64,
     k: u64,
     strings: u64,
+    pools: &[u32],
     first: &[u32],
     last: &[u32],
 ) -> Number
     requires { ⌜ (elementKind? k ≡ true) × (c .at ≤ length (now part)) × (length (now first) ≡ length (now last)) ⌝ }
-    ensures { λ r. ⌜ Checked m k strings (now (first .entry)) (now (last .entry)) (now (part .entry)) (c .at) r ⌝ }
+    ensures { λ r. ⌜ Checked m k strings (now (pools .entry)) (now (first .entry)) (now (last .entry)) (now (part .entry)) (c .at) r ⌝ }
 {
     match k {
+        5 => annotations(part, c, m, pools),
         6 => bools(part, c, m),
         7..=10 | 12..=13 => fixed_widths(part, c, m, width(k)),
         11 => v64s(part, c, m),
         14 => string_numbers(part, c, m, strings),
         32..=18446744073709551615 => references(part, c, m, first, last),
         // No element has such a kind.
-        0..=5 | 15..=31 => Number::Got(0, c),
+        0..=4 | 15..=31 => Number::Got(0, c),
     }
 }
 
 // An array that gives its own length, and then its elements of kind e.
-fn list(part: &[u8], c: Cursor, e: u64, strings: u64, first: &[u32], last: &[u32]) -> Number
+fn list(
+    part: &[u8],
+    c: Cursor,
+    e: u64,
+    strings: u64,
+    pools: &[u32],
+    first: &[u32],
+    last: &[u32],
+) -> Number
     requires { ⌜ (elementKind? e ≡ true) × (c .at ≤ length (now part)) × (length (now first) ≡ length (now last)) ⌝ }
-    ensures { λ r. ⌜ Passed (listOf strings (now (first .entry)) (now (last .entry)) e) (now (part .entry)) (c .at) r ⌝ }
+    ensures { λ r. ⌜ Passed (listOf strings (now (pools .entry)) (now (first .entry)) (now (last .entry)) e) (now (part .entry)) (c .at) r ⌝ }
 {
     let a = c.small(part);
     let Number::Got(n, next) = a else {
         return a;
     };
-    elements(part, next, n, e, strings, first, last)
+    elements(part, next, n, e, strings, pools, first, last)
 }
 
 // n such arrays, from the chunk's start on.
-fn lists(part: &[u8], n: u64, e: u64, strings: u64, first: &[u32], last: &[u32]) -> Number
+fn lists(
+    part: &[u8],
+    n: u64,
+    e: u64,
+    strings: u64,
+    pools: &[u32],
+    first: &[u32],
+    last: &[u32],
+) -> Number
     requires { ⌜ (elementKind? e ≡ true) × (length (now first) ≡ length (now last)) ⌝ }
-    ensures { λ r. ⌜ Passed (repeat n (listOf strings (now (first .entry)) (now (last .entry)) e)) (now (part .entry)) 0 r ⌝ }
+    ensures { λ r. ⌜ Passed (repeat n (listOf strings (now (pools .entry)) (now (first .entry)) (now (last .entry)) e)) (now (part .entry)) 0 r ⌝ }
 {
     let mut here = Cursor { at: 0 };
     let mut rest = n;
     while 0 < rest {
-        let a = list(part, here, e, strings, first, last);
+        let a = list(part, here, e, strings, pools, first, last);
         let Number::Got(_, next) = a else {
             return a;
         };
@@ -85,8 +105,8 @@ fn lists(part: &[u8], n: u64, e: u64, strings: u64, first: &[u32], last: &[u32])
     Number::Got(0, here)
 }
 
-// The n values of a chunk, whose kind has the first number k, a constant's bits or an array's length a, and the last number
-// e: the cursor behind them, or the first refusal.
+// The n values of a chunk, whose kind has the first number k, an array's length a, and the last number e: the cursor behind them,
+// or the first refusal. Constants have no bytes in a chunk, and maps have a way of their own.
 pub fn chunk_values(
     part: &[u8],
     n: u32,
@@ -94,23 +114,22 @@ pub fn chunk_values(
     a: u64,
     e: u64,
     strings: u64,
+    pools: &[u32],
     first: &[u32],
     last: &[u32],
 ) -> Number
-    requires { ⌜ Kinds k a e × (length (now first) ≡ length (now last)) ⌝ }
-    ensures { λ r. ⌜ ChunkChecked n k a e strings (now (first .entry)) (now (last .entry)) (now (part .entry)) r ⌝ }
+    requires { ⌜ Kinds k a e × (4 < k) × (k ≡ 20 → ⊥) × (length (now first) ≡ length (now last)) ⌝ }
+    ensures { λ r. ⌜ ChunkChecked n k a e strings (now (pools .entry)) (now (first .entry)) (now (last .entry)) (now (part .entry)) r ⌝ }
 {
     let start = Cursor { at: 0 };
     let values = n as u64;
     match k {
-        // A constant has no bytes here.
-        0..=4 => Number::Got(0, start),
         // Arrays of one length lie there as one run of elements.
         15 => {
             let all = values * a;
-            elements(part, start, all, e, strings, first, last)
+            elements(part, start, all, e, strings, pools, first, last)
         }
-        17..=19 => lists(part, values, e, strings, first, last),
-        _ => elements(part, start, values, e, strings, first, last),
+        17..=19 => lists(part, values, e, strings, pools, first, last),
+        _ => elements(part, start, values, e, strings, pools, first, last),
     }
 }

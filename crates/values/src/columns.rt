@@ -3,7 +3,7 @@ ghost use mathlib.Core.Path.{_≡_};
 ghost use mathlib.Core.Bool.{true};
 ghost use Prim.Native.Nat.{_<_, _≤_};
 ghost use lib.ListN.{length, replicate};
-ghost use Rattle.paper.specs.Rules.{elementKind?};
+ghost use Rattle.paper.specs.Rules.{singleKind?};
 ghost use Rattle.paper.specs.Calls.{stored, overFront};
 ghost use Rattle.numbers.specs.Cursors.{Read};
 ghost use Rattle.values.specs.Bare.{bare, boundOf, made, wholeMade};
@@ -53,7 +53,7 @@ pub fn store(v: Value) -> i64
 
 // The number that stands for a value of kind k. A file has fewer strings and objects than 2^63, so a column can store theirs.
 fn number_of(part: &[u8], c: Cursor, k: u64) -> Number
-    requires { ⌜ elementKind? k ≡ true ⌝ }
+    requires { ⌜ singleKind? k ≡ true ⌝ }
     ensures { λ r. ⌜ Read (bare k) (boundOf k) (now (part .entry)) (c .at) r ⌝ }
 {
     match k {
@@ -81,7 +81,7 @@ fn whole(n: u64, k: u64) -> i64
 
 // The value of kind k that n stands for.
 fn value_of(n: u64, k: u64) -> Value
-    requires { ⌜ (elementKind? k ≡ true) × (n < boundOf k) ⌝ }
+    requires { ⌜ (singleKind? k ≡ true) × (n < boundOf k) ⌝ }
     ensures { λ r. ⌜ (elementOf r ≡ made k n) × Storable r ⌝ }
 {
     match k {
@@ -95,7 +95,7 @@ fn value_of(n: u64, k: u64) -> Value
 
 // A value of kind k, of which it is known that it keeps the rules.
 pub fn read_value(part: &[u8], c: Cursor, k: u64) -> Valued
-    requires { ⌜ elementKind? k ≡ true ⌝ }
+    requires { ⌜ singleKind? k ≡ true ⌝ }
     ensures { λ r. ⌜ ValueRead k (now (part .entry)) (c .at) r ⌝ }
 {
     let a = number_of(part, c, k);
@@ -107,7 +107,7 @@ pub fn read_value(part: &[u8], c: Cursor, k: u64) -> Valued
 
 // The values of kind k up to the end of the part, stored from place `at` on: the place behind the last.
 pub fn fill(part: &[u8], k: u64, out: &mut [i64], at: usize) -> usize
-    requires { ⌜ elementKind? k ≡ true ⌝ }
+    requires { ⌜ singleKind? k ≡ true ⌝ }
     ensures { λ r. ⌜ Filled k (now (part .entry)) (now (out .entry)) at (now (out .exit)) r ⌝ }
 {
     let mut p = at;

@@ -266,10 +266,11 @@ values-kept = (refl, refl, refl, refl, refl, refl, refl, refl, refl, refl, refl,
 
 kinds-kept :
     (kindKept? (plain 4) ≡ false) ×
-    (kindKept? (plain 5) ≡ false) ×
+    (kindKept? (plain 5) ≡ true) ×
     (kindKept? (plain 6) ≡ true) ×
     (kindKept? (plain 14) ≡ true) ×
     (kindKept? (plain 15) ≡ false) ×
+    (kindKept? (plain 16) ≡ false) ×
     (kindKept? (plain 17) ≡ false) ×
     (kindKept? (plain 31) ≡ false) ×
     (kindKept? (plain 32) ≡ true) ×
@@ -278,7 +279,8 @@ kinds-kept :
     (kindKept? (array 0 6) ≡ true) ×
     (kindKept? (array 65535 32) ≡ true) ×
     (kindKept? (array 65536 32) ≡ false) ×
-    (kindKept? (array 1 5) ≡ false) ×
+    (kindKept? (array 1 4) ≡ false) ×
+    (kindKept? (array 1 5) ≡ true) ×
     (kindKept? (array 1 15) ≡ false) ×
     (kindKept? (array 1 (2 ^ 64)) ≡ false) ×
     (kindKept? (many 16 6) ≡ false) ×
@@ -287,11 +289,12 @@ kinds-kept :
     (kindKept? (many 19 32) ≡ true) ×
     (kindKept? (many 20 6) ≡ false) ×
     (kindKept? (many 15 6) ≡ false) ×
-    (kindKept? (many 17 5) ≡ false) ×
+    (kindKept? (many 17 5) ≡ true) ×
+    (kindKept? (many 17 16) ≡ false) ×
     (kindKept? (many 17 17) ≡ false) ×
     (kindKept? (many 17 (2 ^ 64)) ≡ false)
 unfolding all
-kinds-kept = (refl, refl, refl, refl, refl, refl, refl, refl, refl, refl, refl, refl, refl, refl, refl, refl, refl, refl, refl, refl, refl, refl, refl, refl, refl)
+kinds-kept = (refl, refl, refl, refl, refl, refl, refl, refl, refl, refl, refl, refl, refl, refl, refl, refl, refl, refl, refl, refl, refl, refl, refl, refl, refl, refl, refl, refl)
 
 -- ── at the bounds of strings and fields: a pair or an entry behind all but one of them ──
 

@@ -8,8 +8,11 @@ pub mod Fields
 pub mod Kinds
 pub mod Values
 pub mod References
+pub mod Annotations
+pub mod Maps
 pub mod LongFile
 pub mod Questions
 pub mod Ledgers
 pub mod Pieces
+pub mod MapPieces
 pub mod LongLedger

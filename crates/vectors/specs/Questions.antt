@@ -395,6 +395,104 @@ column-arrays :
 unfolding whole
 column-arrays = (refl, refl, refl, refl, refl, refl, refl, refl, refl, refl, refl, refl, refl, refl, refl, refl, refl, refl, refl, refl, refl)
 
+-- annotations and maps over two blocks
+abbrev links : List ℕ
+links =
+    0x07 ∷ 0x00 ∷ 0x00 ∷ 0x00 ∷ 0x01 ∷ 0x00 ∷ 0x00 ∷ 0x00 ∷ 0x02 ∷ 0x00 ∷ 0x00 ∷ 0x00 ∷ 0x03 ∷ 0x00 ∷ 0x00 ∷ 0x00 ∷ 0x04 ∷ 0x00 ∷ 0x00 ∷ 0x00 ∷ 0x05 ∷ 0x00 ∷ 0x00 ∷ 0x00 ∷ 0x06 ∷ 0x00 ∷ 0x00 ∷ 0x00 ∷ 0x07 ∷ 0x61 ∷ 0x62 ∷ 0x63 ∷ 0x64 ∷ 0x65 ∷ 0x66 ∷ 0x67 ∷ 0x01 ∷ 0x01 ∷ 0x00 ∷ 0x02 ∷ 0x00 ∷ 0x05 ∷ 0x00 ∷ 0x05 ∷ 0x02 ∷ 0x04 ∷ 0x00 ∷ 0x14 ∷ 0x02 ∷ 0x07 ∷ 0x08 ∷ 0x03 ∷ 0x0C ∷ 0x00 ∷ 0x07 ∷ 0x04 ∷ 0x0E ∷ 0x00 ∷ 0x14 ∷ 0x03 ∷ 0x05 ∷ 0x20 ∷ 0x0B ∷ 0x05 ∷ 0x1D ∷ 0x00 ∷ 0x11 ∷ 0x05 ∷ 0x06 ∷ 0x21 ∷ 0x01 ∷ 0x02 ∷ 0x00 ∷ 0x00 ∷ 0x02 ∷ 0x05 ∷ 0x02 ∷ 0x58 ∷ 0x05 ∷ 0xFF ∷ 0xFF ∷ 0x00 ∷ 0x09 ∷ 0xF8 ∷ 0x01 ∷ 0x01 ∷ 0x01 ∷ 0x01 ∷ 0x02 ∷ 0xFD ∷ 0xFF ∷ 0xFF ∷ 0xFF ∷ 0xFF ∷ 0xFF ∷ 0xFF ∷ 0xFF ∷ 0xFF ∷ 0x00 ∷ 0x01 ∷ 0x01 ∷ 0x01 ∷ 0x00 ∷ 0x00 ∷ 0x01 ∷ 0x01 ∷ 0x01 ∷ 0x06 ∷ 0x02 ∷ 0x06 ∷ 0x07 ∷ 0x0B ∷ 0x0E ∷ 0x00 ∷ 0x05 ∷ 0x07 ∷ 0x14 ∷ 0x01 ∷ 0x03 ∷ 0x01 ∷ 0xFB ∷ 0x00 ∷ 0x07 ∷ 0x07 ∷ 0x01 ∷ 0x00 ∷ 0x00 ∷ 0x00 ∷ 0x01 ∷ 0x00 ∷ 0x00 ∷ 0x00 ∷ 0x00 ∷ 0x00 ∷ 0x00 ∷ 0x01 ∷ 0x01 ∷ []
+
+-- its listing, and the file built back from it
+links-listed :
+    (listing 342 16384 links ≡ done (ascii "pair\t7\t1\nstr\t61\nstr\t62\nstr\t63\nstr\t64\nstr\t65\nstr\t66\nstr\t67\ntype\t1\t0\t-\t2\t5\nnew\t5\t2\nnew\t20,2,7,8\t3\nnew\t7\t4\nnew\t20,3,5,32,11\t5\nnew\t17,5\t6\nval\t1\t2\nval\t0\t0\nval\t2\t5\t600\t5\t-1\nval\t0\nval\t9\nval\t-8\nval\t1\t1\t1\t1\t2\t-3\nval\t0\nval\t1\t1\nval\npair\t0\t1\ntype\t1\t-\t-\t1\t6\nold\nold\nold\nold\nold\nnew\t5\t7\nval\t1\t3\nval\t1\t-5\t7\nval\t7\nval\t1\t0\t0\t0\nval\t0\t0\nval\t0\t0\nval\t0\t0\nval\t1\t1\n")) ×
+    (build 137 16384 (ascii "pair\t7\t1\nstr\t61\nstr\t62\nstr\t63\nstr\t64\nstr\t65\nstr\t66\nstr\t67\ntype\t1\t0\t-\t2\t5\nnew\t5\t2\nnew\t20,2,7,8\t3\nnew\t7\t4\nnew\t20,3,5,32,11\t5\nnew\t17,5\t6\nval\t1\t2\nval\t0\t0\nval\t2\t5\t600\t5\t-1\nval\t0\nval\t9\nval\t-8\nval\t1\t1\t1\t1\t2\t-3\nval\t0\nval\t1\t1\nval\npair\t0\t1\ntype\t1\t-\t-\t1\t6\nold\nold\nold\nold\nold\nnew\t5\t7\nval\t1\t3\nval\t1\t-5\t7\nval\t7\nval\t1\t0\t0\t0\nval\t0\t0\nval\t0\t0\nval\t0\t0\nval\t1\t1\n") ≡ done (0x07 ∷ 0x00 ∷ 0x00 ∷ 0x00 ∷ 0x01 ∷ 0x00 ∷ 0x00 ∷ 0x00 ∷ 0x02 ∷ 0x00 ∷ 0x00 ∷ 0x00 ∷ 0x03 ∷ 0x00 ∷ 0x00 ∷ 0x00 ∷ 0x04 ∷ 0x00 ∷ 0x00 ∷ 0x00 ∷ 0x05 ∷ 0x00 ∷ 0x00 ∷ 0x00 ∷ 0x06 ∷ 0x00 ∷ 0x00 ∷ 0x00 ∷ 0x07 ∷ 0x61 ∷ 0x62 ∷ 0x63 ∷ 0x64 ∷ 0x65 ∷ 0x66 ∷ 0x67 ∷ 0x01 ∷ 0x01 ∷ 0x00 ∷ 0x02 ∷ 0x00 ∷ 0x05 ∷ 0x00 ∷ 0x05 ∷ 0x02 ∷ 0x04 ∷ 0x00 ∷ 0x14 ∷ 0x02 ∷ 0x07 ∷ 0x08 ∷ 0x03 ∷ 0x0C ∷ 0x00 ∷ 0x07 ∷ 0x04 ∷ 0x0E ∷ 0x00 ∷ 0x14 ∷ 0x03 ∷ 0x05 ∷ 0x20 ∷ 0x0B ∷ 0x05 ∷ 0x1D ∷ 0x00 ∷ 0x11 ∷ 0x05 ∷ 0x06 ∷ 0x21 ∷ 0x01 ∷ 0x02 ∷ 0x00 ∷ 0x00 ∷ 0x02 ∷ 0x05 ∷ 0x02 ∷ 0x58 ∷ 0x05 ∷ 0xFF ∷ 0xFF ∷ 0x00 ∷ 0x09 ∷ 0xF8 ∷ 0x01 ∷ 0x01 ∷ 0x01 ∷ 0x01 ∷ 0x02 ∷ 0xFD ∷ 0xFF ∷ 0xFF ∷ 0xFF ∷ 0xFF ∷ 0xFF ∷ 0xFF ∷ 0xFF ∷ 0xFF ∷ 0x00 ∷ 0x01 ∷ 0x01 ∷ 0x01 ∷ 0x00 ∷ 0x00 ∷ 0x01 ∷ 0x01 ∷ 0x01 ∷ 0x06 ∷ 0x02 ∷ 0x06 ∷ 0x07 ∷ 0x0B ∷ 0x0E ∷ 0x00 ∷ 0x05 ∷ 0x07 ∷ 0x14 ∷ 0x01 ∷ 0x03 ∷ 0x01 ∷ 0xFB ∷ 0x00 ∷ 0x07 ∷ 0x07 ∷ 0x01 ∷ 0x00 ∷ 0x00 ∷ 0x00 ∷ 0x01 ∷ 0x00 ∷ 0x00 ∷ 0x00 ∷ 0x00 ∷ 0x00 ∷ 0x00 ∷ 0x01 ∷ 0x01 ∷ []))
+unfolding whole
+links-listed = (refl, refl)
+
+-- annotations and maps have no column, whatever is asked; a field between them has its own
+column-links :
+    (column (ascii "a") (ascii "b") 5 3 16384 links ≡ refused 18) ×
+    (column (ascii "a") (ascii "b") 0 3 16384 links ≡ refused 18) ×
+    (column (ascii "a") (ascii "b") 4 3 16384 links ≡ refused 18) ×
+    (column (ascii "a") (ascii "b") 6 3 16384 links ≡ refused 18) ×
+    (column (ascii "a") (ascii "b") 11 3 16384 links ≡ refused 18) ×
+    (column (ascii "a") (ascii "b") 14 3 16384 links ≡ refused 18) ×
+    (column (ascii "a") (ascii "b") 20 3 16384 links ≡ refused 18) ×
+    (column (ascii "a") (ascii "b") 32 3 16384 links ≡ refused 18) ×
+    (column (ascii "a") (ascii "b") 33 3 16384 links ≡ refused 18) ×
+    (column (ascii "a") (ascii "b") 37 3 16384 links ≡ refused 18) ×
+    (column (ascii "a") (ascii "b") 18446744073709551615 3 16384 links ≡ refused 18) ×
+    (column (ascii "a") (ascii "c") 20 3 16384 links ≡ refused 18) ×
+    (column (ascii "a") (ascii "c") 5 3 16384 links ≡ refused 18) ×
+    (column (ascii "a") (ascii "c") 2 3 16384 links ≡ refused 18) ×
+    (column (ascii "a") (ascii "c") 7 3 16384 links ≡ refused 18) ×
+    (column (ascii "a") (ascii "c") 8 3 16384 links ≡ refused 18) ×
+    (column (ascii "a") (ascii "c") 11 3 16384 links ≡ refused 18) ×
+    (column (ascii "a") (ascii "c") 17 3 16384 links ≡ refused 18) ×
+    (column (ascii "a") (ascii "c") 32 3 16384 links ≡ refused 18) ×
+    (column (ascii "a") (ascii "c") 33 3 16384 links ≡ refused 18) ×
+    (column (ascii "a") (ascii "c") 52 3 16384 links ≡ refused 18) ×
+    (column (ascii "a") (ascii "c") 18446744073709551615 3 16384 links ≡ refused 18) ×
+    (column (ascii "a") (ascii "d") 5 3 16384 links ≡ refused 18) ×
+    (column (ascii "a") (ascii "d") 20 3 16384 links ≡ refused 18) ×
+    (column (ascii "a") (ascii "d") 6 3 16384 links ≡ refused 18) ×
+    (column (ascii "a") (ascii "d") 8 3 16384 links ≡ refused 18) ×
+    (column (ascii "a") (ascii "e") 20 3 16384 links ≡ refused 18) ×
+    (column (ascii "a") (ascii "e") 3 3 16384 links ≡ refused 18) ×
+    (column (ascii "a") (ascii "e") 5 3 16384 links ≡ refused 18) ×
+    (column (ascii "a") (ascii "e") 11 3 16384 links ≡ refused 18) ×
+    (column (ascii "a") (ascii "e") 32 3 16384 links ≡ refused 18) ×
+    (column (ascii "a") (ascii "f") 17 3 16384 links ≡ refused 18) ×
+    (column (ascii "a") (ascii "f") 5 3 16384 links ≡ refused 18) ×
+    (column (ascii "a") (ascii "f") 20 3 16384 links ≡ refused 18) ×
+    (column (ascii "a") (ascii "f") 32 3 16384 links ≡ refused 18) ×
+    (column (ascii "a") (ascii "g") 5 3 16384 links ≡ refused 18) ×
+    (column (ascii "a") (ascii "g") 20 3 16384 links ≡ refused 18) ×
+    (column (ascii "a") (ascii "g") 7 3 16384 links ≡ refused 18) ×
+    (column (ascii "a") (ascii "d") 7 3 16384 links ≡ done (pos 9 ∷ negsuc 7 ∷ pos 7 ∷ []))
+unfolding whole
+column-links = (refl, refl, refl, refl, refl, refl, refl, refl, refl, refl, refl, refl, refl, refl, refl, refl, refl, refl, refl, refl, refl, refl, refl, refl, refl, refl, refl, refl, refl, refl, refl, refl, refl, refl, refl, refl, refl, refl, refl)
+
+-- 18 has its place behind 16 and 17 and before 19
+column-links-order :
+    (column (ascii "a") (ascii "b") 5 0 16384 links ≡ refused 18) ×
+    (column (ascii "a") (ascii "c") 5 0 16384 links ≡ refused 18) ×
+    (column (ascii "a") (ascii "d") 5 0 16384 links ≡ refused 18) ×
+    (column (ascii "a") (ascii "z") 5 0 16384 links ≡ refused 17) ×
+    (column (ascii "z") (ascii "b") 5 0 16384 links ≡ refused 16) ×
+    (column (ascii "a") (ascii "b") 5 2 16384 links ≡ refused 18) ×
+    (column (ascii "a") (ascii "c") 5 2 16384 links ≡ refused 18) ×
+    (column (ascii "a") (ascii "d") 5 2 16384 links ≡ refused 18) ×
+    (column (ascii "a") (ascii "z") 5 2 16384 links ≡ refused 17) ×
+    (column (ascii "z") (ascii "b") 5 2 16384 links ≡ refused 16) ×
+    (column (ascii "a") (ascii "b") 5 4 16384 links ≡ refused 18) ×
+    (column (ascii "a") (ascii "c") 5 4 16384 links ≡ refused 18) ×
+    (column (ascii "a") (ascii "d") 5 4 16384 links ≡ refused 18) ×
+    (column (ascii "a") (ascii "z") 5 4 16384 links ≡ refused 17) ×
+    (column (ascii "z") (ascii "b") 5 4 16384 links ≡ refused 16) ×
+    (column (ascii "a") (ascii "b") 20 0 16384 links ≡ refused 18) ×
+    (column (ascii "a") (ascii "c") 20 0 16384 links ≡ refused 18) ×
+    (column (ascii "a") (ascii "d") 20 0 16384 links ≡ refused 18) ×
+    (column (ascii "a") (ascii "z") 20 0 16384 links ≡ refused 17) ×
+    (column (ascii "z") (ascii "b") 20 0 16384 links ≡ refused 16) ×
+    (column (ascii "a") (ascii "b") 20 2 16384 links ≡ refused 18) ×
+    (column (ascii "a") (ascii "c") 20 2 16384 links ≡ refused 18) ×
+    (column (ascii "a") (ascii "d") 20 2 16384 links ≡ refused 18) ×
+    (column (ascii "a") (ascii "z") 20 2 16384 links ≡ refused 17) ×
+    (column (ascii "z") (ascii "b") 20 2 16384 links ≡ refused 16) ×
+    (column (ascii "a") (ascii "b") 20 4 16384 links ≡ refused 18) ×
+    (column (ascii "a") (ascii "c") 20 4 16384 links ≡ refused 18) ×
+    (column (ascii "a") (ascii "d") 20 4 16384 links ≡ refused 18) ×
+    (column (ascii "a") (ascii "z") 20 4 16384 links ≡ refused 17) ×
+    (column (ascii "z") (ascii "b") 20 4 16384 links ≡ refused 16)
+unfolding whole
+column-links-order = (refl, refl, refl, refl, refl, refl, refl, refl, refl, refl, refl, refl, refl, refl, refl, refl, refl, refl, refl, refl, refl, refl, refl, refl, refl, refl, refl, refl, refl, refl)
+
+-- the objects of a type that has them
+links-objects :
+    (objects (ascii "a") 16384 links ≡ done 3) ×
+    (objects (ascii "b") 16384 links ≡ refused 16)
+unfolding whole
+links-objects = (refl, refl)
+
 -- references to three types
 abbrev references : List ℕ
 references =
@@ -617,6 +715,66 @@ lists-listed :
 unfolding whole
 lists-listed = (refl, refl)
 
+-- annotations are two fields each, null is two noughts; alone, in arrays of every form, by equal strings
+abbrev annotated : List ℕ
+annotated =
+    0x07 ∷ 0x00 ∷ 0x00 ∷ 0x00 ∷ 0x01 ∷ 0x00 ∷ 0x00 ∷ 0x00 ∷ 0x02 ∷ 0x00 ∷ 0x00 ∷ 0x00 ∷ 0x03 ∷ 0x00 ∷ 0x00 ∷ 0x00 ∷ 0x04 ∷ 0x00 ∷ 0x00 ∷ 0x00 ∷ 0x05 ∷ 0x00 ∷ 0x00 ∷ 0x00 ∷ 0x06 ∷ 0x00 ∷ 0x00 ∷ 0x00 ∷ 0x07 ∷ 0x61 ∷ 0x62 ∷ 0x63 ∷ 0x64 ∷ 0x65 ∷ 0x66 ∷ 0x61 ∷ 0x02 ∷ 0x01 ∷ 0x00 ∷ 0x02 ∷ 0x00 ∷ 0x05 ∷ 0x00 ∷ 0x05 ∷ 0x01 ∷ 0x04 ∷ 0x00 ∷ 0x0F ∷ 0x02 ∷ 0x05 ∷ 0x02 ∷ 0x0C ∷ 0x00 ∷ 0x11 ∷ 0x05 ∷ 0x03 ∷ 0x14 ∷ 0x00 ∷ 0x12 ∷ 0x05 ∷ 0x04 ∷ 0x18 ∷ 0x00 ∷ 0x13 ∷ 0x05 ∷ 0x05 ∷ 0x20 ∷ 0x02 ∷ 0x00 ∷ 0x03 ∷ 0x00 ∷ 0x01 ∷ 0x00 ∷ 0x0F ∷ 0x00 ∷ 0x05 ∷ 0x06 ∷ 0x20 ∷ 0x02 ∷ 0x03 ∷ 0x00 ∷ 0x00 ∷ 0x07 ∷ 0x01 ∷ 0x00 ∷ 0x00 ∷ 0x00 ∷ 0x00 ∷ 0x01 ∷ 0x02 ∷ 0x00 ∷ 0x03 ∷ 0x02 ∷ 0x01 ∷ 0x02 ∷ 0x02 ∷ 0x02 ∷ 0x03 ∷ 0x01 ∷ 0x00 ∷ 0x00 ∷ 0x00 ∷ 0x02 ∷ 0x01 ∷ 0x01 ∷ 0x01 ∷ 0x01 ∷ 0x01 ∷ 0x07 ∷ 0x02 ∷ []
+
+-- its listing, and the file built back from it
+annotated-listed :
+    (listing 259 16384 annotated ≡ done (ascii "pair\t7\t2\nstr\t61\nstr\t62\nstr\t63\nstr\t64\nstr\t65\nstr\t66\nstr\t61\ntype\t1\t0\t-\t2\t5\nnew\t5\t1\nnew\t15,2,5\t2\nnew\t17,5\t3\nnew\t18,5\t4\nnew\t19,5\t5\ntype\t2\t0\t-\t3\t1\nnew\t15,0,5\t6\nval\t2\t3\nval\t0\t0\nval\t7\t1\t0\t0\nval\t0\t0\t1\t2\nval\nval\t2\t1\t2\t2\t2\t3\nval\t0\t0\nval\nval\t1\t1\t1\t1\nval\t7\t2\nval\nval\nval\n")) ×
+    (build 110 16384 (ascii "pair\t7\t2\nstr\t61\nstr\t62\nstr\t63\nstr\t64\nstr\t65\nstr\t66\nstr\t61\ntype\t1\t0\t-\t2\t5\nnew\t5\t1\nnew\t15,2,5\t2\nnew\t17,5\t3\nnew\t18,5\t4\nnew\t19,5\t5\ntype\t2\t0\t-\t3\t1\nnew\t15,0,5\t6\nval\t2\t3\nval\t0\t0\nval\t7\t1\t0\t0\nval\t0\t0\t1\t2\nval\nval\t2\t1\t2\t2\t2\t3\nval\t0\t0\nval\nval\t1\t1\t1\t1\nval\t7\t2\nval\nval\nval\n") ≡ done (0x07 ∷ 0x00 ∷ 0x00 ∷ 0x00 ∷ 0x01 ∷ 0x00 ∷ 0x00 ∷ 0x00 ∷ 0x02 ∷ 0x00 ∷ 0x00 ∷ 0x00 ∷ 0x03 ∷ 0x00 ∷ 0x00 ∷ 0x00 ∷ 0x04 ∷ 0x00 ∷ 0x00 ∷ 0x00 ∷ 0x05 ∷ 0x00 ∷ 0x00 ∷ 0x00 ∷ 0x06 ∷ 0x00 ∷ 0x00 ∷ 0x00 ∷ 0x07 ∷ 0x61 ∷ 0x62 ∷ 0x63 ∷ 0x64 ∷ 0x65 ∷ 0x66 ∷ 0x61 ∷ 0x02 ∷ 0x01 ∷ 0x00 ∷ 0x02 ∷ 0x00 ∷ 0x05 ∷ 0x00 ∷ 0x05 ∷ 0x01 ∷ 0x04 ∷ 0x00 ∷ 0x0F ∷ 0x02 ∷ 0x05 ∷ 0x02 ∷ 0x0C ∷ 0x00 ∷ 0x11 ∷ 0x05 ∷ 0x03 ∷ 0x14 ∷ 0x00 ∷ 0x12 ∷ 0x05 ∷ 0x04 ∷ 0x18 ∷ 0x00 ∷ 0x13 ∷ 0x05 ∷ 0x05 ∷ 0x20 ∷ 0x02 ∷ 0x00 ∷ 0x03 ∷ 0x00 ∷ 0x01 ∷ 0x00 ∷ 0x0F ∷ 0x00 ∷ 0x05 ∷ 0x06 ∷ 0x20 ∷ 0x02 ∷ 0x03 ∷ 0x00 ∷ 0x00 ∷ 0x07 ∷ 0x01 ∷ 0x00 ∷ 0x00 ∷ 0x00 ∷ 0x00 ∷ 0x01 ∷ 0x02 ∷ 0x00 ∷ 0x03 ∷ 0x02 ∷ 0x01 ∷ 0x02 ∷ 0x02 ∷ 0x02 ∷ 0x03 ∷ 0x01 ∷ 0x00 ∷ 0x00 ∷ 0x00 ∷ 0x02 ∷ 0x01 ∷ 0x01 ∷ 0x01 ∷ 0x01 ∷ 0x01 ∷ 0x07 ∷ 0x02 ∷ []))
+unfolding whole
+annotated-listed = (refl, refl)
+
+-- annotations of known and late fields, to objects and types of this pair and before
+abbrev annotated-late : List ℕ
+annotated-late =
+    0x04 ∷ 0x00 ∷ 0x00 ∷ 0x00 ∷ 0x01 ∷ 0x00 ∷ 0x00 ∷ 0x00 ∷ 0x02 ∷ 0x00 ∷ 0x00 ∷ 0x00 ∷ 0x03 ∷ 0x00 ∷ 0x00 ∷ 0x00 ∷ 0x04 ∷ 0x61 ∷ 0x62 ∷ 0x63 ∷ 0x64 ∷ 0x02 ∷ 0x01 ∷ 0x00 ∷ 0x02 ∷ 0x00 ∷ 0x01 ∷ 0x00 ∷ 0x05 ∷ 0x04 ∷ 0x04 ∷ 0x02 ∷ 0x01 ∷ 0x01 ∷ 0x01 ∷ 0x00 ∷ 0x00 ∷ 0x01 ∷ 0x02 ∷ 0x00 ∷ 0x00 ∷ 0x01 ∷ 0x00 ∷ 0x00 ∷ 0x00 ∷ 0x01 ∷ 0x61 ∷ 0x02 ∷ 0x05 ∷ 0x01 ∷ 0x02 ∷ 0x02 ∷ 0x00 ∷ 0x05 ∷ 0x03 ∷ 0x08 ∷ 0x03 ∷ 0x00 ∷ 0x01 ∷ 0x00 ∷ 0x01 ∷ 0x00 ∷ 0x05 ∷ 0x04 ∷ 0x0A ∷ 0x03 ∷ 0x01 ∷ 0x05 ∷ 0x03 ∷ 0x03 ∷ 0x01 ∷ 0x00 ∷ 0x00 ∷ 0x01 ∷ 0x01 ∷ []
+
+-- its listing, and the file built back from it
+annotated-late-listed :
+    (listing 197 16384 annotated-late ≡ done (ascii "pair\t4\t2\nstr\t61\nstr\t62\nstr\t63\nstr\t64\ntype\t1\t0\t-\t2\t1\nnew\t5\t4\ntype\t2\t1\t1\t1\t0\nval\t1\t2\nval\t0\t0\npair\t1\t2\nstr\t61\ntype\t5\t-\t-\t1\t2\nold\nnew\t5\t3\ntype\t3\t0\t-\t1\t1\nnew\t5\t4\nval\t3\t1\nval\t5\t3\nval\t3\t1\nval\t0\t0\nval\t1\t1\n")) ×
+    (build 75 16384 (ascii "pair\t4\t2\nstr\t61\nstr\t62\nstr\t63\nstr\t64\ntype\t1\t0\t-\t2\t1\nnew\t5\t4\ntype\t2\t1\t1\t1\t0\nval\t1\t2\nval\t0\t0\npair\t1\t2\nstr\t61\ntype\t5\t-\t-\t1\t2\nold\nnew\t5\t3\ntype\t3\t0\t-\t1\t1\nnew\t5\t4\nval\t3\t1\nval\t5\t3\nval\t3\t1\nval\t0\t0\nval\t1\t1\n") ≡ done (0x04 ∷ 0x00 ∷ 0x00 ∷ 0x00 ∷ 0x01 ∷ 0x00 ∷ 0x00 ∷ 0x00 ∷ 0x02 ∷ 0x00 ∷ 0x00 ∷ 0x00 ∷ 0x03 ∷ 0x00 ∷ 0x00 ∷ 0x00 ∷ 0x04 ∷ 0x61 ∷ 0x62 ∷ 0x63 ∷ 0x64 ∷ 0x02 ∷ 0x01 ∷ 0x00 ∷ 0x02 ∷ 0x00 ∷ 0x01 ∷ 0x00 ∷ 0x05 ∷ 0x04 ∷ 0x04 ∷ 0x02 ∷ 0x01 ∷ 0x01 ∷ 0x01 ∷ 0x00 ∷ 0x00 ∷ 0x01 ∷ 0x02 ∷ 0x00 ∷ 0x00 ∷ 0x01 ∷ 0x00 ∷ 0x00 ∷ 0x00 ∷ 0x01 ∷ 0x61 ∷ 0x02 ∷ 0x05 ∷ 0x01 ∷ 0x02 ∷ 0x02 ∷ 0x00 ∷ 0x05 ∷ 0x03 ∷ 0x08 ∷ 0x03 ∷ 0x00 ∷ 0x01 ∷ 0x00 ∷ 0x01 ∷ 0x00 ∷ 0x05 ∷ 0x04 ∷ 0x0A ∷ 0x03 ∷ 0x01 ∷ 0x05 ∷ 0x03 ∷ 0x03 ∷ 0x01 ∷ 0x00 ∷ 0x00 ∷ 0x01 ∷ 0x01 ∷ []))
+unfolding whole
+annotated-late-listed = (refl, refl)
+
+-- maps print their sizes before their keys: every element kind as key and as value, repeated and null keys, empty maps
+abbrev mapped : List ℕ
+mapped =
+    0x06 ∷ 0x00 ∷ 0x00 ∷ 0x00 ∷ 0x01 ∷ 0x00 ∷ 0x00 ∷ 0x00 ∷ 0x02 ∷ 0x00 ∷ 0x00 ∷ 0x00 ∷ 0x03 ∷ 0x00 ∷ 0x00 ∷ 0x00 ∷ 0x04 ∷ 0x00 ∷ 0x00 ∷ 0x00 ∷ 0x05 ∷ 0x00 ∷ 0x00 ∷ 0x00 ∷ 0x06 ∷ 0x61 ∷ 0x62 ∷ 0x63 ∷ 0x64 ∷ 0x65 ∷ 0x66 ∷ 0x01 ∷ 0x01 ∷ 0x00 ∷ 0x02 ∷ 0x00 ∷ 0x06 ∷ 0x00 ∷ 0x14 ∷ 0x02 ∷ 0x06 ∷ 0x07 ∷ 0x01 ∷ 0x06 ∷ 0x00 ∷ 0x14 ∷ 0x02 ∷ 0x08 ∷ 0x09 ∷ 0x02 ∷ 0x1A ∷ 0x00 ∷ 0x14 ∷ 0x02 ∷ 0x0A ∷ 0x0B ∷ 0x03 ∷ 0x26 ∷ 0x00 ∷ 0x14 ∷ 0x02 ∷ 0x0C ∷ 0x0D ∷ 0x04 ∷ 0x34 ∷ 0x00 ∷ 0x14 ∷ 0x02 ∷ 0x0E ∷ 0x05 ∷ 0x05 ∷ 0x42 ∷ 0x00 ∷ 0x14 ∷ 0x02 ∷ 0x20 ∷ 0x0E ∷ 0x06 ∷ 0x4A ∷ 0x02 ∷ 0xFF ∷ 0x80 ∷ 0xFF ∷ 0x7F ∷ 0x00 ∷ 0x01 ∷ 0xFE ∷ 0xD4 ∷ 0x00 ∷ 0x01 ∷ 0x11 ∷ 0x70 ∷ 0x02 ∷ 0x00 ∷ 0x05 ∷ 0x00 ∷ 0x00 ∷ 0x00 ∷ 0x06 ∷ 0x00 ∷ 0x05 ∷ 0x00 ∷ 0x00 ∷ 0x00 ∷ 0x06 ∷ 0x00 ∷ 0x01 ∷ 0xFF ∷ 0xFF ∷ 0xFF ∷ 0xFF ∷ 0x00 ∷ 0x00 ∷ 0x00 ∷ 0x00 ∷ 0x80 ∷ 0x01 ∷ 0x01 ∷ 0x01 ∷ 0x23 ∷ 0xAB ∷ 0xCD ∷ 0xFE ∷ 0xDC ∷ 0xBA ∷ 0x98 ∷ 0x76 ∷ 0x54 ∷ 0x32 ∷ 0x10 ∷ 0x00 ∷ 0x03 ∷ 0x06 ∷ 0x01 ∷ 0x02 ∷ 0x00 ∷ 0x00 ∷ 0x00 ∷ 0x00 ∷ 0x00 ∷ 0x00 ∷ 0x01 ∷ 0x01 ∷ 0x01 ∷ 0x01 ∷ 0x02 ∷ 0x02 ∷ 0x00 ∷ 0x00 ∷ 0x06 ∷ 0x01 ∷ 0x01 ∷ 0x05 ∷ []
+
+-- its listing, and the file built back from it
+mapped-listed :
+    (listing 345 16384 mapped ≡ done (ascii "pair\t6\t1\nstr\t61\nstr\t62\nstr\t63\nstr\t64\nstr\t65\nstr\t66\ntype\t1\t0\t-\t2\t6\nnew\t20,2,6,7\t1\nnew\t20,2,8,9\t2\nnew\t20,2,10,11\t3\nnew\t20,2,12,13\t4\nnew\t20,2,14,5\t5\nnew\t20,2,32,14\t6\nval\t2\t1\t-128\t1\t127\nval\t0\nval\t1\t-300\t70000\nval\t2\t5\t6\t5\t6\nval\t0\nval\t1\t-4294967296\t128\nval\t1\t0123abcd\tfedcba9876543210\nval\t0\nval\t3\t6\t1\t2\t0\t0\t0\t0\t0\t0\nval\t1\t1\t1\t1\nval\t2\t2\t0\t0\t6\nval\t1\t1\t5\n")) ×
+    (build 153 16384 (ascii "pair\t6\t1\nstr\t61\nstr\t62\nstr\t63\nstr\t64\nstr\t65\nstr\t66\ntype\t1\t0\t-\t2\t6\nnew\t20,2,6,7\t1\nnew\t20,2,8,9\t2\nnew\t20,2,10,11\t3\nnew\t20,2,12,13\t4\nnew\t20,2,14,5\t5\nnew\t20,2,32,14\t6\nval\t2\t1\t-128\t1\t127\nval\t0\nval\t1\t-300\t70000\nval\t2\t5\t6\t5\t6\nval\t0\nval\t1\t-4294967296\t128\nval\t1\t0123abcd\tfedcba9876543210\nval\t0\nval\t3\t6\t1\t2\t0\t0\t0\t0\t0\t0\nval\t1\t1\t1\t1\nval\t2\t2\t0\t0\t6\nval\t1\t1\t5\n") ≡ done (0x06 ∷ 0x00 ∷ 0x00 ∷ 0x00 ∷ 0x01 ∷ 0x00 ∷ 0x00 ∷ 0x00 ∷ 0x02 ∷ 0x00 ∷ 0x00 ∷ 0x00 ∷ 0x03 ∷ 0x00 ∷ 0x00 ∷ 0x00 ∷ 0x04 ∷ 0x00 ∷ 0x00 ∷ 0x00 ∷ 0x05 ∷ 0x00 ∷ 0x00 ∷ 0x00 ∷ 0x06 ∷ 0x61 ∷ 0x62 ∷ 0x63 ∷ 0x64 ∷ 0x65 ∷ 0x66 ∷ 0x01 ∷ 0x01 ∷ 0x00 ∷ 0x02 ∷ 0x00 ∷ 0x06 ∷ 0x00 ∷ 0x14 ∷ 0x02 ∷ 0x06 ∷ 0x07 ∷ 0x01 ∷ 0x06 ∷ 0x00 ∷ 0x14 ∷ 0x02 ∷ 0x08 ∷ 0x09 ∷ 0x02 ∷ 0x1A ∷ 0x00 ∷ 0x14 ∷ 0x02 ∷ 0x0A ∷ 0x0B ∷ 0x03 ∷ 0x26 ∷ 0x00 ∷ 0x14 ∷ 0x02 ∷ 0x0C ∷ 0x0D ∷ 0x04 ∷ 0x34 ∷ 0x00 ∷ 0x14 ∷ 0x02 ∷ 0x0E ∷ 0x05 ∷ 0x05 ∷ 0x42 ∷ 0x00 ∷ 0x14 ∷ 0x02 ∷ 0x20 ∷ 0x0E ∷ 0x06 ∷ 0x4A ∷ 0x02 ∷ 0xFF ∷ 0x80 ∷ 0xFF ∷ 0x7F ∷ 0x00 ∷ 0x01 ∷ 0xFE ∷ 0xD4 ∷ 0x00 ∷ 0x01 ∷ 0x11 ∷ 0x70 ∷ 0x02 ∷ 0x00 ∷ 0x05 ∷ 0x00 ∷ 0x00 ∷ 0x00 ∷ 0x06 ∷ 0x00 ∷ 0x05 ∷ 0x00 ∷ 0x00 ∷ 0x00 ∷ 0x06 ∷ 0x00 ∷ 0x01 ∷ 0xFF ∷ 0xFF ∷ 0xFF ∷ 0xFF ∷ 0x00 ∷ 0x00 ∷ 0x00 ∷ 0x00 ∷ 0x80 ∷ 0x01 ∷ 0x01 ∷ 0x01 ∷ 0x23 ∷ 0xAB ∷ 0xCD ∷ 0xFE ∷ 0xDC ∷ 0xBA ∷ 0x98 ∷ 0x76 ∷ 0x54 ∷ 0x32 ∷ 0x10 ∷ 0x00 ∷ 0x03 ∷ 0x06 ∷ 0x01 ∷ 0x02 ∷ 0x00 ∷ 0x00 ∷ 0x00 ∷ 0x00 ∷ 0x00 ∷ 0x00 ∷ 0x01 ∷ 0x01 ∷ 0x01 ∷ 0x01 ∷ 0x02 ∷ 0x02 ∷ 0x00 ∷ 0x00 ∷ 0x06 ∷ 0x01 ∷ 0x01 ∷ 0x05 ∷ []))
+unfolding whole
+mapped-listed = (refl, refl)
+
+-- an inner map prints its size first: three, four and eight types, empty ones at every depth
+abbrev mapped-deep : List ℕ
+mapped-deep =
+    0x03 ∷ 0x00 ∷ 0x00 ∷ 0x00 ∷ 0x01 ∷ 0x00 ∷ 0x00 ∷ 0x00 ∷ 0x02 ∷ 0x00 ∷ 0x00 ∷ 0x00 ∷ 0x03 ∷ 0x61 ∷ 0x62 ∷ 0x63 ∷ 0x01 ∷ 0x01 ∷ 0x00 ∷ 0x03 ∷ 0x00 ∷ 0x03 ∷ 0x00 ∷ 0x14 ∷ 0x03 ∷ 0x0E ∷ 0x0B ∷ 0x07 ∷ 0x01 ∷ 0x16 ∷ 0x00 ∷ 0x14 ∷ 0x04 ∷ 0x06 ∷ 0x05 ∷ 0x20 ∷ 0x08 ∷ 0x02 ∷ 0x26 ∷ 0x00 ∷ 0x14 ∷ 0x08 ∷ 0x07 ∷ 0x07 ∷ 0x07 ∷ 0x07 ∷ 0x07 ∷ 0x07 ∷ 0x07 ∷ 0x07 ∷ 0x03 ∷ 0x51 ∷ 0x02 ∷ 0x03 ∷ 0x02 ∷ 0xFF ∷ 0xFF ∷ 0xFF ∷ 0xFF ∷ 0xFF ∷ 0xFF ∷ 0xFF ∷ 0xFF ∷ 0xFF ∷ 0x05 ∷ 0xAC ∷ 0x02 ∷ 0x06 ∷ 0x00 ∷ 0x00 ∷ 0x00 ∷ 0x01 ∷ 0x01 ∷ 0x00 ∷ 0x01 ∷ 0xFF ∷ 0x02 ∷ 0x00 ∷ 0x00 ∷ 0x00 ∷ 0x01 ∷ 0x03 ∷ 0x01 ∷ 0x02 ∷ 0xFE ∷ 0xD4 ∷ 0x01 ∷ 0x00 ∷ 0x00 ∷ 0x00 ∷ 0x01 ∷ 0x01 ∷ 0x01 ∷ 0x02 ∷ 0x01 ∷ 0x03 ∷ 0x01 ∷ 0x04 ∷ 0x01 ∷ 0x05 ∷ 0x01 ∷ 0x06 ∷ 0x01 ∷ 0x07 ∷ 0x08 ∷ 0x02 ∷ 0x01 ∷ 0x00 ∷ 0x02 ∷ 0x02 ∷ 0x03 ∷ 0x00 ∷ 0x04 ∷ 0x01 ∷ 0x05 ∷ 0x00 ∷ 0x01 ∷ 0x01 ∷ 0x01 ∷ 0x02 ∷ 0x01 ∷ 0x03 ∷ 0x01 ∷ 0x04 ∷ 0x01 ∷ 0x05 ∷ 0x01 ∷ 0x06 ∷ 0x02 ∷ 0x07 ∷ 0x08 ∷ 0x09 ∷ 0x0A ∷ []
+
+-- its listing, and the file built back from it
+mapped-deep-listed :
+    (listing 296 16384 mapped-deep ≡ done (ascii "pair\t3\t1\nstr\t61\nstr\t62\nstr\t63\ntype\t1\t0\t-\t3\t3\nnew\t20,3,14,11,7\t1\nnew\t20,4,6,5,32,8\t2\nnew\t20,8,7,7,7,7,7,7,7,7\t3\nval\t2\t3\t2\t-1\t5\t300\t6\t0\t0\nval\t0\nval\t1\t1\t0\nval\t1\t1\t2\t0\t0\t0\t1\t3\t1\t2\t-300\nval\t1\t0\t0\nval\t0\nval\t1\t1\t1\t2\t1\t3\t1\t4\t1\t5\t1\t6\t1\t7\t8\nval\t2\t1\t0\t2\t2\t3\t0\t4\t1\t5\t0\nval\t1\t1\t1\t2\t1\t3\t1\t4\t1\t5\t1\t6\t2\t7\t8\t9\t10\n")) ×
+    (build 133 16384 (ascii "pair\t3\t1\nstr\t61\nstr\t62\nstr\t63\ntype\t1\t0\t-\t3\t3\nnew\t20,3,14,11,7\t1\nnew\t20,4,6,5,32,8\t2\nnew\t20,8,7,7,7,7,7,7,7,7\t3\nval\t2\t3\t2\t-1\t5\t300\t6\t0\t0\nval\t0\nval\t1\t1\t0\nval\t1\t1\t2\t0\t0\t0\t1\t3\t1\t2\t-300\nval\t1\t0\t0\nval\t0\nval\t1\t1\t1\t2\t1\t3\t1\t4\t1\t5\t1\t6\t1\t7\t8\nval\t2\t1\t0\t2\t2\t3\t0\t4\t1\t5\t0\nval\t1\t1\t1\t2\t1\t3\t1\t4\t1\t5\t1\t6\t2\t7\t8\t9\t10\n") ≡ done (0x03 ∷ 0x00 ∷ 0x00 ∷ 0x00 ∷ 0x01 ∷ 0x00 ∷ 0x00 ∷ 0x00 ∷ 0x02 ∷ 0x00 ∷ 0x00 ∷ 0x00 ∷ 0x03 ∷ 0x61 ∷ 0x62 ∷ 0x63 ∷ 0x01 ∷ 0x01 ∷ 0x00 ∷ 0x03 ∷ 0x00 ∷ 0x03 ∷ 0x00 ∷ 0x14 ∷ 0x03 ∷ 0x0E ∷ 0x0B ∷ 0x07 ∷ 0x01 ∷ 0x16 ∷ 0x00 ∷ 0x14 ∷ 0x04 ∷ 0x06 ∷ 0x05 ∷ 0x20 ∷ 0x08 ∷ 0x02 ∷ 0x26 ∷ 0x00 ∷ 0x14 ∷ 0x08 ∷ 0x07 ∷ 0x07 ∷ 0x07 ∷ 0x07 ∷ 0x07 ∷ 0x07 ∷ 0x07 ∷ 0x07 ∷ 0x03 ∷ 0x51 ∷ 0x02 ∷ 0x03 ∷ 0x02 ∷ 0xFF ∷ 0xFF ∷ 0xFF ∷ 0xFF ∷ 0xFF ∷ 0xFF ∷ 0xFF ∷ 0xFF ∷ 0xFF ∷ 0x05 ∷ 0xAC ∷ 0x02 ∷ 0x06 ∷ 0x00 ∷ 0x00 ∷ 0x00 ∷ 0x01 ∷ 0x01 ∷ 0x00 ∷ 0x01 ∷ 0xFF ∷ 0x02 ∷ 0x00 ∷ 0x00 ∷ 0x00 ∷ 0x01 ∷ 0x03 ∷ 0x01 ∷ 0x02 ∷ 0xFE ∷ 0xD4 ∷ 0x01 ∷ 0x00 ∷ 0x00 ∷ 0x00 ∷ 0x01 ∷ 0x01 ∷ 0x01 ∷ 0x02 ∷ 0x01 ∷ 0x03 ∷ 0x01 ∷ 0x04 ∷ 0x01 ∷ 0x05 ∷ 0x01 ∷ 0x06 ∷ 0x01 ∷ 0x07 ∷ 0x08 ∷ 0x02 ∷ 0x01 ∷ 0x00 ∷ 0x02 ∷ 0x02 ∷ 0x03 ∷ 0x00 ∷ 0x04 ∷ 0x01 ∷ 0x05 ∷ 0x00 ∷ 0x01 ∷ 0x01 ∷ 0x01 ∷ 0x02 ∷ 0x01 ∷ 0x03 ∷ 0x01 ∷ 0x04 ∷ 0x01 ∷ 0x05 ∷ 0x01 ∷ 0x06 ∷ 0x02 ∷ 0x07 ∷ 0x08 ∷ 0x09 ∷ 0x0A ∷ []))
+unfolding whole
+mapped-deep-listed = (refl, refl)
+
+-- maps of known and late fields; types of later entries as keys and values
+abbrev mapped-late : List ℕ
+mapped-late =
+    0x03 ∷ 0x00 ∷ 0x00 ∷ 0x00 ∷ 0x01 ∷ 0x00 ∷ 0x00 ∷ 0x00 ∷ 0x02 ∷ 0x00 ∷ 0x00 ∷ 0x00 ∷ 0x03 ∷ 0x61 ∷ 0x62 ∷ 0x63 ∷ 0x02 ∷ 0x01 ∷ 0x00 ∷ 0x01 ∷ 0x00 ∷ 0x01 ∷ 0x00 ∷ 0x14 ∷ 0x02 ∷ 0x21 ∷ 0x20 ∷ 0x03 ∷ 0x05 ∷ 0x02 ∷ 0x00 ∷ 0x02 ∷ 0x00 ∷ 0x00 ∷ 0x02 ∷ 0x02 ∷ 0x01 ∷ 0x00 ∷ 0x00 ∷ 0x00 ∷ 0x01 ∷ 0x01 ∷ 0x02 ∷ 0x02 ∷ 0x04 ∷ 0x00 ∷ 0x14 ∷ 0x03 ∷ 0x06 ∷ 0x21 ∷ 0x05 ∷ 0x02 ∷ 0x0E ∷ 0x00 ∷ 0x01 ∷ 0x01 ∷ 0x03 ∷ 0x01 ∷ 0x00 ∷ 0x01 ∷ 0x02 ∷ 0x02 ∷ 0x02 ∷ 0x00 ∷ 0x01 ∷ 0xFF ∷ 0x00 ∷ []
+
+-- its listing, and the file built back from it
+mapped-late-listed :
+    (listing 185 16384 mapped-late ≡ done (ascii "pair\t3\t2\nstr\t61\nstr\t62\nstr\t63\ntype\t1\t0\t-\t1\t1\nnew\t20,2,33,32\t3\ntype\t2\t0\t-\t2\t0\nval\t2\t2\t1\t0\t0\npair\t0\t1\ntype\t1\t-\t-\t2\t2\nold\nnew\t20,3,6,33,5\t2\nval\t0\nval\t1\t1\t3\nval\t1\t0\t1\t2\t2\t2\nval\t0\nval\t1\t1\t0\n")) ×
+    (build 67 16384 (ascii "pair\t3\t2\nstr\t61\nstr\t62\nstr\t63\ntype\t1\t0\t-\t1\t1\nnew\t20,2,33,32\t3\ntype\t2\t0\t-\t2\t0\nval\t2\t2\t1\t0\t0\npair\t0\t1\ntype\t1\t-\t-\t2\t2\nold\nnew\t20,3,6,33,5\t2\nval\t0\nval\t1\t1\t3\nval\t1\t0\t1\t2\t2\t2\nval\t0\nval\t1\t1\t0\n") ≡ done (0x03 ∷ 0x00 ∷ 0x00 ∷ 0x00 ∷ 0x01 ∷ 0x00 ∷ 0x00 ∷ 0x00 ∷ 0x02 ∷ 0x00 ∷ 0x00 ∷ 0x00 ∷ 0x03 ∷ 0x61 ∷ 0x62 ∷ 0x63 ∷ 0x02 ∷ 0x01 ∷ 0x00 ∷ 0x01 ∷ 0x00 ∷ 0x01 ∷ 0x00 ∷ 0x14 ∷ 0x02 ∷ 0x21 ∷ 0x20 ∷ 0x03 ∷ 0x05 ∷ 0x02 ∷ 0x00 ∷ 0x02 ∷ 0x00 ∷ 0x00 ∷ 0x02 ∷ 0x02 ∷ 0x01 ∷ 0x00 ∷ 0x00 ∷ 0x00 ∷ 0x01 ∷ 0x01 ∷ 0x02 ∷ 0x02 ∷ 0x04 ∷ 0x00 ∷ 0x14 ∷ 0x03 ∷ 0x06 ∷ 0x21 ∷ 0x05 ∷ 0x02 ∷ 0x0E ∷ 0x00 ∷ 0x01 ∷ 0x01 ∷ 0x03 ∷ 0x01 ∷ 0x00 ∷ 0x01 ∷ 0x02 ∷ 0x02 ∷ 0x02 ∷ 0x00 ∷ 0x01 ∷ 0xFF ∷ 0x00 ∷ []))
+unfolding whole
+mapped-late-listed = (refl, refl)
+
 -- the largest length of a fixed array, of a type that has no objects
 abbrev longest : List ℕ
 longest =
@@ -776,12 +934,16 @@ kinds-built :
     (build 400 16384 (ascii "pair\t1\t1\nstr\t61\ntype\t1\t0\t-\t1\t1\nnew\t16,6\t1\nval\t0\n") ≡ refused 20) ×
     (build 400 16384 (ascii "pair\t1\t1\nstr\t61\ntype\t1\t0\t-\t1\t1\nnew\t20\t1\nval\t0\n") ≡ refused 20) ×
     (build 400 16384 (ascii "pair\t1\t1\nstr\t61\ntype\t1\t0\t-\t1\t1\nnew\t20,6\t1\nval\t0\n") ≡ refused 20) ×
+    (build 400 16384 (ascii "pair\t1\t1\nstr\t61\ntype\t1\t0\t-\t1\t1\nnew\t21\t1\nval\t0\n") ≡ refused 20) ×
+    (build 400 16384 (ascii "pair\t1\t1\nstr\t61\ntype\t1\t0\t-\t1\t1\nnew\t21,6\t1\nval\t0\n") ≡ refused 20) ×
     (build 400 16384 (ascii "pair\t1\t1\nstr\t61\ntype\t1\t0\t-\t1\t1\nnew\t31\t1\nval\t0\n") ≡ refused 20) ×
-    (build 400 16384 (ascii "pair\t1\t1\nstr\t61\ntype\t1\t0\t-\t1\t1\nnew\t17,5\t1\nval\n") ≡ refused 20) ×
+    (build 400 16384 (ascii "pair\t1\t1\nstr\t61\ntype\t1\t0\t-\t1\t1\nnew\t17,5\t1\nval\n") ≡ done (0x01 ∷ 0x00 ∷ 0x00 ∷ 0x00 ∷ 0x01 ∷ 0x61 ∷ 0x01 ∷ 0x01 ∷ 0x00 ∷ 0x01 ∷ 0x00 ∷ 0x01 ∷ 0x00 ∷ 0x11 ∷ 0x05 ∷ 0x01 ∷ 0x01 ∷ 0x00 ∷ [])) ×
+    (build 400 16384 (ascii "pair\t1\t1\nstr\t61\ntype\t1\t0\t-\t1\t1\nnew\t17,16\t1\nval\n") ≡ refused 20) ×
     (build 400 16384 (ascii "pair\t1\t1\nstr\t61\ntype\t1\t0\t-\t1\t1\nnew\t17,4\t1\nval\n") ≡ refused 20) ×
     (build 400 16384 (ascii "pair\t1\t1\nstr\t61\ntype\t1\t0\t-\t1\t1\nnew\t17,15\t1\nval\n") ≡ refused 20) ×
     (build 400 16384 (ascii "pair\t1\t1\nstr\t61\ntype\t1\t0\t-\t1\t1\nnew\t17,31\t1\nval\n") ≡ refused 20) ×
-    (build 400 16384 (ascii "pair\t1\t1\nstr\t61\ntype\t1\t0\t-\t1\t1\nnew\t15,0,5\t1\nval\n") ≡ refused 20) ×
+    (build 400 16384 (ascii "pair\t1\t1\nstr\t61\ntype\t1\t0\t-\t1\t1\nnew\t15,0,5\t1\nval\n") ≡ done (0x01 ∷ 0x00 ∷ 0x00 ∷ 0x00 ∷ 0x01 ∷ 0x61 ∷ 0x01 ∷ 0x01 ∷ 0x00 ∷ 0x01 ∷ 0x00 ∷ 0x01 ∷ 0x00 ∷ 0x0F ∷ 0x00 ∷ 0x05 ∷ 0x01 ∷ 0x00 ∷ [])) ×
+    (build 400 16384 (ascii "pair\t1\t1\nstr\t61\ntype\t1\t0\t-\t1\t1\nnew\t15,0,16\t1\nval\n") ≡ refused 20) ×
     (build 400 16384 (ascii "pair\t1\t1\nstr\t61\ntype\t1\t0\t-\t1\t1\nnew\t15,0,15\t1\nval\n") ≡ refused 20) ×
     (build 400 16384 (ascii "pair\t1\t1\nstr\t61\ntype\t1\t0\t-\t1\t1\nnew\t15,1\t1\nval\t0\n") ≡ refused 20) ×
     (build 400 16384 (ascii "pair\t1\t1\nstr\t61\ntype\t1\t0\t-\t1\t1\nnew\t15,1,6,6\t1\nval\t0\n") ≡ refused 20) ×
@@ -796,7 +958,7 @@ kinds-built :
     (build 400 16384 (ascii "pair\t1\t1\nstr\t61\ntype\t1\t0\t-\t1\t1\nnew\t18446744073709551627\t1\nval\t0\n") ≡ refused 20) ×
     (build 400 16384 (ascii "pair\t1\t1\nstr\t61\ntype\t1\t0\t-\t1\t1\nnew\t18446744073709551615\t1\nval\t0\n") ≡ refused 20)
 unfolding whole
-kinds-built = (refl, refl, refl, refl, refl, refl, refl, refl, refl, refl, refl, refl, refl, refl, refl, refl, refl, refl, refl, refl, refl, refl, refl, refl, refl, refl, refl, refl, refl, refl, refl, refl, refl, refl, refl, refl, refl, refl, refl, refl, refl, refl, refl, refl)
+kinds-built = (refl, refl, refl, refl, refl, refl, refl, refl, refl, refl, refl, refl, refl, refl, refl, refl, refl, refl, refl, refl, refl, refl, refl, refl, refl, refl, refl, refl, refl, refl, refl, refl, refl, refl, refl, refl, refl, refl, refl, refl, refl, refl, refl, refl, refl, refl, refl, refl)
 
 -- constants at the ends of their ranges, lengths at their bound
 constants-built :
@@ -839,6 +1001,181 @@ constants-built :
     (build 400 16384 (ascii "pair\t1\t1\nstr\t61\ntype\t1\t0\t-\t0\t1\nnew\t15,1,33\t1\n") ≡ refused 20)
 unfolding whole
 constants-built = (refl, refl, refl, refl, refl, refl, refl, refl, refl, refl, refl, refl, refl, refl, refl, refl, refl, refl, refl, refl, refl, refl, refl, refl, refl, refl, refl, refl, refl, refl, refl, refl, refl, refl, refl, refl, refl)
+
+-- an annotation is two fields, both 0 or neither
+annotations-built :
+    (build 400 16384 (ascii "pair\t1\t1\nstr\t61\ntype\t1\t0\t-\t1\t1\nnew\t5\t1\nval\t0\t0\n") ≡ done (0x01 ∷ 0x00 ∷ 0x00 ∷ 0x00 ∷ 0x01 ∷ 0x61 ∷ 0x01 ∷ 0x01 ∷ 0x00 ∷ 0x01 ∷ 0x00 ∷ 0x01 ∷ 0x00 ∷ 0x05 ∷ 0x01 ∷ 0x02 ∷ 0x00 ∷ 0x00 ∷ [])) ×
+    (build 400 16384 (ascii "pair\t1\t1\nstr\t61\ntype\t1\t0\t-\t1\t1\nnew\t5\t1\nval\t1\t1\n") ≡ done (0x01 ∷ 0x00 ∷ 0x00 ∷ 0x00 ∷ 0x01 ∷ 0x61 ∷ 0x01 ∷ 0x01 ∷ 0x00 ∷ 0x01 ∷ 0x00 ∷ 0x01 ∷ 0x00 ∷ 0x05 ∷ 0x01 ∷ 0x02 ∷ 0x01 ∷ 0x01 ∷ [])) ×
+    (build 400 16384 (ascii "pair\t1\t1\nstr\t61\ntype\t1\t0\t-\t1\t1\nnew\t5\t1\nval\n") ≡ refused 20) ×
+    (build 400 16384 (ascii "pair\t1\t1\nstr\t61\ntype\t1\t0\t-\t1\t1\nnew\t5\t1\nval\t0\n") ≡ refused 20) ×
+    (build 400 16384 (ascii "pair\t1\t1\nstr\t61\ntype\t1\t0\t-\t1\t1\nnew\t5\t1\nval\t1\n") ≡ refused 20) ×
+    (build 400 16384 (ascii "pair\t1\t1\nstr\t61\ntype\t1\t0\t-\t1\t1\nnew\t5\t1\nval\t1\t0\n") ≡ refused 20) ×
+    (build 400 16384 (ascii "pair\t1\t1\nstr\t61\ntype\t1\t0\t-\t1\t1\nnew\t5\t1\nval\t0\t1\n") ≡ refused 20) ×
+    (build 400 16384 (ascii "pair\t1\t1\nstr\t61\ntype\t1\t0\t-\t1\t1\nnew\t5\t1\nval\t1\t2\n") ≡ refused 20) ×
+    (build 400 16384 (ascii "pair\t1\t1\nstr\t61\ntype\t1\t0\t-\t1\t1\nnew\t5\t1\nval\t2\t1\n") ≡ refused 20) ×
+    (build 400 16384 (ascii "pair\t1\t1\nstr\t61\ntype\t1\t0\t-\t1\t1\nnew\t5\t1\nval\t2\t0\n") ≡ refused 20) ×
+    (build 400 16384 (ascii "pair\t1\t1\nstr\t61\ntype\t1\t0\t-\t1\t1\nnew\t5\t1\nval\t1\t1\t\n") ≡ refused 20) ×
+    (build 400 16384 (ascii "pair\t1\t1\nstr\t61\ntype\t1\t0\t-\t1\t1\nnew\t5\t1\nval\t1\t1\t1\n") ≡ refused 20) ×
+    (build 400 16384 (ascii "pair\t1\t1\nstr\t61\ntype\t1\t0\t-\t1\t1\nnew\t5\t1\nval\t1\t1\t0\t0\n") ≡ refused 20) ×
+    (build 400 16384 (ascii "pair\t1\t1\nstr\t61\ntype\t1\t0\t-\t1\t1\nnew\t5\t1\nval\t1\t01\n") ≡ refused 20) ×
+    (build 400 16384 (ascii "pair\t1\t1\nstr\t61\ntype\t1\t0\t-\t1\t1\nnew\t5\t1\nval\t01\t1\n") ≡ refused 20) ×
+    (build 400 16384 (ascii "pair\t1\t1\nstr\t61\ntype\t1\t0\t-\t1\t1\nnew\t5\t1\nval\t1\t-1\n") ≡ refused 20) ×
+    (build 400 16384 (ascii "pair\t1\t1\nstr\t61\ntype\t1\t0\t-\t1\t1\nnew\t5\t1\nval\t-1\t1\n") ≡ refused 20) ×
+    (build 400 16384 (ascii "pair\t1\t1\nstr\t61\ntype\t1\t0\t-\t1\t1\nnew\t5\t1\nval\t-0\t0\n") ≡ refused 20) ×
+    (build 400 16384 (ascii "pair\t1\t1\nstr\t61\ntype\t1\t0\t-\t1\t1\nnew\t5\t1\nval\t-\n") ≡ refused 20) ×
+    (build 400 16384 (ascii "pair\t1\t1\nstr\t61\ntype\t1\t0\t-\t1\t1\nnew\t5\t1\nval\t-\t-\n") ≡ refused 20) ×
+    (build 400 16384 (ascii "pair\t1\t1\nstr\t61\ntype\t1\t0\t-\t1\t1\nnew\t5\t1\nval\t1,1\n") ≡ refused 20) ×
+    (build 400 16384 (ascii "pair\t1\t1\nstr\t61\ntype\t1\t0\t-\t1\t1\nnew\t5\t1\nval\t1 1\n") ≡ refused 20) ×
+    (build 400 16384 (ascii "pair\t1\t1\nstr\t61\ntype\t1\t0\t-\t1\t1\nnew\t5\t1\nval\t1\t\t1\n") ≡ refused 20) ×
+    (build 400 16384 (ascii "pair\t1\t1\nstr\t61\ntype\t1\t0\t-\t1\t1\nnew\t5\t1\nval\t18446744073709551615\t1\n") ≡ refused 20) ×
+    (build 400 16384 (ascii "pair\t1\t1\nstr\t61\ntype\t1\t0\t-\t1\t1\nnew\t5\t1\nval\t1\t18446744073709551615\n") ≡ refused 20) ×
+    (build 400 16384 (ascii "pair\t1\t1\nstr\t61\ntype\t1\t0\t-\t1\t1\nnew\t5\t1\nval\t18446744073709551617\t1\n") ≡ refused 20) ×
+    (build 400 16384 (ascii "pair\t1\t1\nstr\t61\ntype\t1\t0\t-\t1\t1\nnew\t5\t1\nval\t1\t18446744073709551617\n") ≡ refused 20) ×
+    (build 400 16384 (ascii "pair\t1\t1\nstr\t61\ntype\t1\t0\t-\t1\t1\nnew\t5\t1\nval\t18446744073709551616\t18446744073709551616\n") ≡ refused 20)
+unfolding whole
+annotations-built = (refl, refl, refl, refl, refl, refl, refl, refl, refl, refl, refl, refl, refl, refl, refl, refl, refl, refl, refl, refl, refl, refl, refl, refl, refl, refl, refl, refl)
+
+-- as many pairs of fields as an array has annotations
+annotated-arrays-built :
+    (build 400 16384 (ascii "pair\t1\t1\nstr\t61\ntype\t1\t0\t-\t1\t1\nnew\t17,5\t1\nval\t0\t0\t1\t1\n") ≡ done (0x01 ∷ 0x00 ∷ 0x00 ∷ 0x00 ∷ 0x01 ∷ 0x61 ∷ 0x01 ∷ 0x01 ∷ 0x00 ∷ 0x01 ∷ 0x00 ∷ 0x01 ∷ 0x00 ∷ 0x11 ∷ 0x05 ∷ 0x01 ∷ 0x05 ∷ 0x02 ∷ 0x00 ∷ 0x00 ∷ 0x01 ∷ 0x01 ∷ [])) ×
+    (build 400 16384 (ascii "pair\t1\t1\nstr\t61\ntype\t1\t0\t-\t1\t1\nnew\t17,5\t1\nval\t0\n") ≡ refused 20) ×
+    (build 400 16384 (ascii "pair\t1\t1\nstr\t61\ntype\t1\t0\t-\t1\t1\nnew\t17,5\t1\nval\t1\t1\t0\n") ≡ refused 20) ×
+    (build 400 16384 (ascii "pair\t1\t1\nstr\t61\ntype\t1\t0\t-\t1\t1\nnew\t17,5\t1\nval\t1\t1\t0\t1\n") ≡ refused 20) ×
+    (build 400 16384 (ascii "pair\t1\t1\nstr\t61\ntype\t1\t0\t-\t1\t1\nnew\t17,5\t1\nval\t1\t1\t1\t2\n") ≡ refused 20) ×
+    (build 400 16384 (ascii "pair\t1\t1\nstr\t61\ntype\t1\t0\t-\t1\t1\nnew\t18,5\t1\nval\t1\t1\t1\t1\n") ≡ done (0x01 ∷ 0x00 ∷ 0x00 ∷ 0x00 ∷ 0x01 ∷ 0x61 ∷ 0x01 ∷ 0x01 ∷ 0x00 ∷ 0x01 ∷ 0x00 ∷ 0x01 ∷ 0x00 ∷ 0x12 ∷ 0x05 ∷ 0x01 ∷ 0x05 ∷ 0x02 ∷ 0x01 ∷ 0x01 ∷ 0x01 ∷ 0x01 ∷ [])) ×
+    (build 400 16384 (ascii "pair\t1\t1\nstr\t61\ntype\t1\t0\t-\t1\t1\nnew\t18,5\t1\nval\t1\t1\t1\n") ≡ refused 20) ×
+    (build 400 16384 (ascii "pair\t1\t1\nstr\t61\ntype\t1\t0\t-\t1\t1\nnew\t19,5\t1\nval\t0\t0\t0\t0\n") ≡ done (0x01 ∷ 0x00 ∷ 0x00 ∷ 0x00 ∷ 0x01 ∷ 0x61 ∷ 0x01 ∷ 0x01 ∷ 0x00 ∷ 0x01 ∷ 0x00 ∷ 0x01 ∷ 0x00 ∷ 0x13 ∷ 0x05 ∷ 0x01 ∷ 0x05 ∷ 0x02 ∷ 0x00 ∷ 0x00 ∷ 0x00 ∷ 0x00 ∷ [])) ×
+    (build 400 16384 (ascii "pair\t1\t1\nstr\t61\ntype\t1\t0\t-\t1\t1\nnew\t19,5\t1\nval\t0\t0\t0\t0\t0\n") ≡ refused 20) ×
+    (build 400 16384 (ascii "pair\t1\t1\nstr\t61\ntype\t1\t0\t-\t1\t1\nnew\t15,2,5\t1\nval\t1\t1\t0\t0\n") ≡ done (0x01 ∷ 0x00 ∷ 0x00 ∷ 0x00 ∷ 0x01 ∷ 0x61 ∷ 0x01 ∷ 0x01 ∷ 0x00 ∷ 0x01 ∷ 0x00 ∷ 0x01 ∷ 0x00 ∷ 0x0F ∷ 0x02 ∷ 0x05 ∷ 0x01 ∷ 0x04 ∷ 0x01 ∷ 0x01 ∷ 0x00 ∷ 0x00 ∷ [])) ×
+    (build 400 16384 (ascii "pair\t1\t1\nstr\t61\ntype\t1\t0\t-\t1\t1\nnew\t15,2,5\t1\nval\t1\t1\n") ≡ refused 20) ×
+    (build 400 16384 (ascii "pair\t1\t1\nstr\t61\ntype\t1\t0\t-\t1\t1\nnew\t15,2,5\t1\nval\t1\t1\t0\n") ≡ refused 20) ×
+    (build 400 16384 (ascii "pair\t1\t1\nstr\t61\ntype\t1\t0\t-\t1\t1\nnew\t15,2,5\t1\nval\t1\t1\t0\t0\t0\t0\n") ≡ refused 20) ×
+    (build 400 16384 (ascii "pair\t1\t1\nstr\t61\ntype\t1\t0\t-\t1\t1\nnew\t15,1,5\t1\nval\t1\t1\n") ≡ done (0x01 ∷ 0x00 ∷ 0x00 ∷ 0x00 ∷ 0x01 ∷ 0x61 ∷ 0x01 ∷ 0x01 ∷ 0x00 ∷ 0x01 ∷ 0x00 ∷ 0x01 ∷ 0x00 ∷ 0x0F ∷ 0x01 ∷ 0x05 ∷ 0x01 ∷ 0x02 ∷ 0x01 ∷ 0x01 ∷ [])) ×
+    (build 400 16384 (ascii "pair\t1\t1\nstr\t61\ntype\t1\t0\t-\t1\t1\nnew\t15,1,5\t1\nval\t1\n") ≡ refused 20) ×
+    (build 400 16384 (ascii "pair\t1\t1\nstr\t61\ntype\t1\t0\t-\t1\t1\nnew\t15,0,5\t1\nval\t0\t0\n") ≡ refused 20)
+unfolding whole
+annotated-arrays-built = (refl, refl, refl, refl, refl, refl, refl, refl, refl, refl, refl, refl, refl, refl, refl, refl)
+
+-- a size before its keys, each followed by what it leads to
+maps-built :
+    (build 400 16384 (ascii "pair\t1\t1\nstr\t61\ntype\t1\t0\t-\t1\t1\nnew\t20,2,6,7\t1\nval\t0\n") ≡ done (0x01 ∷ 0x00 ∷ 0x00 ∷ 0x00 ∷ 0x01 ∷ 0x61 ∷ 0x01 ∷ 0x01 ∷ 0x00 ∷ 0x01 ∷ 0x00 ∷ 0x01 ∷ 0x00 ∷ 0x14 ∷ 0x02 ∷ 0x06 ∷ 0x07 ∷ 0x01 ∷ 0x01 ∷ 0x00 ∷ [])) ×
+    (build 400 16384 (ascii "pair\t1\t1\nstr\t61\ntype\t1\t0\t-\t1\t1\nnew\t20,2,6,7\t1\nval\t1\t0\t5\n") ≡ done (0x01 ∷ 0x00 ∷ 0x00 ∷ 0x00 ∷ 0x01 ∷ 0x61 ∷ 0x01 ∷ 0x01 ∷ 0x00 ∷ 0x01 ∷ 0x00 ∷ 0x01 ∷ 0x00 ∷ 0x14 ∷ 0x02 ∷ 0x06 ∷ 0x07 ∷ 0x01 ∷ 0x03 ∷ 0x01 ∷ 0x00 ∷ 0x05 ∷ [])) ×
+    (build 400 16384 (ascii "pair\t1\t1\nstr\t61\ntype\t1\t0\t-\t1\t1\nnew\t20,2,6,7\t1\nval\t2\t1\t-128\t1\t127\n") ≡ done (0x01 ∷ 0x00 ∷ 0x00 ∷ 0x00 ∷ 0x01 ∷ 0x61 ∷ 0x01 ∷ 0x01 ∷ 0x00 ∷ 0x01 ∷ 0x00 ∷ 0x01 ∷ 0x00 ∷ 0x14 ∷ 0x02 ∷ 0x06 ∷ 0x07 ∷ 0x01 ∷ 0x05 ∷ 0x02 ∷ 0xFF ∷ 0x80 ∷ 0xFF ∷ 0x7F ∷ [])) ×
+    (build 400 16384 (ascii "pair\t1\t1\nstr\t61\ntype\t1\t0\t-\t1\t1\nnew\t20,2,6,7\t1\nval\n") ≡ refused 20) ×
+    (build 400 16384 (ascii "pair\t1\t1\nstr\t61\ntype\t1\t0\t-\t1\t1\nnew\t20,2,6,7\t1\nval\t1\n") ≡ refused 20) ×
+    (build 400 16384 (ascii "pair\t1\t1\nstr\t61\ntype\t1\t0\t-\t1\t1\nnew\t20,2,6,7\t1\nval\t1\t0\n") ≡ refused 20) ×
+    (build 400 16384 (ascii "pair\t1\t1\nstr\t61\ntype\t1\t0\t-\t1\t1\nnew\t20,2,6,7\t1\nval\t0\t0\t5\n") ≡ refused 20) ×
+    (build 400 16384 (ascii "pair\t1\t1\nstr\t61\ntype\t1\t0\t-\t1\t1\nnew\t20,2,6,7\t1\nval\t1\t0\t5\t0\n") ≡ refused 20) ×
+    (build 400 16384 (ascii "pair\t1\t1\nstr\t61\ntype\t1\t0\t-\t1\t1\nnew\t20,2,6,7\t1\nval\t1\t0\t5\t1\t6\n") ≡ refused 20) ×
+    (build 400 16384 (ascii "pair\t1\t1\nstr\t61\ntype\t1\t0\t-\t1\t1\nnew\t20,2,6,7\t1\nval\t2\t0\t5\n") ≡ refused 20) ×
+    (build 400 16384 (ascii "pair\t1\t1\nstr\t61\ntype\t1\t0\t-\t1\t1\nnew\t20,2,6,7\t1\nval\t2\t0\t5\t1\n") ≡ refused 20) ×
+    (build 400 16384 (ascii "pair\t1\t1\nstr\t61\ntype\t1\t0\t-\t1\t1\nnew\t20,2,6,7\t1\nval\t1\t2\t5\n") ≡ refused 20) ×
+    (build 400 16384 (ascii "pair\t1\t1\nstr\t61\ntype\t1\t0\t-\t1\t1\nnew\t20,2,6,7\t1\nval\t1\t0\t128\n") ≡ refused 20) ×
+    (build 400 16384 (ascii "pair\t1\t1\nstr\t61\ntype\t1\t0\t-\t1\t1\nnew\t20,2,6,7\t1\nval\t00\n") ≡ refused 20) ×
+    (build 400 16384 (ascii "pair\t1\t1\nstr\t61\ntype\t1\t0\t-\t1\t1\nnew\t20,2,6,7\t1\nval\t-0\n") ≡ refused 20) ×
+    (build 400 16384 (ascii "pair\t1\t1\nstr\t61\ntype\t1\t0\t-\t1\t1\nnew\t20,2,6,7\t1\nval\t-1\n") ≡ refused 20) ×
+    (build 400 16384 (ascii "pair\t1\t1\nstr\t61\ntype\t1\t0\t-\t1\t1\nnew\t20,2,6,7\t1\nval\t01\t0\t5\n") ≡ refused 20) ×
+    (build 400 16384 (ascii "pair\t1\t1\nstr\t61\ntype\t1\t0\t-\t1\t1\nnew\t20,2,6,7\t1\nval\t1,0\t5\n") ≡ refused 20) ×
+    (build 400 16384 (ascii "pair\t1\t1\nstr\t61\ntype\t1\t0\t-\t1\t1\nnew\t20,2,6,7\t1\nval\t65535\n") ≡ refused 20) ×
+    (build 400 16384 (ascii "pair\t1\t1\nstr\t61\ntype\t1\t0\t-\t1\t1\nnew\t20,2,6,7\t1\nval\t65536\n") ≡ refused 20) ×
+    (build 400 16384 (ascii "pair\t1\t1\nstr\t61\ntype\t1\t0\t-\t1\t1\nnew\t20,2,6,7\t1\nval\t65537\t0\t5\n") ≡ refused 20) ×
+    (build 400 16384 (ascii "pair\t1\t1\nstr\t61\ntype\t1\t0\t-\t1\t1\nnew\t20,2,6,7\t1\nval\t4294967297\t0\t5\n") ≡ refused 20) ×
+    (build 400 16384 (ascii "pair\t1\t1\nstr\t61\ntype\t1\t0\t-\t1\t1\nnew\t20,2,6,7\t1\nval\t18446744073709551615\n") ≡ refused 20) ×
+    (build 400 16384 (ascii "pair\t1\t1\nstr\t61\ntype\t1\t0\t-\t1\t1\nnew\t20,2,6,7\t1\nval\t18446744073709551616\n") ≡ refused 20) ×
+    (build 400 16384 (ascii "pair\t1\t1\nstr\t61\ntype\t1\t0\t-\t1\t1\nnew\t20,2,6,7\t1\nval\t18446744073709551617\t0\t5\n") ≡ refused 20) ×
+    (build 400 16384 (ascii "pair\t1\t1\nstr\t61\ntype\t1\t0\t-\t1\t1\nnew\t20,3,6,7,14\t1\nval\t0\n") ≡ done (0x01 ∷ 0x00 ∷ 0x00 ∷ 0x00 ∷ 0x01 ∷ 0x61 ∷ 0x01 ∷ 0x01 ∷ 0x00 ∷ 0x01 ∷ 0x00 ∷ 0x01 ∷ 0x00 ∷ 0x14 ∷ 0x03 ∷ 0x06 ∷ 0x07 ∷ 0x0E ∷ 0x01 ∷ 0x01 ∷ 0x00 ∷ [])) ×
+    (build 400 16384 (ascii "pair\t1\t1\nstr\t61\ntype\t1\t0\t-\t1\t1\nnew\t20,3,6,7,14\t1\nval\t1\t0\t0\n") ≡ done (0x01 ∷ 0x00 ∷ 0x00 ∷ 0x00 ∷ 0x01 ∷ 0x61 ∷ 0x01 ∷ 0x01 ∷ 0x00 ∷ 0x01 ∷ 0x00 ∷ 0x01 ∷ 0x00 ∷ 0x14 ∷ 0x03 ∷ 0x06 ∷ 0x07 ∷ 0x0E ∷ 0x01 ∷ 0x03 ∷ 0x01 ∷ 0x00 ∷ 0x00 ∷ [])) ×
+    (build 400 16384 (ascii "pair\t1\t1\nstr\t61\ntype\t1\t0\t-\t1\t1\nnew\t20,3,6,7,14\t1\nval\t1\t0\t1\t5\t1\n") ≡ done (0x01 ∷ 0x00 ∷ 0x00 ∷ 0x00 ∷ 0x01 ∷ 0x61 ∷ 0x01 ∷ 0x01 ∷ 0x00 ∷ 0x01 ∷ 0x00 ∷ 0x01 ∷ 0x00 ∷ 0x14 ∷ 0x03 ∷ 0x06 ∷ 0x07 ∷ 0x0E ∷ 0x01 ∷ 0x05 ∷ 0x01 ∷ 0x00 ∷ 0x01 ∷ 0x05 ∷ 0x01 ∷ [])) ×
+    (build 400 16384 (ascii "pair\t1\t1\nstr\t61\ntype\t1\t0\t-\t1\t1\nnew\t20,3,6,7,14\t1\nval\t2\t1\t0\t1\t2\t5\t0\t5\t1\n") ≡ done (0x01 ∷ 0x00 ∷ 0x00 ∷ 0x00 ∷ 0x01 ∷ 0x61 ∷ 0x01 ∷ 0x01 ∷ 0x00 ∷ 0x01 ∷ 0x00 ∷ 0x01 ∷ 0x00 ∷ 0x14 ∷ 0x03 ∷ 0x06 ∷ 0x07 ∷ 0x0E ∷ 0x01 ∷ 0x09 ∷ 0x02 ∷ 0xFF ∷ 0x00 ∷ 0xFF ∷ 0x02 ∷ 0x05 ∷ 0x00 ∷ 0x05 ∷ 0x01 ∷ [])) ×
+    (build 400 16384 (ascii "pair\t1\t1\nstr\t61\ntype\t1\t0\t-\t1\t1\nnew\t20,3,6,7,14\t1\nval\t1\n") ≡ refused 20) ×
+    (build 400 16384 (ascii "pair\t1\t1\nstr\t61\ntype\t1\t0\t-\t1\t1\nnew\t20,3,6,7,14\t1\nval\t1\t0\n") ≡ refused 20) ×
+    (build 400 16384 (ascii "pair\t1\t1\nstr\t61\ntype\t1\t0\t-\t1\t1\nnew\t20,3,6,7,14\t1\nval\t1\t0\t1\n") ≡ refused 20) ×
+    (build 400 16384 (ascii "pair\t1\t1\nstr\t61\ntype\t1\t0\t-\t1\t1\nnew\t20,3,6,7,14\t1\nval\t1\t0\t1\t5\n") ≡ refused 20) ×
+    (build 400 16384 (ascii "pair\t1\t1\nstr\t61\ntype\t1\t0\t-\t1\t1\nnew\t20,3,6,7,14\t1\nval\t1\t0\t5\t1\n") ≡ refused 20) ×
+    (build 400 16384 (ascii "pair\t1\t1\nstr\t61\ntype\t1\t0\t-\t1\t1\nnew\t20,3,6,7,14\t1\nval\t1\t0\t0\t5\t1\n") ≡ refused 20) ×
+    (build 400 16384 (ascii "pair\t1\t1\nstr\t61\ntype\t1\t0\t-\t1\t1\nnew\t20,3,6,7,14\t1\nval\t1\t0\t2\t5\t1\n") ≡ refused 20) ×
+    (build 400 16384 (ascii "pair\t1\t1\nstr\t61\ntype\t1\t0\t-\t1\t1\nnew\t20,3,6,7,14\t1\nval\t1\t0\t1\t5\t2\n") ≡ refused 20) ×
+    (build 400 16384 (ascii "pair\t1\t1\nstr\t61\ntype\t1\t0\t-\t1\t1\nnew\t20,3,6,7,14\t1\nval\t1\t0\t1\t5\t1\t0\n") ≡ refused 20) ×
+    (build 400 16384 (ascii "pair\t1\t1\nstr\t61\ntype\t1\t0\t-\t1\t1\nnew\t20,3,6,7,14\t1\nval\t2\t0\t1\t5\t1\n") ≡ refused 20) ×
+    (build 400 16384 (ascii "pair\t1\t1\nstr\t61\ntype\t1\t0\t-\t1\t1\nnew\t20,3,6,7,14\t1\nval\t1\t0\t00\n") ≡ refused 20) ×
+    (build 400 16384 (ascii "pair\t1\t1\nstr\t61\ntype\t1\t0\t-\t1\t1\nnew\t20,3,6,7,14\t1\nval\t1\t0\t65536\n") ≡ refused 20) ×
+    (build 400 16384 (ascii "pair\t1\t1\nstr\t61\ntype\t1\t0\t-\t1\t1\nnew\t20,3,6,7,14\t1\nval\t1\t0\t18446744073709551615\n") ≡ refused 20) ×
+    (build 400 16384 (ascii "pair\t1\t1\nstr\t61\ntype\t1\t0\t-\t1\t1\nnew\t20,3,6,7,14\t1\nval\t1\t0\t18446744073709551616\n") ≡ refused 20) ×
+    (build 400 16384 (ascii "pair\t1\t1\nstr\t61\ntype\t1\t0\t-\t1\t1\nnew\t20,3,6,7,14\t1\nval\t1\t0\t18446744073709551617\t5\t1\n") ≡ refused 20) ×
+    (build 400 16384 (ascii "pair\t1\t1\nstr\t61\ntype\t1\t0\t-\t1\t1\nnew\t20,8,7,7,7,7,7,7,7,7\t1\nval\t0\n") ≡ done (0x01 ∷ 0x00 ∷ 0x00 ∷ 0x00 ∷ 0x01 ∷ 0x61 ∷ 0x01 ∷ 0x01 ∷ 0x00 ∷ 0x01 ∷ 0x00 ∷ 0x01 ∷ 0x00 ∷ 0x14 ∷ 0x08 ∷ 0x07 ∷ 0x07 ∷ 0x07 ∷ 0x07 ∷ 0x07 ∷ 0x07 ∷ 0x07 ∷ 0x07 ∷ 0x01 ∷ 0x01 ∷ 0x00 ∷ [])) ×
+    (build 400 16384 (ascii "pair\t1\t1\nstr\t61\ntype\t1\t0\t-\t1\t1\nnew\t20,8,7,7,7,7,7,7,7,7\t1\nval\t1\t1\t1\t2\t1\t3\t1\t4\t1\t5\t1\t6\t1\t7\t8\n") ≡ done (0x01 ∷ 0x00 ∷ 0x00 ∷ 0x00 ∷ 0x01 ∷ 0x61 ∷ 0x01 ∷ 0x01 ∷ 0x00 ∷ 0x01 ∷ 0x00 ∷ 0x01 ∷ 0x00 ∷ 0x14 ∷ 0x08 ∷ 0x07 ∷ 0x07 ∷ 0x07 ∷ 0x07 ∷ 0x07 ∷ 0x07 ∷ 0x07 ∷ 0x07 ∷ 0x01 ∷ 0x0F ∷ 0x01 ∷ 0x01 ∷ 0x01 ∷ 0x02 ∷ 0x01 ∷ 0x03 ∷ 0x01 ∷ 0x04 ∷ 0x01 ∷ 0x05 ∷ 0x01 ∷ 0x06 ∷ 0x01 ∷ 0x07 ∷ 0x08 ∷ [])) ×
+    (build 400 16384 (ascii "pair\t1\t1\nstr\t61\ntype\t1\t0\t-\t1\t1\nnew\t20,8,7,7,7,7,7,7,7,7\t1\nval\t1\t1\t1\t2\t1\t3\t1\t4\t1\t5\t1\t6\t0\n") ≡ done (0x01 ∷ 0x00 ∷ 0x00 ∷ 0x00 ∷ 0x01 ∷ 0x61 ∷ 0x01 ∷ 0x01 ∷ 0x00 ∷ 0x01 ∷ 0x00 ∷ 0x01 ∷ 0x00 ∷ 0x14 ∷ 0x08 ∷ 0x07 ∷ 0x07 ∷ 0x07 ∷ 0x07 ∷ 0x07 ∷ 0x07 ∷ 0x07 ∷ 0x07 ∷ 0x01 ∷ 0x0D ∷ 0x01 ∷ 0x01 ∷ 0x01 ∷ 0x02 ∷ 0x01 ∷ 0x03 ∷ 0x01 ∷ 0x04 ∷ 0x01 ∷ 0x05 ∷ 0x01 ∷ 0x06 ∷ 0x00 ∷ [])) ×
+    (build 400 16384 (ascii "pair\t1\t1\nstr\t61\ntype\t1\t0\t-\t1\t1\nnew\t20,8,7,7,7,7,7,7,7,7\t1\nval\t1\t1\t1\t2\t1\t3\t1\t4\t1\t5\t1\t6\t1\t7\n") ≡ refused 20) ×
+    (build 400 16384 (ascii "pair\t1\t1\nstr\t61\ntype\t1\t0\t-\t1\t1\nnew\t20,8,7,7,7,7,7,7,7,7\t1\nval\t1\t1\t1\t2\t1\t3\t1\t4\t1\t5\t1\t6\n") ≡ refused 20) ×
+    (build 400 16384 (ascii "pair\t1\t1\nstr\t61\ntype\t1\t0\t-\t1\t1\nnew\t20,8,7,7,7,7,7,7,7,7\t1\nval\t1\t1\t1\t2\t1\t3\t1\t4\t1\t5\t1\t6\t0\t7\t8\n") ≡ refused 20) ×
+    (build 400 16384 (ascii "pair\t1\t1\nstr\t61\ntype\t1\t0\t-\t1\t1\nnew\t20,8,7,7,7,7,7,7,7,7\t1\nval\t1\t1\t1\t2\t1\t3\t1\t4\t1\t5\t1\t6\t1\t7\t8\t9\n") ≡ refused 20) ×
+    (build 400 16384 (ascii "pair\t1\t1\nstr\t61\ntype\t1\t0\t-\t1\t1\nnew\t20,8,7,7,7,7,7,7,7,7\t1\nval\t1\t1\t2\t3\t4\t5\t6\t7\t8\n") ≡ refused 20) ×
+    (build 400 16384 (ascii "pair\t1\t1\nstr\t61\ntype\t1\t0\t-\t1\t1\nnew\t20,3,5,32,14\t1\nval\t1\t1\t1\t1\t1\t1\n") ≡ done (0x01 ∷ 0x00 ∷ 0x00 ∷ 0x00 ∷ 0x01 ∷ 0x61 ∷ 0x01 ∷ 0x01 ∷ 0x00 ∷ 0x01 ∷ 0x00 ∷ 0x01 ∷ 0x00 ∷ 0x14 ∷ 0x03 ∷ 0x05 ∷ 0x20 ∷ 0x0E ∷ 0x01 ∷ 0x06 ∷ 0x01 ∷ 0x01 ∷ 0x01 ∷ 0x01 ∷ 0x01 ∷ 0x01 ∷ [])) ×
+    (build 400 16384 (ascii "pair\t1\t1\nstr\t61\ntype\t1\t0\t-\t1\t1\nnew\t20,3,5,32,14\t1\nval\t1\t0\t0\t1\t0\t0\n") ≡ done (0x01 ∷ 0x00 ∷ 0x00 ∷ 0x00 ∷ 0x01 ∷ 0x61 ∷ 0x01 ∷ 0x01 ∷ 0x00 ∷ 0x01 ∷ 0x00 ∷ 0x01 ∷ 0x00 ∷ 0x14 ∷ 0x03 ∷ 0x05 ∷ 0x20 ∷ 0x0E ∷ 0x01 ∷ 0x06 ∷ 0x01 ∷ 0x00 ∷ 0x00 ∷ 0x01 ∷ 0x00 ∷ 0x00 ∷ [])) ×
+    (build 400 16384 (ascii "pair\t1\t1\nstr\t61\ntype\t1\t0\t-\t1\t1\nnew\t20,3,5,32,14\t1\nval\t1\t1\t0\t0\n") ≡ refused 20) ×
+    (build 400 16384 (ascii "pair\t1\t1\nstr\t61\ntype\t1\t0\t-\t1\t1\nnew\t20,3,5,32,14\t1\nval\t1\t0\t1\t0\n") ≡ refused 20) ×
+    (build 400 16384 (ascii "pair\t1\t1\nstr\t61\ntype\t1\t0\t-\t1\t1\nnew\t20,3,5,32,14\t1\nval\t1\t1\t2\t0\n") ≡ refused 20) ×
+    (build 400 16384 (ascii "pair\t1\t1\nstr\t61\ntype\t1\t0\t-\t1\t1\nnew\t20,3,5,32,14\t1\nval\t1\t2\t1\t0\n") ≡ refused 20) ×
+    (build 400 16384 (ascii "pair\t1\t1\nstr\t61\ntype\t1\t0\t-\t1\t1\nnew\t20,3,5,32,14\t1\nval\t1\t0\t0\t1\t2\t0\n") ≡ refused 20) ×
+    (build 400 16384 (ascii "pair\t1\t1\nstr\t61\ntype\t1\t0\t-\t1\t1\nnew\t20,3,5,32,14\t1\nval\t1\t0\t0\t1\t0\t2\n") ≡ refused 20) ×
+    (build 400 16384 (ascii "pair\t1\t1\nstr\t61\ntype\t1\t0\t-\t1\t1\nnew\t20,3,5,32,14\t1\nval\t1\t1\t1\n") ≡ refused 20) ×
+    (build 400 16384 (ascii "pair\t1\t1\nstr\t61\ntype\t1\t0\t-\t1\t1\nnew\t20,3,5,32,14\t1\nval\t1\t1\n") ≡ refused 20) ×
+    (build 400 16384 (ascii "pair\t1\t1\nstr\t61\ntype\t1\t0\t-\t1\t1\nnew\t20,2,12,13\t1\nval\t1\t0123abcd\t0123456789abcdef\n") ≡ done (0x01 ∷ 0x00 ∷ 0x00 ∷ 0x00 ∷ 0x01 ∷ 0x61 ∷ 0x01 ∷ 0x01 ∷ 0x00 ∷ 0x01 ∷ 0x00 ∷ 0x01 ∷ 0x00 ∷ 0x14 ∷ 0x02 ∷ 0x0C ∷ 0x0D ∷ 0x01 ∷ 0x0D ∷ 0x01 ∷ 0x01 ∷ 0x23 ∷ 0xAB ∷ 0xCD ∷ 0x01 ∷ 0x23 ∷ 0x45 ∷ 0x67 ∷ 0x89 ∷ 0xAB ∷ 0xCD ∷ 0xEF ∷ [])) ×
+    (build 400 16384 (ascii "pair\t1\t1\nstr\t61\ntype\t1\t0\t-\t1\t1\nnew\t20,2,12,13\t1\nval\t1\t0123abc\t0123456789abcdef\n") ≡ refused 20) ×
+    (build 400 16384 (ascii "pair\t1\t1\nstr\t61\ntype\t1\t0\t-\t1\t1\nnew\t20,2,12,13\t1\nval\t1\t0123abcd\t0123456789abcdeF\n") ≡ refused 20) ×
+    (build 400 16384 (ascii "pair\t1\t1\nstr\t61\ntype\t1\t0\t-\t1\t1\nnew\t20,2,11,5\t1\nval\t1\t-1\t1\t1\n") ≡ done (0x01 ∷ 0x00 ∷ 0x00 ∷ 0x00 ∷ 0x01 ∷ 0x61 ∷ 0x01 ∷ 0x01 ∷ 0x00 ∷ 0x01 ∷ 0x00 ∷ 0x01 ∷ 0x00 ∷ 0x14 ∷ 0x02 ∷ 0x0B ∷ 0x05 ∷ 0x01 ∷ 0x0C ∷ 0x01 ∷ 0xFF ∷ 0xFF ∷ 0xFF ∷ 0xFF ∷ 0xFF ∷ 0xFF ∷ 0xFF ∷ 0xFF ∷ 0xFF ∷ 0x01 ∷ 0x01 ∷ [])) ×
+    (build 400 16384 (ascii "pair\t1\t1\nstr\t61\ntype\t1\t0\t-\t1\t1\nnew\t20,2,11,5\t1\nval\t1\t-1\t1\n") ≡ refused 20) ×
+    (build 400 16384 (ascii "pair\t1\t1\nstr\t61\ntype\t1\t0\t-\t1\t1\nnew\t20,2,11,5\t1\nval\t1\t-1\t1\t0\n") ≡ refused 20) ×
+    (build 400 16384 (ascii "pair\t1\t1\nstr\t61\ntype\t1\t0\t-\t1\t1\nnew\t20,2,11,5\t1\nval\t1\t-1\t0\t1\n") ≡ refused 20) ×
+    (build 400 16384 (ascii "pair\t1\t1\nstr\t61\ntype\t1\t0\t-\t1\t1\nnew\t20,2,11,5\t1\nval\t1\t-1\t0\t0\t0\n") ≡ refused 20)
+unfolding whole
+maps-built = (refl, refl, refl, refl, refl, refl, refl, refl, refl, refl, refl, refl, refl, refl, refl, refl, refl, refl, refl, refl, refl, refl, refl, refl, refl, refl, refl, refl, refl, refl, refl, refl, refl, refl, refl, refl, refl, refl, refl, refl, refl, refl, refl, refl, refl, refl, refl, refl, refl, refl, refl, refl, refl, refl, refl, refl, refl, refl, refl, refl, refl, refl, refl, refl, refl, refl, refl, refl, refl, refl)
+
+-- the number of types and as many element kinds, each with a value
+map-kinds-built :
+    (build 400 16384 (ascii "pair\t1\t1\nstr\t61\ntype\t1\t0\t-\t1\t1\nnew\t20,2,14,14\t1\nval\t0\n") ≡ done (0x01 ∷ 0x00 ∷ 0x00 ∷ 0x00 ∷ 0x01 ∷ 0x61 ∷ 0x01 ∷ 0x01 ∷ 0x00 ∷ 0x01 ∷ 0x00 ∷ 0x01 ∷ 0x00 ∷ 0x14 ∷ 0x02 ∷ 0x0E ∷ 0x0E ∷ 0x01 ∷ 0x01 ∷ 0x00 ∷ [])) ×
+    (build 400 16384 (ascii "pair\t1\t1\nstr\t61\ntype\t1\t0\t-\t1\t1\nnew\t20,2,5,32\t1\nval\t0\n") ≡ done (0x01 ∷ 0x00 ∷ 0x00 ∷ 0x00 ∷ 0x01 ∷ 0x61 ∷ 0x01 ∷ 0x01 ∷ 0x00 ∷ 0x01 ∷ 0x00 ∷ 0x01 ∷ 0x00 ∷ 0x14 ∷ 0x02 ∷ 0x05 ∷ 0x20 ∷ 0x01 ∷ 0x01 ∷ 0x00 ∷ [])) ×
+    (build 400 16384 (ascii "pair\t1\t1\nstr\t61\ntype\t1\t0\t-\t1\t1\nnew\t20,8,5,6,7,8,9,10,11,12\t1\nval\t0\n") ≡ done (0x01 ∷ 0x00 ∷ 0x00 ∷ 0x00 ∷ 0x01 ∷ 0x61 ∷ 0x01 ∷ 0x01 ∷ 0x00 ∷ 0x01 ∷ 0x00 ∷ 0x01 ∷ 0x00 ∷ 0x14 ∷ 0x08 ∷ 0x05 ∷ 0x06 ∷ 0x07 ∷ 0x08 ∷ 0x09 ∷ 0x0A ∷ 0x0B ∷ 0x0C ∷ 0x01 ∷ 0x01 ∷ 0x00 ∷ [])) ×
+    (build 400 16384 (ascii "pair\t1\t1\nstr\t61\ntype\t1\t0\t-\t1\t1\nnew\t20,8,6,6,6,6,6,6,6\t1\nval\t0\n") ≡ refused 20) ×
+    (build 400 16384 (ascii "pair\t1\t1\nstr\t61\ntype\t1\t0\t-\t1\t1\nnew\t20,9,6,6,6,6,6,6,6,6,6\t1\nval\t0\n") ≡ refused 20) ×
+    (build 400 16384 (ascii "pair\t1\t1\nstr\t61\ntype\t1\t0\t-\t1\t1\nnew\t20,2\t1\nval\t0\n") ≡ refused 20) ×
+    (build 400 16384 (ascii "pair\t1\t1\nstr\t61\ntype\t1\t0\t-\t1\t1\nnew\t20,2,\t1\nval\t0\n") ≡ refused 20) ×
+    (build 400 16384 (ascii "pair\t1\t1\nstr\t61\ntype\t1\t0\t-\t1\t1\nnew\t20,2,14\t1\nval\t0\n") ≡ refused 20) ×
+    (build 400 16384 (ascii "pair\t1\t1\nstr\t61\ntype\t1\t0\t-\t1\t1\nnew\t20,2,14,\t1\nval\t0\n") ≡ refused 20) ×
+    (build 400 16384 (ascii "pair\t1\t1\nstr\t61\ntype\t1\t0\t-\t1\t1\nnew\t20,2,14,14,\t1\nval\t0\n") ≡ refused 20) ×
+    (build 400 16384 (ascii "pair\t1\t1\nstr\t61\ntype\t1\t0\t-\t1\t1\nnew\t20,2,14,14,14\t1\nval\t0\n") ≡ refused 20) ×
+    (build 400 16384 (ascii "pair\t1\t1\nstr\t61\ntype\t1\t0\t-\t1\t1\nnew\t20,2,,14\t1\nval\t0\n") ≡ refused 20) ×
+    (build 400 16384 (ascii "pair\t1\t1\nstr\t61\ntype\t1\t0\t-\t1\t1\nnew\t20,14,14\t1\nval\t0\n") ≡ refused 20) ×
+    (build 400 16384 (ascii "pair\t1\t1\nstr\t61\ntype\t1\t0\t-\t1\t1\nnew\t20,0\t1\nval\t0\n") ≡ refused 20) ×
+    (build 400 16384 (ascii "pair\t1\t1\nstr\t61\ntype\t1\t0\t-\t1\t1\nnew\t20,1,14\t1\nval\t0\n") ≡ refused 20) ×
+    (build 400 16384 (ascii "pair\t1\t1\nstr\t61\ntype\t1\t0\t-\t1\t1\nnew\t20,1,14,14\t1\nval\t0\n") ≡ refused 20) ×
+    (build 400 16384 (ascii "pair\t1\t1\nstr\t61\ntype\t1\t0\t-\t1\t1\nnew\t20,3,14,14\t1\nval\t0\n") ≡ refused 20) ×
+    (build 400 16384 (ascii "pair\t1\t1\nstr\t61\ntype\t1\t0\t-\t1\t1\nnew\t20,02,14,14\t1\nval\t0\n") ≡ refused 20) ×
+    (build 400 16384 (ascii "pair\t1\t1\nstr\t61\ntype\t1\t0\t-\t1\t1\nnew\t20,2,014,14\t1\nval\t0\n") ≡ refused 20) ×
+    (build 400 16384 (ascii "pair\t1\t1\nstr\t61\ntype\t1\t0\t-\t1\t1\nnew\t20,-2,14,14\t1\nval\t0\n") ≡ refused 20) ×
+    (build 400 16384 (ascii "pair\t1\t1\nstr\t61\ntype\t1\t0\t-\t1\t1\nnew\t20,2,4,14\t1\nval\t0\n") ≡ refused 20) ×
+    (build 400 16384 (ascii "pair\t1\t1\nstr\t61\ntype\t1\t0\t-\t1\t1\nnew\t20,2,14,15\t1\nval\t0\n") ≡ refused 20) ×
+    (build 400 16384 (ascii "pair\t1\t1\nstr\t61\ntype\t1\t0\t-\t1\t1\nnew\t20,2,16,14\t1\nval\t0\n") ≡ refused 20) ×
+    (build 400 16384 (ascii "pair\t1\t1\nstr\t61\ntype\t1\t0\t-\t1\t1\nnew\t20,2,14,17\t1\nval\t0\n") ≡ refused 20) ×
+    (build 400 16384 (ascii "pair\t1\t1\nstr\t61\ntype\t1\t0\t-\t1\t1\nnew\t20,2,20,14\t1\nval\t0\n") ≡ refused 20) ×
+    (build 400 16384 (ascii "pair\t1\t1\nstr\t61\ntype\t1\t0\t-\t1\t1\nnew\t20,2,14,21\t1\nval\t0\n") ≡ refused 20) ×
+    (build 400 16384 (ascii "pair\t1\t1\nstr\t61\ntype\t1\t0\t-\t1\t1\nnew\t20,2,31,14\t1\nval\t0\n") ≡ refused 20) ×
+    (build 400 16384 (ascii "pair\t1\t1\nstr\t61\ntype\t1\t0\t-\t1\t1\nnew\t20,2,14,33\t1\nval\t0\n") ≡ refused 20) ×
+    (build 400 16384 (ascii "pair\t1\t1\nstr\t61\ntype\t1\t0\t-\t1\t1\nnew\t20,2,33,14\t1\nval\t0\n") ≡ refused 20) ×
+    (build 400 16384 (ascii "pair\t1\t1\nstr\t61\ntype\t1\t0\t-\t1\t1\nnew\t20,2,14,18446744073709551615\t1\nval\t0\n") ≡ refused 20) ×
+    (build 400 16384 (ascii "pair\t1\t1\nstr\t61\ntype\t1\t0\t-\t1\t1\nnew\t20,2,14,18446744073709551630\t1\nval\t0\n") ≡ refused 20) ×
+    (build 400 16384 (ascii "pair\t1\t1\nstr\t61\ntype\t1\t0\t-\t1\t1\nnew\t20,18446744073709551618,14,14\t1\nval\t0\n") ≡ refused 20) ×
+    (build 400 16384 (ascii "pair\t1\t1\nstr\t61\ntype\t1\t0\t-\t1\t1\nnew\t17,20\t1\nval\t0\n") ≡ refused 20) ×
+    (build 400 16384 (ascii "pair\t1\t1\nstr\t61\ntype\t1\t0\t-\t1\t1\nnew\t15,0,20\t1\nval\t0\n") ≡ refused 20) ×
+    (build 400 16384 (ascii "pair\t1\t1\nstr\t61\ntype\t1\t0\t-\t1\t1\nnew\t20,2,14,14\t1\nval\n") ≡ refused 20)
+unfolding whole
+map-kinds-built = (refl, refl, refl, refl, refl, refl, refl, refl, refl, refl, refl, refl, refl, refl, refl, refl, refl, refl, refl, refl, refl, refl, refl, refl, refl, refl, refl, refl, refl, refl, refl, refl, refl, refl, refl)
+
+-- a size of more than a byte
+map-of-130-built :
+    (build 400 16384 ((ascii "pair\t1\t1\nstr\t61\ntype\t1\t0\t-\t1\t1\nnew\t20,2,7,6\t1\nval\t130") ++ (again 130 (ascii "\t5\t0")) ++ (ascii "\n")) ≡ done (0x01 ∷ 0x00 ∷ 0x00 ∷ 0x00 ∷ 0x01 ∷ 0x61 ∷ 0x01 ∷ 0x01 ∷ 0x00 ∷ 0x01 ∷ 0x00 ∷ 0x01 ∷ 0x00 ∷ 0x14 ∷ 0x02 ∷ 0x07 ∷ 0x06 ∷ 0x01 ∷ 0x86 ∷ 0x02 ∷ 0x82 ∷ 0x01 ∷ 0x05 ∷ 0x00 ∷ 0x05 ∷ 0x00 ∷ 0x05 ∷ 0x00 ∷ 0x05 ∷ 0x00 ∷ 0x05 ∷ 0x00 ∷ 0x05 ∷ 0x00 ∷ 0x05 ∷ 0x00 ∷ 0x05 ∷ 0x00 ∷ 0x05 ∷ 0x00 ∷ 0x05 ∷ 0x00 ∷ 0x05 ∷ 0x00 ∷ 0x05 ∷ 0x00 ∷ 0x05 ∷ 0x00 ∷ 0x05 ∷ 0x00 ∷ 0x05 ∷ 0x00 ∷ 0x05 ∷ 0x00 ∷ 0x05 ∷ 0x00 ∷ 0x05 ∷ 0x00 ∷ 0x05 ∷ 0x00 ∷ 0x05 ∷ 0x00 ∷ 0x05 ∷ 0x00 ∷ 0x05 ∷ 0x00 ∷ 0x05 ∷ 0x00 ∷ 0x05 ∷ 0x00 ∷ 0x05 ∷ 0x00 ∷ 0x05 ∷ 0x00 ∷ 0x05 ∷ 0x00 ∷ 0x05 ∷ 0x00 ∷ 0x05 ∷ 0x00 ∷ 0x05 ∷ 0x00 ∷ 0x05 ∷ 0x00 ∷ 0x05 ∷ 0x00 ∷ 0x05 ∷ 0x00 ∷ 0x05 ∷ 0x00 ∷ 0x05 ∷ 0x00 ∷ 0x05 ∷ 0x00 ∷ 0x05 ∷ 0x00 ∷ 0x05 ∷ 0x00 ∷ 0x05 ∷ 0x00 ∷ 0x05 ∷ 0x00 ∷ 0x05 ∷ 0x00 ∷ 0x05 ∷ 0x00 ∷ 0x05 ∷ 0x00 ∷ 0x05 ∷ 0x00 ∷ 0x05 ∷ 0x00 ∷ 0x05 ∷ 0x00 ∷ 0x05 ∷ 0x00 ∷ 0x05 ∷ 0x00 ∷ 0x05 ∷ 0x00 ∷ 0x05 ∷ 0x00 ∷ 0x05 ∷ 0x00 ∷ 0x05 ∷ 0x00 ∷ 0x05 ∷ 0x00 ∷ 0x05 ∷ 0x00 ∷ 0x05 ∷ 0x00 ∷ 0x05 ∷ 0x00 ∷ 0x05 ∷ 0x00 ∷ 0x05 ∷ 0x00 ∷ 0x05 ∷ 0x00 ∷ 0x05 ∷ 0x00 ∷ 0x05 ∷ 0x00 ∷ 0x05 ∷ 0x00 ∷ 0x05 ∷ 0x00 ∷ 0x05 ∷ 0x00 ∷ 0x05 ∷ 0x00 ∷ 0x05 ∷ 0x00 ∷ 0x05 ∷ 0x00 ∷ 0x05 ∷ 0x00 ∷ 0x05 ∷ 0x00 ∷ 0x05 ∷ 0x00 ∷ 0x05 ∷ 0x00 ∷ 0x05 ∷ 0x00 ∷ 0x05 ∷ 0x00 ∷ 0x05 ∷ 0x00 ∷ 0x05 ∷ 0x00 ∷ 0x05 ∷ 0x00 ∷ 0x05 ∷ 0x00 ∷ 0x05 ∷ 0x00 ∷ 0x05 ∷ 0x00 ∷ 0x05 ∷ 0x00 ∷ 0x05 ∷ 0x00 ∷ 0x05 ∷ 0x00 ∷ 0x05 ∷ 0x00 ∷ 0x05 ∷ 0x00 ∷ 0x05 ∷ 0x00 ∷ 0x05 ∷ 0x00 ∷ 0x05 ∷ 0x00 ∷ 0x05 ∷ 0x00 ∷ 0x05 ∷ 0x00 ∷ 0x05 ∷ 0x00 ∷ 0x05 ∷ 0x00 ∷ 0x05 ∷ 0x00 ∷ 0x05 ∷ 0x00 ∷ 0x05 ∷ 0x00 ∷ 0x05 ∷ 0x00 ∷ 0x05 ∷ 0x00 ∷ 0x05 ∷ 0x00 ∷ 0x05 ∷ 0x00 ∷ 0x05 ∷ 0x00 ∷ 0x05 ∷ 0x00 ∷ 0x05 ∷ 0x00 ∷ 0x05 ∷ 0x00 ∷ 0x05 ∷ 0x00 ∷ 0x05 ∷ 0x00 ∷ 0x05 ∷ 0x00 ∷ 0x05 ∷ 0x00 ∷ 0x05 ∷ 0x00 ∷ 0x05 ∷ 0x00 ∷ 0x05 ∷ 0x00 ∷ 0x05 ∷ 0x00 ∷ 0x05 ∷ 0x00 ∷ 0x05 ∷ 0x00 ∷ 0x05 ∷ 0x00 ∷ 0x05 ∷ 0x00 ∷ 0x05 ∷ 0x00 ∷ 0x05 ∷ 0x00 ∷ 0x05 ∷ 0x00 ∷ 0x05 ∷ 0x00 ∷ 0x05 ∷ 0x00 ∷ 0x05 ∷ 0x00 ∷ 0x05 ∷ 0x00 ∷ 0x05 ∷ 0x00 ∷ 0x05 ∷ 0x00 ∷ 0x05 ∷ 0x00 ∷ 0x05 ∷ 0x00 ∷ 0x05 ∷ 0x00 ∷ 0x05 ∷ 0x00 ∷ 0x05 ∷ 0x00 ∷ 0x05 ∷ 0x00 ∷ 0x05 ∷ 0x00 ∷ []))
+unfolding whole
+map-of-130-built = refl
 
 -- names, super types, starts and counts
 heads-built :
@@ -966,11 +1303,28 @@ reach-built :
     (build 400 16384 (ascii "pair\t1\t1\nstr\t61\ntype\t1\t0\t-\t1\t1\nnew\t14\t1\nval\t2\npair\t1\t1\nstr\t62\ntype\t1\t-\t-\t1\t1\nold\nval\t2\n") ≡ refused 20) ×
     (build 400 16384 (ascii "pair\t2\t2\nstr\t61\nstr\t62\ntype\t1\t0\t-\t3\t1\nnew\t33\t1\ntype\t2\t1\t1\t1\t0\nval\t2\nval\t0\nval\t2\n") ≡ done (0x02 ∷ 0x00 ∷ 0x00 ∷ 0x00 ∷ 0x01 ∷ 0x00 ∷ 0x00 ∷ 0x00 ∷ 0x02 ∷ 0x61 ∷ 0x62 ∷ 0x02 ∷ 0x01 ∷ 0x00 ∷ 0x03 ∷ 0x00 ∷ 0x01 ∷ 0x00 ∷ 0x21 ∷ 0x01 ∷ 0x03 ∷ 0x02 ∷ 0x01 ∷ 0x01 ∷ 0x01 ∷ 0x00 ∷ 0x00 ∷ 0x02 ∷ 0x00 ∷ 0x02 ∷ [])) ×
     (build 400 16384 (ascii "pair\t2\t2\nstr\t61\nstr\t62\ntype\t1\t0\t-\t3\t1\nnew\t33\t1\ntype\t2\t1\t1\t1\t0\nval\t2\nval\t0\nval\t1\n") ≡ refused 20) ×
+    (build 400 16384 (ascii "pair\t2\t2\nstr\t61\nstr\t62\ntype\t1\t0\t-\t1\t1\nnew\t5\t1\ntype\t2\t0\t-\t2\t0\nval\t2\t2\n") ≡ done (0x02 ∷ 0x00 ∷ 0x00 ∷ 0x00 ∷ 0x01 ∷ 0x00 ∷ 0x00 ∷ 0x00 ∷ 0x02 ∷ 0x61 ∷ 0x62 ∷ 0x02 ∷ 0x01 ∷ 0x00 ∷ 0x01 ∷ 0x00 ∷ 0x01 ∷ 0x00 ∷ 0x05 ∷ 0x01 ∷ 0x02 ∷ 0x02 ∷ 0x00 ∷ 0x02 ∷ 0x00 ∷ 0x00 ∷ 0x02 ∷ 0x02 ∷ [])) ×
+    (build 400 16384 (ascii "pair\t2\t2\nstr\t61\nstr\t62\ntype\t1\t0\t-\t1\t1\nnew\t5\t1\ntype\t2\t0\t-\t2\t0\nval\t2\t3\n") ≡ refused 20) ×
+    (build 400 16384 (ascii "pair\t2\t2\nstr\t61\nstr\t62\ntype\t1\t0\t-\t1\t1\nnew\t5\t1\ntype\t2\t1\t0\t1\t0\nval\t1\t1\n") ≡ done (0x02 ∷ 0x00 ∷ 0x00 ∷ 0x00 ∷ 0x01 ∷ 0x00 ∷ 0x00 ∷ 0x00 ∷ 0x02 ∷ 0x61 ∷ 0x62 ∷ 0x02 ∷ 0x01 ∷ 0x00 ∷ 0x01 ∷ 0x00 ∷ 0x01 ∷ 0x00 ∷ 0x05 ∷ 0x01 ∷ 0x02 ∷ 0x02 ∷ 0x01 ∷ 0x00 ∷ 0x01 ∷ 0x00 ∷ 0x00 ∷ 0x01 ∷ 0x01 ∷ [])) ×
+    (build 400 16384 (ascii "pair\t2\t2\nstr\t61\nstr\t62\ntype\t1\t0\t-\t1\t1\nnew\t5\t1\ntype\t2\t1\t0\t1\t0\nval\t2\t1\n") ≡ refused 20) ×
+    (build 400 16384 (ascii "pair\t2\t1\nstr\t61\nstr\t62\ntype\t1\t0\t-\t1\t1\nnew\t5\t1\nval\t2\t1\npair\t0\t1\ntype\t2\t0\t-\t1\t0\n") ≡ refused 20) ×
+    (build 400 16384 (ascii "pair\t2\t1\nstr\t61\nstr\t62\ntype\t2\t0\t-\t1\t0\npair\t0\t1\ntype\t1\t0\t-\t1\t1\nnew\t5\t1\nval\t2\t1\n") ≡ done (0x02 ∷ 0x00 ∷ 0x00 ∷ 0x00 ∷ 0x01 ∷ 0x00 ∷ 0x00 ∷ 0x00 ∷ 0x02 ∷ 0x61 ∷ 0x62 ∷ 0x01 ∷ 0x02 ∷ 0x00 ∷ 0x01 ∷ 0x00 ∷ 0x00 ∷ 0x00 ∷ 0x01 ∷ 0x01 ∷ 0x00 ∷ 0x01 ∷ 0x00 ∷ 0x01 ∷ 0x00 ∷ 0x05 ∷ 0x01 ∷ 0x02 ∷ 0x02 ∷ 0x01 ∷ [])) ×
+    (build 400 16384 (ascii "pair\t2\t1\nstr\t61\nstr\t61\ntype\t1\t0\t-\t1\t1\nnew\t5\t1\nval\t2\t1\n") ≡ done (0x02 ∷ 0x00 ∷ 0x00 ∷ 0x00 ∷ 0x01 ∷ 0x00 ∷ 0x00 ∷ 0x00 ∷ 0x02 ∷ 0x61 ∷ 0x61 ∷ 0x01 ∷ 0x01 ∷ 0x00 ∷ 0x01 ∷ 0x00 ∷ 0x01 ∷ 0x00 ∷ 0x05 ∷ 0x01 ∷ 0x02 ∷ 0x02 ∷ 0x01 ∷ [])) ×
+    (build 400 16384 (ascii "pair\t1\t1\nstr\t61\ntype\t1\t0\t-\t1\t1\nnew\t5\t1\nval\t2\t1\npair\t1\t0\nstr\t61\n") ≡ refused 20) ×
+    (build 400 16384 (ascii "pair\t1\t1\nstr\t61\ntype\t1\t0\t-\t1\t1\nnew\t5\t1\nval\t0\t0\npair\t1\t1\nstr\t61\ntype\t2\t-\t-\t1\t1\nold\nval\t2\t2\n") ≡ done (0x01 ∷ 0x00 ∷ 0x00 ∷ 0x00 ∷ 0x01 ∷ 0x61 ∷ 0x01 ∷ 0x01 ∷ 0x00 ∷ 0x01 ∷ 0x00 ∷ 0x01 ∷ 0x00 ∷ 0x05 ∷ 0x01 ∷ 0x02 ∷ 0x00 ∷ 0x00 ∷ 0x01 ∷ 0x00 ∷ 0x00 ∷ 0x00 ∷ 0x01 ∷ 0x61 ∷ 0x01 ∷ 0x02 ∷ 0x01 ∷ 0x01 ∷ 0x02 ∷ 0x02 ∷ 0x02 ∷ [])) ×
+    (build 400 16384 (ascii "pair\t1\t1\nstr\t61\ntype\t1\t0\t-\t1\t1\nnew\t5\t1\nval\t1\t2\npair\t1\t1\nstr\t61\ntype\t2\t-\t-\t1\t1\nold\nval\t2\t2\n") ≡ refused 20) ×
+    (build 400 16384 (ascii "pair\t1\t1\nstr\t61\ntype\t1\t0\t-\t200\t0\npair\t1\t1\nstr\t62\ntype\t2\t0\t-\t1\t1\nnew\t5\t2\nval\t1\t200\n") ≡ done (0x01 ∷ 0x00 ∷ 0x00 ∷ 0x00 ∷ 0x01 ∷ 0x61 ∷ 0x01 ∷ 0x01 ∷ 0x00 ∷ 0xC8 ∷ 0x01 ∷ 0x00 ∷ 0x00 ∷ 0x01 ∷ 0x00 ∷ 0x00 ∷ 0x00 ∷ 0x01 ∷ 0x62 ∷ 0x01 ∷ 0x02 ∷ 0x00 ∷ 0x01 ∷ 0x00 ∷ 0x01 ∷ 0x00 ∷ 0x05 ∷ 0x02 ∷ 0x03 ∷ 0x01 ∷ 0xC8 ∷ 0x01 ∷ [])) ×
+    (build 400 16384 (ascii "pair\t1\t1\nstr\t61\ntype\t1\t0\t-\t200\t0\npair\t1\t1\nstr\t62\ntype\t2\t0\t-\t1\t1\nnew\t5\t2\nval\t1\t201\n") ≡ refused 20) ×
+    (build 400 16384 (ascii "pair\t2\t2\nstr\t61\nstr\t62\ntype\t1\t0\t-\t1\t1\nnew\t20,2,33,5\t1\ntype\t2\t0\t-\t1\t0\nval\t1\t1\t2\t1\n") ≡ done (0x02 ∷ 0x00 ∷ 0x00 ∷ 0x00 ∷ 0x01 ∷ 0x00 ∷ 0x00 ∷ 0x00 ∷ 0x02 ∷ 0x61 ∷ 0x62 ∷ 0x02 ∷ 0x01 ∷ 0x00 ∷ 0x01 ∷ 0x00 ∷ 0x01 ∷ 0x00 ∷ 0x14 ∷ 0x02 ∷ 0x21 ∷ 0x05 ∷ 0x01 ∷ 0x04 ∷ 0x02 ∷ 0x00 ∷ 0x01 ∷ 0x00 ∷ 0x00 ∷ 0x01 ∷ 0x01 ∷ 0x02 ∷ 0x01 ∷ [])) ×
+    (build 400 16384 (ascii "pair\t2\t1\nstr\t61\nstr\t62\ntype\t1\t0\t-\t1\t1\nnew\t20,2,33,5\t1\nval\t0\npair\t0\t1\ntype\t2\t0\t-\t1\t0\n") ≡ refused 20) ×
+    (build 400 16384 (ascii "pair\t1\t1\nstr\t61\ntype\t1\t0\t-\t1\t1\nnew\t20,2,6,32\t1\nval\t0\npair\t0\t1\ntype\t1\t-\t-\t1\t1\nold\nval\t1\t0\t2\n") ≡ done (0x01 ∷ 0x00 ∷ 0x00 ∷ 0x00 ∷ 0x01 ∷ 0x61 ∷ 0x01 ∷ 0x01 ∷ 0x00 ∷ 0x01 ∷ 0x00 ∷ 0x01 ∷ 0x00 ∷ 0x14 ∷ 0x02 ∷ 0x06 ∷ 0x20 ∷ 0x01 ∷ 0x01 ∷ 0x00 ∷ 0x00 ∷ 0x01 ∷ 0x01 ∷ 0x01 ∷ 0x01 ∷ 0x03 ∷ 0x01 ∷ 0x00 ∷ 0x02 ∷ [])) ×
+    (build 400 16384 (ascii "pair\t1\t1\nstr\t61\ntype\t1\t0\t-\t1\t1\nnew\t20,2,6,32\t1\nval\t1\t0\t2\npair\t0\t1\ntype\t1\t-\t-\t1\t1\nold\nval\t0\n") ≡ refused 20) ×
+    (build 400 16384 (ascii "pair\t1\t1\nstr\t61\ntype\t1\t0\t-\t1\t1\nnew\t20,2,6,7\t1\nval\t2\t0\t5\nval\t1\t6\n") ≡ refused 20) ×
     (build 400 16384 (ascii "pair\t1\t1\nstr\t61\ntype\t1\t0\t-\t1\t0\npair\t1\t1\nstr\t62\ntype\t2\t1\t0\t0\t0\n") ≡ done (0x01 ∷ 0x00 ∷ 0x00 ∷ 0x00 ∷ 0x01 ∷ 0x61 ∷ 0x01 ∷ 0x01 ∷ 0x00 ∷ 0x01 ∷ 0x00 ∷ 0x00 ∷ 0x01 ∷ 0x00 ∷ 0x00 ∷ 0x00 ∷ 0x01 ∷ 0x62 ∷ 0x01 ∷ 0x02 ∷ 0x01 ∷ 0x00 ∷ 0x00 ∷ 0x00 ∷ 0x00 ∷ [])) ×
     (build 400 16384 (ascii "pair\t1\t0\nstr\t61\npair\t0\t1\ntype\t1\t0\t-\t0\t0\n") ≡ done (0x01 ∷ 0x00 ∷ 0x00 ∷ 0x00 ∷ 0x01 ∷ 0x61 ∷ 0x00 ∷ 0x00 ∷ 0x01 ∷ 0x01 ∷ 0x00 ∷ 0x00 ∷ 0x00 ∷ 0x00 ∷ [])) ×
     (build 400 16384 (ascii "pair\t0\t1\ntype\t1\t0\t-\t0\t0\npair\t1\t0\nstr\t61\n") ≡ refused 20)
 unfolding whole
-reach-built = (refl, refl, refl, refl, refl, refl, refl, refl, refl, refl, refl, refl, refl, refl)
+reach-built = (refl, refl, refl, refl, refl, refl, refl, refl, refl, refl, refl, refl, refl, refl, refl, refl, refl, refl, refl, refl, refl, refl, refl, refl, refl, refl, refl, refl, refl, refl, refl)
 
 -- what stands before, behind and between lines
 whole-built :
@@ -1058,9 +1412,38 @@ separators-built :
     (build 400 16384 (ascii "pair\t3\t2\nstr\t6162\nstr\t63\nstr\t\ntype\t1\t0\t-\t1\t3\nnew\t15,2,8\t1\nnew\t4,-12\t2\nnew\t12\t3\ntype\t2\t1\t0\t1\t1\nnew\t17,11\t1\nval\t1\t-1\nval\t0a1b2c3d val\t10\t20\n") ≡ refused 20) ×
     (build 400 16384 (ascii "pair\t3\t2\nstr\t6162\nstr\t63\nstr\t\ntype\t1\t0\t-\t1\t3\nnew\t15,2,8\t1\nnew\t4,-12\t2\nnew\t12\t3\ntype\t2\t1\t0\t1\t1\nnew\t17,11\t1\nval\t1\t-1\nval\t0a1b2c3d\nval 10\t20\n") ≡ refused 20) ×
     (build 400 16384 (ascii "pair\t3\t2\nstr\t6162\nstr\t63\nstr\t\ntype\t1\t0\t-\t1\t3\nnew\t15,2,8\t1\nnew\t4,-12\t2\nnew\t12\t3\ntype\t2\t1\t0\t1\t1\nnew\t17,11\t1\nval\t1\t-1\nval\t0a1b2c3d\nval\t10 20\n") ≡ refused 20) ×
-    (build 400 16384 (ascii "pair\t3\t2\nstr\t6162\nstr\t63\nstr\t\ntype\t1\t0\t-\t1\t3\nnew\t15,2,8\t1\nnew\t4,-12\t2\nnew\t12\t3\ntype\t2\t1\t0\t1\t1\nnew\t17,11\t1\nval\t1\t-1\nval\t0a1b2c3d\nval\t10\t20 ") ≡ refused 20)
+    (build 400 16384 (ascii "pair\t3\t2\nstr\t6162\nstr\t63\nstr\t\ntype\t1\t0\t-\t1\t3\nnew\t15,2,8\t1\nnew\t4,-12\t2\nnew\t12\t3\ntype\t2\t1\t0\t1\t1\nnew\t17,11\t1\nval\t1\t-1\nval\t0a1b2c3d\nval\t10\t20 ") ≡ refused 20) ×
+    (build 400 16384 (ascii "pair\t1\t1\nstr\t61\ntype\t1\t0\t-\t1\t1\nnew\t20,3,14,7,5\t1\nval\t1\t0\t2\t5\t0\t0\t-5\t1\t1\n") ≡ done (0x01 ∷ 0x00 ∷ 0x00 ∷ 0x00 ∷ 0x01 ∷ 0x61 ∷ 0x01 ∷ 0x01 ∷ 0x00 ∷ 0x01 ∷ 0x00 ∷ 0x01 ∷ 0x00 ∷ 0x14 ∷ 0x03 ∷ 0x0E ∷ 0x07 ∷ 0x05 ∷ 0x01 ∷ 0x09 ∷ 0x01 ∷ 0x00 ∷ 0x02 ∷ 0x05 ∷ 0x00 ∷ 0x00 ∷ 0xFB ∷ 0x01 ∷ 0x01 ∷ [])) ×
+    (build 400 16384 (ascii "pair 1\t1\nstr\t61\ntype\t1\t0\t-\t1\t1\nnew\t20,3,14,7,5\t1\nval\t1\t0\t2\t5\t0\t0\t-5\t1\t1\n") ≡ refused 20) ×
+    (build 400 16384 (ascii "pair\t1 1\nstr\t61\ntype\t1\t0\t-\t1\t1\nnew\t20,3,14,7,5\t1\nval\t1\t0\t2\t5\t0\t0\t-5\t1\t1\n") ≡ refused 20) ×
+    (build 400 16384 (ascii "pair\t1\t1 str\t61\ntype\t1\t0\t-\t1\t1\nnew\t20,3,14,7,5\t1\nval\t1\t0\t2\t5\t0\t0\t-5\t1\t1\n") ≡ refused 20) ×
+    (build 400 16384 (ascii "pair\t1\t1\nstr 61\ntype\t1\t0\t-\t1\t1\nnew\t20,3,14,7,5\t1\nval\t1\t0\t2\t5\t0\t0\t-5\t1\t1\n") ≡ refused 20) ×
+    (build 400 16384 (ascii "pair\t1\t1\nstr\t61 type\t1\t0\t-\t1\t1\nnew\t20,3,14,7,5\t1\nval\t1\t0\t2\t5\t0\t0\t-5\t1\t1\n") ≡ refused 20) ×
+    (build 400 16384 (ascii "pair\t1\t1\nstr\t61\ntype 1\t0\t-\t1\t1\nnew\t20,3,14,7,5\t1\nval\t1\t0\t2\t5\t0\t0\t-5\t1\t1\n") ≡ refused 20) ×
+    (build 400 16384 (ascii "pair\t1\t1\nstr\t61\ntype\t1 0\t-\t1\t1\nnew\t20,3,14,7,5\t1\nval\t1\t0\t2\t5\t0\t0\t-5\t1\t1\n") ≡ refused 20) ×
+    (build 400 16384 (ascii "pair\t1\t1\nstr\t61\ntype\t1\t0 -\t1\t1\nnew\t20,3,14,7,5\t1\nval\t1\t0\t2\t5\t0\t0\t-5\t1\t1\n") ≡ refused 20) ×
+    (build 400 16384 (ascii "pair\t1\t1\nstr\t61\ntype\t1\t0\t- 1\t1\nnew\t20,3,14,7,5\t1\nval\t1\t0\t2\t5\t0\t0\t-5\t1\t1\n") ≡ refused 20) ×
+    (build 400 16384 (ascii "pair\t1\t1\nstr\t61\ntype\t1\t0\t-\t1 1\nnew\t20,3,14,7,5\t1\nval\t1\t0\t2\t5\t0\t0\t-5\t1\t1\n") ≡ refused 20) ×
+    (build 400 16384 (ascii "pair\t1\t1\nstr\t61\ntype\t1\t0\t-\t1\t1 new\t20,3,14,7,5\t1\nval\t1\t0\t2\t5\t0\t0\t-5\t1\t1\n") ≡ refused 20) ×
+    (build 400 16384 (ascii "pair\t1\t1\nstr\t61\ntype\t1\t0\t-\t1\t1\nnew 20,3,14,7,5\t1\nval\t1\t0\t2\t5\t0\t0\t-5\t1\t1\n") ≡ refused 20) ×
+    (build 400 16384 (ascii "pair\t1\t1\nstr\t61\ntype\t1\t0\t-\t1\t1\nnew\t20 3,14,7,5\t1\nval\t1\t0\t2\t5\t0\t0\t-5\t1\t1\n") ≡ refused 20) ×
+    (build 400 16384 (ascii "pair\t1\t1\nstr\t61\ntype\t1\t0\t-\t1\t1\nnew\t20,3 14,7,5\t1\nval\t1\t0\t2\t5\t0\t0\t-5\t1\t1\n") ≡ refused 20) ×
+    (build 400 16384 (ascii "pair\t1\t1\nstr\t61\ntype\t1\t0\t-\t1\t1\nnew\t20,3,14 7,5\t1\nval\t1\t0\t2\t5\t0\t0\t-5\t1\t1\n") ≡ refused 20) ×
+    (build 400 16384 (ascii "pair\t1\t1\nstr\t61\ntype\t1\t0\t-\t1\t1\nnew\t20,3,14,7 5\t1\nval\t1\t0\t2\t5\t0\t0\t-5\t1\t1\n") ≡ refused 20) ×
+    (build 400 16384 (ascii "pair\t1\t1\nstr\t61\ntype\t1\t0\t-\t1\t1\nnew\t20,3,14,7,5 1\nval\t1\t0\t2\t5\t0\t0\t-5\t1\t1\n") ≡ refused 20) ×
+    (build 400 16384 (ascii "pair\t1\t1\nstr\t61\ntype\t1\t0\t-\t1\t1\nnew\t20,3,14,7,5\t1 val\t1\t0\t2\t5\t0\t0\t-5\t1\t1\n") ≡ refused 20) ×
+    (build 400 16384 (ascii "pair\t1\t1\nstr\t61\ntype\t1\t0\t-\t1\t1\nnew\t20,3,14,7,5\t1\nval 1\t0\t2\t5\t0\t0\t-5\t1\t1\n") ≡ refused 20) ×
+    (build 400 16384 (ascii "pair\t1\t1\nstr\t61\ntype\t1\t0\t-\t1\t1\nnew\t20,3,14,7,5\t1\nval\t1 0\t2\t5\t0\t0\t-5\t1\t1\n") ≡ refused 20) ×
+    (build 400 16384 (ascii "pair\t1\t1\nstr\t61\ntype\t1\t0\t-\t1\t1\nnew\t20,3,14,7,5\t1\nval\t1\t0 2\t5\t0\t0\t-5\t1\t1\n") ≡ refused 20) ×
+    (build 400 16384 (ascii "pair\t1\t1\nstr\t61\ntype\t1\t0\t-\t1\t1\nnew\t20,3,14,7,5\t1\nval\t1\t0\t2 5\t0\t0\t-5\t1\t1\n") ≡ refused 20) ×
+    (build 400 16384 (ascii "pair\t1\t1\nstr\t61\ntype\t1\t0\t-\t1\t1\nnew\t20,3,14,7,5\t1\nval\t1\t0\t2\t5 0\t0\t-5\t1\t1\n") ≡ refused 20) ×
+    (build 400 16384 (ascii "pair\t1\t1\nstr\t61\ntype\t1\t0\t-\t1\t1\nnew\t20,3,14,7,5\t1\nval\t1\t0\t2\t5\t0 0\t-5\t1\t1\n") ≡ refused 20) ×
+    (build 400 16384 (ascii "pair\t1\t1\nstr\t61\ntype\t1\t0\t-\t1\t1\nnew\t20,3,14,7,5\t1\nval\t1\t0\t2\t5\t0\t0 -5\t1\t1\n") ≡ refused 20) ×
+    (build 400 16384 (ascii "pair\t1\t1\nstr\t61\ntype\t1\t0\t-\t1\t1\nnew\t20,3,14,7,5\t1\nval\t1\t0\t2\t5\t0\t0\t-5 1\t1\n") ≡ refused 20) ×
+    (build 400 16384 (ascii "pair\t1\t1\nstr\t61\ntype\t1\t0\t-\t1\t1\nnew\t20,3,14,7,5\t1\nval\t1\t0\t2\t5\t0\t0\t-5\t1 1\n") ≡ refused 20) ×
+    (build 400 16384 (ascii "pair\t1\t1\nstr\t61\ntype\t1\t0\t-\t1\t1\nnew\t20,3,14,7,5\t1\nval\t1\t0\t2\t5\t0\t0\t-5\t1\t1 ") ≡ refused 20)
 unfolding whole
-separators-built = (refl, refl, refl, refl, refl, refl, refl, refl, refl, refl, refl, refl, refl, refl, refl, refl, refl, refl, refl, refl, refl, refl, refl, refl, refl, refl, refl, refl, refl, refl, refl, refl, refl, refl, refl, refl, refl, refl, refl, refl, refl, refl, refl, refl, refl, refl)
+separators-built = (refl, refl, refl, refl, refl, refl, refl, refl, refl, refl, refl, refl, refl, refl, refl, refl, refl, refl, refl, refl, refl, refl, refl, refl, refl, refl, refl, refl, refl, refl, refl, refl, refl, refl, refl, refl, refl, refl, refl, refl, refl, refl, refl, refl, refl, refl, refl, refl, refl, refl, refl, refl, refl, refl, refl, refl, refl, refl, refl, refl, refl, refl, refl, refl, refl, refl, refl, refl, refl, refl, refl, refl, refl, refl, refl)
 
 -- each byte of a listing left out in turn
 left-out-built :
@@ -1115,9 +1498,34 @@ left-out-built :
     (build 400 16384 (ascii "pair\t1\t1\nstr\t6a\ntype\t1\t0\t-\t1\t1\nnew\t17,11\t1\nval\t1-1\n") ≡ refused 20) ×
     (build 400 16384 (ascii "pair\t1\t1\nstr\t6a\ntype\t1\t0\t-\t1\t1\nnew\t17,11\t1\nval\t1\t1\n") ≡ done (0x01 ∷ 0x00 ∷ 0x00 ∷ 0x00 ∷ 0x01 ∷ 0x6A ∷ 0x01 ∷ 0x01 ∷ 0x00 ∷ 0x01 ∷ 0x00 ∷ 0x01 ∷ 0x00 ∷ 0x11 ∷ 0x0B ∷ 0x01 ∷ 0x03 ∷ 0x02 ∷ 0x01 ∷ 0x01 ∷ [])) ×
     (build 400 16384 (ascii "pair\t1\t1\nstr\t6a\ntype\t1\t0\t-\t1\t1\nnew\t17,11\t1\nval\t1\t-\n") ≡ refused 20) ×
-    (build 400 16384 (ascii "pair\t1\t1\nstr\t6a\ntype\t1\t0\t-\t1\t1\nnew\t17,11\t1\nval\t1\t-1") ≡ refused 20)
+    (build 400 16384 (ascii "pair\t1\t1\nstr\t6a\ntype\t1\t0\t-\t1\t1\nnew\t17,11\t1\nval\t1\t-1") ≡ refused 20) ×
+    (build 400 16384 (ascii "pair\t1\t1\nstr\t6a\ntype\t1\t0\t-\t1\t1\nnew\t0,2,11,5\t1\nval\t1\t-1\t1\t1\n") ≡ refused 20) ×
+    (build 400 16384 (ascii "pair\t1\t1\nstr\t6a\ntype\t1\t0\t-\t1\t1\nnew\t2,2,11,5\t1\nval\t1\t-1\t1\t1\n") ≡ refused 20) ×
+    (build 400 16384 (ascii "pair\t1\t1\nstr\t6a\ntype\t1\t0\t-\t1\t1\nnew\t202,11,5\t1\nval\t1\t-1\t1\t1\n") ≡ refused 20) ×
+    (build 400 16384 (ascii "pair\t1\t1\nstr\t6a\ntype\t1\t0\t-\t1\t1\nnew\t20,,11,5\t1\nval\t1\t-1\t1\t1\n") ≡ refused 20) ×
+    (build 400 16384 (ascii "pair\t1\t1\nstr\t6a\ntype\t1\t0\t-\t1\t1\nnew\t20,211,5\t1\nval\t1\t-1\t1\t1\n") ≡ refused 20) ×
+    (build 400 16384 (ascii "pair\t1\t1\nstr\t6a\ntype\t1\t0\t-\t1\t1\nnew\t20,2,1,5\t1\nval\t1\t-1\t1\t1\n") ≡ refused 20) ×
+    (build 400 16384 (ascii "pair\t1\t1\nstr\t6a\ntype\t1\t0\t-\t1\t1\nnew\t20,2,1,5\t1\nval\t1\t-1\t1\t1\n") ≡ refused 20) ×
+    (build 400 16384 (ascii "pair\t1\t1\nstr\t6a\ntype\t1\t0\t-\t1\t1\nnew\t20,2,115\t1\nval\t1\t-1\t1\t1\n") ≡ refused 20) ×
+    (build 400 16384 (ascii "pair\t1\t1\nstr\t6a\ntype\t1\t0\t-\t1\t1\nnew\t20,2,11,\t1\nval\t1\t-1\t1\t1\n") ≡ refused 20) ×
+    (build 400 16384 (ascii "pair\t1\t1\nstr\t6a\ntype\t1\t0\t-\t1\t1\nnew\t20,2,11,51\nval\t1\t-1\t1\t1\n") ≡ refused 20) ×
+    (build 400 16384 (ascii "pair\t1\t1\nstr\t6a\ntype\t1\t0\t-\t1\t1\nnew\t20,2,11,5\t\nval\t1\t-1\t1\t1\n") ≡ refused 20) ×
+    (build 400 16384 (ascii "pair\t1\t1\nstr\t6a\ntype\t1\t0\t-\t1\t1\nnew\t20,2,11,5\t1val\t1\t-1\t1\t1\n") ≡ refused 20) ×
+    (build 400 16384 (ascii "pair\t1\t1\nstr\t6a\ntype\t1\t0\t-\t1\t1\nnew\t20,2,11,5\t1\nal\t1\t-1\t1\t1\n") ≡ refused 20) ×
+    (build 400 16384 (ascii "pair\t1\t1\nstr\t6a\ntype\t1\t0\t-\t1\t1\nnew\t20,2,11,5\t1\nvl\t1\t-1\t1\t1\n") ≡ refused 20) ×
+    (build 400 16384 (ascii "pair\t1\t1\nstr\t6a\ntype\t1\t0\t-\t1\t1\nnew\t20,2,11,5\t1\nva\t1\t-1\t1\t1\n") ≡ refused 20) ×
+    (build 400 16384 (ascii "pair\t1\t1\nstr\t6a\ntype\t1\t0\t-\t1\t1\nnew\t20,2,11,5\t1\nval1\t-1\t1\t1\n") ≡ refused 20) ×
+    (build 400 16384 (ascii "pair\t1\t1\nstr\t6a\ntype\t1\t0\t-\t1\t1\nnew\t20,2,11,5\t1\nval\t\t-1\t1\t1\n") ≡ refused 20) ×
+    (build 400 16384 (ascii "pair\t1\t1\nstr\t6a\ntype\t1\t0\t-\t1\t1\nnew\t20,2,11,5\t1\nval\t1-1\t1\t1\n") ≡ refused 20) ×
+    (build 400 16384 (ascii "pair\t1\t1\nstr\t6a\ntype\t1\t0\t-\t1\t1\nnew\t20,2,11,5\t1\nval\t1\t1\t1\t1\n") ≡ done (0x01 ∷ 0x00 ∷ 0x00 ∷ 0x00 ∷ 0x01 ∷ 0x6A ∷ 0x01 ∷ 0x01 ∷ 0x00 ∷ 0x01 ∷ 0x00 ∷ 0x01 ∷ 0x00 ∷ 0x14 ∷ 0x02 ∷ 0x0B ∷ 0x05 ∷ 0x01 ∷ 0x04 ∷ 0x01 ∷ 0x01 ∷ 0x01 ∷ 0x01 ∷ [])) ×
+    (build 400 16384 (ascii "pair\t1\t1\nstr\t6a\ntype\t1\t0\t-\t1\t1\nnew\t20,2,11,5\t1\nval\t1\t-\t1\t1\n") ≡ refused 20) ×
+    (build 400 16384 (ascii "pair\t1\t1\nstr\t6a\ntype\t1\t0\t-\t1\t1\nnew\t20,2,11,5\t1\nval\t1\t-11\t1\n") ≡ refused 20) ×
+    (build 400 16384 (ascii "pair\t1\t1\nstr\t6a\ntype\t1\t0\t-\t1\t1\nnew\t20,2,11,5\t1\nval\t1\t-1\t\t1\n") ≡ refused 20) ×
+    (build 400 16384 (ascii "pair\t1\t1\nstr\t6a\ntype\t1\t0\t-\t1\t1\nnew\t20,2,11,5\t1\nval\t1\t-1\t11\n") ≡ refused 20) ×
+    (build 400 16384 (ascii "pair\t1\t1\nstr\t6a\ntype\t1\t0\t-\t1\t1\nnew\t20,2,11,5\t1\nval\t1\t-1\t1\t\n") ≡ refused 20) ×
+    (build 400 16384 (ascii "pair\t1\t1\nstr\t6a\ntype\t1\t0\t-\t1\t1\nnew\t20,2,11,5\t1\nval\t1\t-1\t1\t1") ≡ refused 20)
 unfolding whole
-left-out-built = (refl, refl, refl, refl, refl, refl, refl, refl, refl, refl, refl, refl, refl, refl, refl, refl, refl, refl, refl, refl, refl, refl, refl, refl, refl, refl, refl, refl, refl, refl, refl, refl, refl, refl, refl, refl, refl, refl, refl, refl, refl, refl, refl, refl, refl, refl, refl, refl, refl, refl, refl, refl)
+left-out-built = (refl, refl, refl, refl, refl, refl, refl, refl, refl, refl, refl, refl, refl, refl, refl, refl, refl, refl, refl, refl, refl, refl, refl, refl, refl, refl, refl, refl, refl, refl, refl, refl, refl, refl, refl, refl, refl, refl, refl, refl, refl, refl, refl, refl, refl, refl, refl, refl, refl, refl, refl, refl, refl, refl, refl, refl, refl, refl, refl, refl, refl, refl, refl, refl, refl, refl, refl, refl, refl, refl, refl, refl, refl, refl, refl, refl, refl)
 
 -- a padded number
 abbrev lent-padded : List ℕ
@@ -1168,3 +1576,18 @@ after-build :
     (afterBuild (ascii "pair\t0\t0") (5 ∷ replicate 16382 7 ++ 6 ∷ []) (replicate 25 1 ++ []) ≡ record { answer = refused 20; table = (replicate 16384 0 ++ []); output = (replicate 25 1 ++ []) })
 unfolding whole
 after-build = (refl, refl, refl, refl)
+
+-- a map with an annotation
+abbrev lent-map : List ℕ
+lent-map =
+    0x01 ∷ 0x00 ∷ 0x00 ∷ 0x00 ∷ 0x01 ∷ 0x61 ∷ 0x01 ∷ 0x01 ∷ 0x00 ∷ 0x01 ∷ 0x00 ∷ 0x01 ∷ 0x00 ∷ 0x14 ∷ 0x02 ∷ 0x07 ∷ 0x05 ∷ 0x01 ∷ 0x04 ∷ 0x01 ∷ 0xFF ∷ 0x01 ∷ 0x01 ∷ []
+
+-- table and output after questions about a map
+after-maps :
+    (afterColumn lent-map (ascii "a") (ascii "a") 20 (replicate 16384 7 ++ 8 ∷ 9 ∷ []) (negsuc 3 ∷ negsuc 3 ∷ negsuc 3 ∷ []) ≡ record { answer = refused 18; table = (replicate 16384 0 ++ 8 ∷ 9 ∷ []); output = (negsuc 3 ∷ negsuc 3 ∷ negsuc 3 ∷ []) }) ×
+    (afterListing lent-map (replicate 16384 7 ++ 8 ∷ 9 ∷ []) (replicate 61 1 ++ []) ≡ record { answer = done 59; table = (replicate 16384 0 ++ 8 ∷ 9 ∷ []); output = (112 ∷ 97 ∷ 105 ∷ 114 ∷ 9 ∷ 49 ∷ 9 ∷ 49 ∷ 10 ∷ 115 ∷ 116 ∷ 114 ∷ 9 ∷ 54 ∷ 49 ∷ 10 ∷ 116 ∷ 121 ∷ 112 ∷ 101 ∷ 9 ∷ 49 ∷ 9 ∷ 48 ∷ 9 ∷ 45 ∷ 9 ∷ 49 ∷ 9 ∷ 49 ∷ 10 ∷ 110 ∷ 101 ∷ 119 ∷ 9 ∷ 50 ∷ 48 ∷ 44 ∷ 50 ∷ 44 ∷ 55 ∷ 44 ∷ 53 ∷ 9 ∷ 49 ∷ 10 ∷ 118 ∷ 97 ∷ 108 ∷ 9 ∷ 49 ∷ 9 ∷ 45 ∷ 49 ∷ 9 ∷ 49 ∷ 9 ∷ 49 ∷ 10 ∷ 1 ∷ 1 ∷ []) }) ×
+    (afterListing lent-map (5 ∷ replicate 16382 7 ++ 6 ∷ []) (replicate 58 1 ++ []) ≡ record { answer = refused 19; table = (replicate 16384 0 ++ []); output = (replicate 58 1 ++ []) }) ×
+    (afterBuild (ascii "pair\t1\t1\nstr\t61\ntype\t1\t0\t-\t1\t1\nnew\t20,2,7,5\t1\nval\t1\t-1\t1\t1\n") (replicate 16384 7 ++ 8 ∷ 9 ∷ []) (replicate 25 1 ++ []) ≡ record { answer = done 23; table = (replicate 16384 0 ++ 8 ∷ 9 ∷ []); output = (1 ∷ 0 ∷ 0 ∷ 0 ∷ 1 ∷ 97 ∷ 1 ∷ 1 ∷ 0 ∷ 1 ∷ 0 ∷ 1 ∷ 0 ∷ 20 ∷ 2 ∷ 7 ∷ 5 ∷ 1 ∷ 4 ∷ 1 ∷ 255 ∷ 1 ∷ 1 ∷ 1 ∷ 1 ∷ []) }) ×
+    (afterBuild (ascii "pair\t1\t1\nstr\t61\ntype\t1\t0\t-\t1\t1\nnew\t20,2,7,5\t1\nval\t1\t-1\t1\t1\n") (5 ∷ replicate 16382 7 ++ 6 ∷ []) (replicate 22 1 ++ []) ≡ record { answer = refused 19; table = (replicate 16384 0 ++ []); output = (replicate 22 1 ++ []) })
+unfolding whole
+after-maps = (refl, refl, refl, refl, refl)

@@ -15,7 +15,7 @@ use Rattle.table.specs.View.{Said}
 use Rattle.table.specs.Counts.{nextBlock}
 use Rattle.reader.specs.Counting.{one, count-not, count-none, none-counted, Keys, keys-weaker, keys-snoc, fewer-rows, none-past}
 use Rattle.reader.specs.Sound.{typeOfRange, Every, Declared, Sound}
-use Rattle.walk.specs.Low.{news-log}
+use Rattle.lookups.specs.Low.{news-log}
 
 abbrev pub blockOfRange : Range → ℕ
 blockOfRange r = r .block

@@ -13,7 +13,7 @@ use Rattle.laws.specs.Columns.{Grows}
 use Rattle.table.specs.View.{logOf, view, Holds}
 use Rattle.values.specs.Bare.{Linkable}
 use Rattle.values.specs.Linkable.{linkable, objects-below}
-use Rattle.walk.specs.Low.{Low}
+use Rattle.lookups.specs.Low.{Low}
 
 low-all : (j : ℕ) (rs : List Range) → Low j rs → j + length rs ≤ 1024 → all (λ (r : Range). ltb (r .first + r .count) (2 ^ 63)) rs ≡ true
 unfolding all

@@ -21,7 +21,8 @@ use Rattle.numbers.specs.declared.Refusal.{Refusal}
 use Rattle.table.specs.View.{view, fldsOf, logOf, said, Said, Holds}
 use Rattle.table.specs.Counts.{begun, Begun}
 use Rattle.walk.specs.Pairs.{pairsTo, saidOf, pairs-are}
-use Rattle.walk.specs.Low.{Low}
+use Rattle.laws.specs.Pools.{Pooled, nothing-pooled}
+use Rattle.lookups.specs.Low.{Low}
 use Rattle.walk.specs.Listed.{Listed}
 use Rattle.walk.specs.Blocks.{Between}
 use Rattle.walk.specs.PairLaws.{Steady, outSaid}
@@ -70,6 +71,7 @@ module _ (f : List ℕ) {l : List ℕ} (lt : length f < 4294967296) (B : Begun l
         holds = B .says f lt .holds;
         between = rw now-begun (record { block = omega arith; names = omega arith; flds = omega arith; known = tt; past = tt; room = omega arith; none = refl; chunks = omega arith });
         low = subst (λ (s : Said). Low 0 (s .state .log)) (sym now-begun) tt;
+        pooled = subst (λ (s : Said). Pooled (s .state)) (sym now-begun) nothing-pooled;
         listed = subst (λ (s : Said). Listed (s .state .fields)) (sym now-begun) tt;
       }
 

@@ -1,8 +1,6 @@
 pub mod Pairs
 pub mod Region
-pub mod Low
 pub mod Few
-pub mod Gather
 pub mod Listed
 pub mod Steps
 pub mod Stand

@@ -34,7 +34,8 @@ use Rattle.reader.specs.Entries.{goFront, frontGo}
 use Rattle.reader.specs.EntryLaws.{Passed}
 use Rattle.walk.specs.Pairs.{saidAfter, pairTo}
 use Rattle.walk.specs.Region.{chunksAt, sizes, region-is, NotFalling, sizes-are}
-use Rattle.walk.specs.Low.{Low, front-low}
+use Rattle.laws.specs.Pools.{Pooled, closed-pooled, front-pooled}
+use Rattle.lookups.specs.Low.{Low, front-low}
 use Rattle.walk.specs.Listed.{Listed, front-listed}
 use Rattle.walk.specs.Steps.{stepOf}
 use Rattle.walk.specs.Stand.{stands?, AllStand, new-fields-stand}
@@ -51,6 +52,7 @@ pub record Steady (f l : List ℕ) : Type 0 where
   pub holds : Holds f l
   pub between : Between (said f l)
   pub low : Low 0 (logOf l)
+  pub pooled : Pooled (view f l)
   pub listed : Listed (fldsOf l)
 
 -- what a pair asks: bytes, as many as a file may have, and a table that was left by the pairs before
@@ -171,7 +173,8 @@ module _ {f l l₁ : List ℕ} {at size m : ℕ} (R : PairReady f l at) (F : Fro
   stood A =
       let fields : fldsOf l₁ ≡ s₂ .fields = ap (λ (u : State). u .fields) state-is in
       let count : fieldsIn l ≡ length (fldsOf l) = sym (R .steady .holds .ok .flds-count) in
-      A .says f h₁ ∙ rw (count, state-is, fields) (new-fields-stand s (d .strings) (d .entries))
+      let few : length (s₂ .typeNames) ≤ 32 = rw (← state-is) (sound .names) in
+      A .says f h₁ ∙ rw (count, state-is, fields) (new-fields-stand s (d .strings) (d .entries) few)
 
   module _ (le : m + size ≤ length f) where
     -- a kind names no type: the refusal is that of the front, read again
@@ -202,6 +205,7 @@ module _ {f l l₁ : List ℕ} {at size m : ℕ} (R : PairReady f l at) (F : Fro
         record {
           holds = h₁;
           low = rw (ap (λ (u : State). u .log) state-is) (front-low s f at d m (R .bytes) (R .inside) (F .is) (R .steady .low));
+          pooled = subst Pooled (sym state-is) (front-pooled s f at d m (R .bytes) (R .inside) (F .is) (R .steady .pooled));
           listed = rw (ap (λ (u : State). u .fields) state-is) (front-listed s f at d m (R .bytes) (R .inside) (F .is) (R .steady .listed));
           declared = rw (sym (h₁ .ok .flds-count) ∙ fields, dues-are) (front-declared s (d .strings) (d .entries) (d .ends));
           within = omega (arith, sizes-is);
@@ -222,6 +226,7 @@ module _ {f l l₁ : List ℕ} {at size m : ℕ} (R : PairReady f l at) (F : Fro
           holds = h₃;
           between = rw closing (closes sound own cs many);
           low = subst (λ (g : Said). Low 0 (g .state .log)) (sym closing) (ready .low);
+          pooled = subst (λ (g : Said). Pooled (g .state)) (sym closing) (closed-pooled (view f l₁) (ready .pooled));
           listed = subst (λ (g : Said). Listed (g .state .fields)) (sym closing) (ready .listed);
         }
 

@@ -1,5 +1,5 @@
 -- A data region in code: a turn for each chunk that is due, which is checked and put down with its place. Assumes nothing.
-use mathlib.Core.Path.{_≡_, refl, sym, ap, _∙_}
+use mathlib.Core.Path.{_≡_, refl, sym, ap, _∙_, subst}
 use mathlib.Core.List.{List, [], _∷_, _++_, append-assoc, append-nil}
 use Prim.Native.Nat.{ℕ, _+_, _≤_, _<_}
 use native.Mathlib.Numerals.{add-one}
@@ -11,6 +11,7 @@ use Rattle.paper.specs.Ledger.{Chunk, Due, State, fieldAt}
 use Rattle.paper.specs.File.{value, chunk}
 use Rattle.paper.specs.Places.{spotsFrom}
 use Rattle.laws.specs.Laws.{part-inv, not-got}
+use Rattle.laws.specs.Pools.{Pooled}
 use Rattle.table.specs.View.{fldsOf, logOf, duesOf, chunksOf, view, said, Said, Holds, fieldsIn, duesIn, chunksIn}
 use Rattle.table.specs.Answers.{dueIn, noDue}
 use Rattle.table.specs.Adds.{addChunk}
@@ -22,7 +23,8 @@ use Rattle.numbers.specs.declared.Cursor.{Cursor}
 use Rattle.numbers.specs.declared.Refusal.{Refusal}
 use Rattle.values.specs.Pass.{forget}
 use Rattle.walk.specs.Region.{chunksAt, sizes}
-use Rattle.walk.specs.Low.{Low}
+use Rattle.lookups.specs.Low.{Low}
+use Rattle.lookups.specs.Named.{Noted}
 use Rattle.walk.specs.Listed.{Listed}
 use Rattle.walk.specs.Dues.{Declared, declared-at}
 use Rattle.walk.specs.Steps.{stepOf}
@@ -74,9 +76,10 @@ chunks-end s (d ∷ ds) f at e h = go (λ m q. chunks-end s ds f m e q) (forget 
 -- ── one turn ──
 
 -- what a turn asks: the i-th chunk that is due stands at `at`
-pub record DueAt (f l : List ℕ) (at i : ℕ) : Type 0 where
+pub record DueAt (f l pools : List ℕ) (at i : ℕ) : Type 0 where
   pub holds : Holds f l
   pub low : Low 0 (logOf l)
+  pub noted : Noted pools (view f l)
   pub listed : Listed (fldsOf l)
   pub due : i < duesIn l
   pub declared : getD (duesOf l) i noDue .0 .field < fieldsIn l
@@ -90,7 +93,7 @@ pub record TurnDone (f l : List ℕ) (at i : ℕ) (r : Step) (l′ : List ℕ) :
   pub holds : Holds f l′
   pub puts : (c : Cursor) → r ≡ Got c → said f l′ ≡ addChunk (said f l) (record { field = getD (duesOf l) i noDue .0 .field; start = at; end = c .at })
 
-module _ {f l : List ℕ} {at i : ℕ} (D : DueAt f l at i) {d : DueRow} (is : dueIn d ≡ getD (duesOf l) i noDue) where
+module _ {f l pools : List ℕ} {at i : ℕ} (D : DueAt f l pools at i) {d : DueRow} (is : dueIn d ≡ getD (duesOf l) i noDue) where
   field-is : d .field ≡ getD (duesOf l) i noDue .0 .field
   field-is = ap (λ (x : Due × ℕ). x .0 .field) is
 
@@ -135,6 +138,7 @@ module _ {f l : List ℕ} {at i : ℕ} (D : DueAt f l at i) {d : DueRow} (is : d
 pub record RegionReady (f l : List ℕ) (from : ℕ) : Type 0 where
   pub holds : Holds f l
   pub low : Low 0 (logOf l)
+  pub pooled : Pooled (view f l)
   pub listed : Listed (fldsOf l)
   pub declared : Declared (fieldsIn l) (duesOf l)
   pub within : from + sizes (duesOf l) ≤ length f
@@ -191,8 +195,8 @@ module _ {f l₀ : List ℕ} {from : ℕ} (R : RegionReady f l₀ from) {l : Lis
     unfolding sizes
     size-fits = rw next at (G .within)
 
-    pub going-next : DueAt f l at i
-    going-next =
+    pub going-next : {pools : List ℕ} → Noted pools (view f l₀) → DueAt f l pools at i
+    going-next {pools} N =
         let dues : length (duesOf l) ≡ length (duesOf l₀) = ap length (G .due) in
         let fields : length (fldsOf l) ≡ length (fldsOf l₀) = ap length fields-same in
         let own = G .holds .ok in
@@ -200,6 +204,7 @@ module _ {f l₀ : List ℕ} {from : ℕ} (R : RegionReady f l₀ from) {l : Lis
         record {
           holds = G .holds;
           low = rw (ap (λ (s : State). s .log) (G .state)) (R .low);
+          noted = subst (Noted pools) (sym (G .state)) N;
           listed = rw fields-same (R .listed);
           due = omega (arith, own .dues-count, before .dues-count);
           declared = rw (G .due) (omega (arith, own .flds-count, before .flds-count, declared-at (fieldsIn l₀) (duesOf l₀) i (R .declared) there));

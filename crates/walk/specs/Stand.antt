@@ -3,24 +3,28 @@
 use mathlib.Core.Path.{_≡_, refl, sym, ap, ap₂, _∙_}
 use mathlib.Core.Bool.{Bool, true, false, _&&_}
 use mathlib.Core.List.{List, [], _∷_, _++_, map, append-assoc, append-nil}
-use Prim.Native.Nat.{ℕ, _+_, _-_, _≤_, _<_}
+use Prim.Native.Nat.{ℕ, _+_, _-_, _≤_, _<_, min}
 use native.Mathlib.Omega.{arith}
-use native.Mathlib.Nat.{lt-of-not-le}
+use native.Mathlib.Nat.{lt-of-not-le, min-eq-left, min-eq-right}
 use native.Mathlib.Decide.{decLe}
-use lib.Dec.{ltb}
 use lib.ListN.{length, getD, drop}
 use lib.Seq.{drop-append-seam}
-use borrow.Author.Tests.{le-leb, lt-ltb, le-ltb}
+use borrow.Author.Tests.{le-leb, le-ltb}
 use Rattle.paper.specs.Reader.{if_then_else_}
+use Rattle.paper.specs.Numbers.{putFixed}
+use Rattle.paper.specs.Bounds.{mostTypes}
 use Rattle.paper.specs.Lists.{all, fold}
-use Rattle.paper.specs.Ledger.{New, Entry, Field, State, noField}
-use Rattle.paper.specs.Rules.{withStrings, typeOf, afterHead, afterEntry, aType?, kindStands?, kindsStand?, afterFront}
+use Rattle.paper.specs.Ledger.{Kind, constant, plain, array, many, mapping, New, Entry, Field, State, noField}
+use Rattle.paper.specs.Rules.{withStrings, noted, typeOf, afterHead, afterEntry, aType?, kindStands?, kindsStand?, afterFront}
 use Rattle.laws.specs.Count.{made, fold-fields}
 use Rattle.table.specs.View.{kindFrom, fldsOf, view, Holds, typesIn, fieldsIn}
 use Rattle.table.specs.Answers.{fieldIn}
 use Rattle.table.specs.Loops.{all-here, all-on, all-end}
 use Rattle.table.specs.declared.rows.FieldRow.{FieldRow}
+use Rattle.reader.specs.Kinds.{namedBy}
+use Rattle.reader.specs.KindLaws.{named-types, kind-mapping}
 use Rattle.walk.specs.Listed.{with-element}
+use Rattle.lookups.specs.Bytes.{all-append}
 
 abbrev pub stands? : State → Field → Bool
 stands? s d = kindStands? s (d .kind)
@@ -41,19 +45,27 @@ module _ (types : ℕ) (row : FieldRow) where
         ];
       }
 
-  module _ (from-5 : 4 < row .kind) where
-    by-element : (s : State) → aType? s (row .e) ≡ kindStands? s (kindFrom (row .kind) (row .a) (row .e))
-    unfolding kindStands?
-    by-element s = with-element (λ k. aType? s (row .e) ≡ kindStands? s k) (row .kind) (row .a) (row .e) from-5 refl refl refl
+  -- to ask which numbers name one of so many types is to ask a state that has as many
+  asked : (s : State) → length (s .typeNames) ≡ types → namedBy true types ≡ aType? s
+  asked s is = ap (namedBy true) (sym is) ∙ named-types s
 
-    -- it refers to no object
-    pub unlinked-stands : row .e < 32 → Standing types row true
-    unfolding aType?
-    unlinked-stands h = record { says = λ s is. sym (rw (lt-ltb (row .e) 32 h)) ∙ by-element s }
+  -- its last number is the one that may name a type
+  pub element-stands : 4 < row .kind → (row .kind ≡ 20 → ⊥) → {r : Bool} → r ≡ namedBy true types (row .e) → Standing types row r
+  unfolding kindStands?
+  element-stands from-5 other {r} is =
+      record {
+        says = λ s count.
+            is ∙ ap (λ (p : ℕ → Bool). p (row .e)) (asked s count)
+            ∙ with-element (λ k. aType? s (row .e) ≡ kindStands? s k) (row .kind) (row .a) (row .e) from-5 refl refl (λ t. absurd (other t)) refl;
+      }
 
-    pub linked-stands : 32 ≤ row .e → Standing types row (ltb (row .e - 32) types)
-    unfolding aType?
-    linked-stands h = record { says = λ s is. sym (rw (le-ltb (row .e) 32 h, is)) ∙ by-element s }
+  pub map-stands : row .kind ≡ 20 → {r : Bool} → r ≡ all (namedBy true types) (putFixed (row .a) (row .e)) → Standing types row r
+  unfolding kindStands?
+  map-stands a-map {r} is =
+      record {
+        says = λ s count.
+            is ∙ ap (λ (p : ℕ → Bool). all p (putFixed (row .a) (row .e))) (asked s count) ∙ ap (kindStands? s) (sym (kind-mapping (row .kind) (row .a) (row .e) a-map));
+      }
 
 -- ── all fields from a place on ──
 
@@ -104,20 +116,35 @@ fields-after (e ∷ es) s =
     ∙ ap (λ (ds : List Field). ds ++ newFields (afterEntry s e) es) (fold-fields (typeOf s (e .head .name)) (e .news) (afterHead s (e .head)))
     ∙ append-assoc (s .fields) _ _
 
-all-append : {A : Type 0} (p : A → Bool) (xs ys : List A) → all p (xs ++ ys) ≡ (all p xs && all p ys)
-unfolding all
-all-append p [] ys = refl
-all-append p (x ∷ xs) ys = ap (λ (b : Bool). p x && b) (all-append p xs ys) ∙ sym (and-assoc (p x) (all p xs) (all p ys))
-  where
-    and-assoc : (x y z : Bool) → ((x && y) && z) ≡ (x && (y && z))
-    and-assoc true y z = refl
-    and-assoc false y z = refl
+-- no type has a number from 255 upwards, so what is kept of a kind stands where the kind does
+module _ (last : State) (few : length (last .typeNames) ≤ mostTypes) where
+  capped-stands : (k : ℕ) → aType? last (min 255 k) ≡ aType? last k
+  unfolding aType?
+  capped-stands k =
+      elim (decLe k 255) [
+        | yes d ↦ rw (min-eq-right d)
+        | no d ↦
+            (let far : 255 < k = lt-of-not-le d in
+            rw (min-eq-left {n = 255} {m = k} (omega arith), le-ltb k 32 (omega arith), le-ltb (k - 32) (length (last .typeNames)) (omega arith), le-ltb 223 (length (last .typeNames)) (omega arith)))
+      ]
 
-module _ (last : State) where
+  all-capped : (ks : List ℕ) → all (aType? last) (map (min 255) ks) ≡ all (aType? last) ks
+  unfolding all
+  all-capped [] = refl
+  all-capped (k ∷ ks) = ap₂ (λ (x y : Bool). x && y) (capped-stands k) (all-capped ks)
+
+  noted-stands : (k : Kind) → kindStands? last (noted k) ≡ kindStands? last k
+  unfolding noted kindStands?
+  noted-stands (constant k v) = refl
+  noted-stands (plain k) = refl
+  noted-stands (array l k) = refl
+  noted-stands (many c k) = refl
+  noted-stands (mapping ks) = all-capped ks
+
   made-stand : (t : ℕ) (gs : List New) → all (stands? last) (map (made t) gs) ≡ all (λ (g : New). kindStands? last (g .kind)) gs
   unfolding all made
   made-stand t [] = refl
-  made-stand t (g ∷ gs) = ap (λ (b : Bool). kindStands? last (g .kind) && b) (made-stand t gs)
+  made-stand t (g ∷ gs) = ap₂ (λ (x y : Bool). x && y) (noted-stands (g .kind)) (made-stand t gs)
 
   new-stand : (es : List Entry) (s : State) → all (stands? last) (newFields s es) ≡ kindsStand? last es
   unfolding all newFields kindsStand?
@@ -128,12 +155,12 @@ module _ (last : State) where
 
 -- to ask the fields behind those of s is to ask the entries
 pub new-fields-stand :
-    (s : State) (strings : List (List ℕ)) (es : List Entry)
+    (s : State) (strings : List (List ℕ)) (es : List Entry) → length (afterFront s strings es .typeNames) ≤ mostTypes
     → all (stands? (afterFront s strings es)) (drop (length (s .fields)) (afterFront s strings es .fields)) ≡ kindsStand? (afterFront s strings es) es
 unfolding afterFront withStrings
-new-fields-stand s strings es =
+new-fields-stand s strings es few =
     let s₁ = withStrings s strings in
     let s₂ = afterFront s strings es in
     ap (λ (ds : List Field). all (stands? s₂) (drop (length (s .fields)) ds)) (fields-after es s₁)
     ∙ ap (all (stands? s₂)) (drop-append-seam (s .fields) (newFields s₁ es))
-    ∙ new-stand s₂ es s₁
+    ∙ new-stand s₂ few es s₁

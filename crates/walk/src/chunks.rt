@@ -1,7 +1,11 @@
 // A chunk of the data region: the part of the file that it is handed on as, what its values are held to, and its answer.
 ghost use mathlib.Core.Path.{_≡_};
-ghost use Prim.Native.Nat.{_+_, _<_, _≤_};
+ghost use mathlib.Core.Bool.{true};
+ghost use mathlib.Core.List.{List};
+ghost use Prim.Native.Nat.{ℕ, _+_, _<_, _≤_};
 ghost use lib.ListN.{length};
+ghost use Rattle.paper.specs.Lists.{all};
+ghost use Rattle.paper.specs.Rules.{elementKind?};
 ghost use Rattle.paper.specs.File.{chunk};
 ghost use Rattle.paper.specs.Reader.{filled};
 ghost use Rattle.table.specs.View.{fldsOf, logOf, view, Ok, Holds, fieldsIn};
@@ -9,10 +13,12 @@ ghost use Rattle.table.specs.Answers.{dueIn};
 ghost use Rattle.numbers.specs.Cursors.{outOf, placeOf};
 ghost use Rattle.values.specs.Pass.{forget};
 ghost use Rattle.values.specs.Chunks.{Kinds};
-ghost use Rattle.walk.specs.Low.{Low};
+ghost use Rattle.lookups.specs.Low.{Low};
 ghost use Rattle.walk.specs.Listed.{Listed};
-ghost use Rattle.walk.specs.Gather.{Gathered};
-ghost use Rattle.walk.specs.Steps.{stepOf, Valued};
+ghost use Rattle.lookups.specs.Named.{Noted};
+ghost use Rattle.walk.specs.Steps.{stepOf, Valued, NotedKind, MapsValued};
+use lookups::ranges::gather;
+use lookups::ranges::group;
 use numbers::Cursor;
 use numbers::Number;
 use numbers::Refusal;
@@ -21,38 +27,16 @@ use paper::Ledger;
 use table::rows::DueRow;
 use table::rows::FieldRow;
 use table::rows::field_at;
-use table::rows::range_at;
-use table::rows::ranges;
 use table::rows::strings;
 use values::chunks::chunk_values;
-
-// The ranges of type t, which come at the front of the two lists in the log's order: the i-th begins behind object first[i]
-// and ends with object last[i]. The answer is how many there are. A type that is not declared has none, so t has no bound.
-pub fn gather(work: &[u32], t: u64, first: &mut [u32], last: &mut [u32]) -> usize
-    requires { ⌜ Ok (now work) × Low 0 (logOf (now work)) ⌝ }
-    requires { ⌜ (length (now first) ≡ 1024) × (length (now last) ≡ 1024) ⌝ }
-    ensures { λ r. ⌜ Gathered t (logOf (now (work .entry))) (now (first .exit)) (now (last .exit)) r ⌝ }
-{
-    let n = ranges(work);
-    let mut k: usize = 0;
-    let mut i = 0;
-    while i < n {
-        let r = range_at(work, i);
-        if r.typ as u64 == t {
-            first[k] = r.first;
-            last[k] = r.first + r.count;
-            k += 1;
-        }
-        i += 1;
-    }
-    k
-}
+use values::maps::map_kinds;
+use values::maps::maps;
 
 // n values whose elements refer to objects: the ranges of their type are gathered once, and not asked for at each value.
 fn linked_values(part: &[u8], n: u32, kind: FieldRow, work: &[u32]) -> Number
     requires { ⌜ Ok (now work) × Low 0 (logOf (now work)) ⌝ }
-    requires { ⌜ Kinds (kind .kind) (kind .a) (kind .e) × (32 ≤ kind .e) ⌝ }
-    ensures { λ r. ⌜ Valued n (kind .kind) (kind .a) (kind .e) (now (work .entry)) (now (part .entry)) r ⌝ }
+    requires { ⌜ Kinds (kind .kind) (kind .a) (kind .e) × (4 < kind .kind) × (kind .kind ≡ 20 → ⊥) × (32 ≤ kind .e) ⌝ }
+    ensures { λ r. ⌜ ((file : List ℕ) → Holds file (now (work .entry)) → Valued n (kind .kind) (kind .a) (kind .e) (view file (now (work .entry))) (now (part .entry)) r) ⌝ }
 {
     let mut first = [0u32; Ledger::RANGES as usize];
     let mut last = [0u32; Ledger::RANGES as usize];
@@ -64,17 +48,58 @@ fn linked_values(part: &[u8], n: u32, kind: FieldRow, work: &[u32]) -> Number
         kind.a,
         kind.e,
         strings(work) as u64,
+        &work[..0],
         &first[..k],
         &last[..k],
     )
 }
 
-// n values of any kind.
-fn values_of(part: &[u8], n: u32, kind: FieldRow, work: &[u32]) -> Number
+// n maps of these kinds, whose annotations are held to the pools: the ranges of all types are gathered once.
+fn grouped_values(part: &[u8], n: u32, kinds: &[u64], pools: &[u32], work: &[u32]) -> Number
+    requires { ⌜ Ok (now work) × Low 0 (logOf (now work)) ⌝ }
+    requires { ⌜ (2 ≤ length (now kinds)) × (all elementKind? (now kinds) ≡ true) ⌝ }
+    ensures { λ r. ⌜ MapsValued n (now (kinds .entry)) (now (pools .entry)) (now (work .entry)) (now (part .entry)) r ⌝ }
+{
+    let mut starts = [0u32; Ledger::TYPES as usize + 1];
+    let mut first = [0u32; Ledger::RANGES as usize];
+    let mut last = [0u32; Ledger::RANGES as usize];
+    group(work, &mut starts, &mut first, &mut last);
+    maps(
+        part,
+        n,
+        kinds,
+        strings(work) as u64,
+        pools,
+        &starts,
+        &first,
+        &last,
+    )
+}
+
+// n maps: their kinds stand in the row, a byte each.
+fn map_values(part: &[u8], n: u32, kind: FieldRow, pools: &[u32], work: &[u32]) -> Number
+    requires { ⌜ Ok (now work) × Low 0 (logOf (now work)) ⌝ }
+    requires { ⌜ Kinds (kind .kind) (kind .a) (kind .e) × (kind .kind ≡ 20) ⌝ }
+    ensures { λ r. ⌜ ((file : List ℕ) → Holds file (now (work .entry)) → NotedKind (now (pools .entry)) (kind .kind) (kind .a) (kind .e) (view file (now (work .entry))) → Valued n (kind .kind) (kind .a) (kind .e) (view file (now (work .entry))) (now (part .entry)) r) ⌝ }
+{
+    let mut kinds = [0u64; 8];
+    let k = map_kinds(kind.a, kind.e, &mut kinds);
+    grouped_values(part, n, &kinds[..k], pools, work)
+}
+
+// n values of any kind: the pools say which annotations keep the rule.
+fn values_of(part: &[u8], n: u32, kind: FieldRow, pools: &[u32], work: &[u32]) -> Number
     requires { ⌜ Ok (now work) × Low 0 (logOf (now work)) ⌝ }
     requires { ⌜ Kinds (kind .kind) (kind .a) (kind .e) ⌝ }
-    ensures { λ r. ⌜ Valued n (kind .kind) (kind .a) (kind .e) (now (work .entry)) (now (part .entry)) r ⌝ }
+    ensures { λ r. ⌜ ((file : List ℕ) → Holds file (now (work .entry)) → NotedKind (now (pools .entry)) (kind .kind) (kind .a) (kind .e) (view file (now (work .entry))) → Valued n (kind .kind) (kind .a) (kind .e) (view file (now (work .entry))) (now (part .entry)) r) ⌝ }
 {
+    // A constant has no bytes here.
+    if kind.kind <= 4 {
+        return Number::Got(0, Cursor { at: 0 });
+    }
+    if kind.kind == 20 {
+        return map_values(part, n, kind, pools, work);
+    }
     if 32 <= kind.e {
         return linked_values(part, n, kind, work);
     }
@@ -86,6 +111,7 @@ fn values_of(part: &[u8], n: u32, kind: FieldRow, work: &[u32]) -> Number
         kind.a,
         kind.e,
         strings(work) as u64,
+        pools,
         &work[..0],
         &work[..0],
     )
@@ -121,14 +147,14 @@ fn fill(a: Number, at: usize, size: usize) -> Step
 }
 
 // The chunk d, from `at` on: its values are read from a part of the file that has nothing else.
-pub fn chunk(file: &[u8], at: usize, d: DueRow, work: &[u32]) -> Step
-    requires { ⌜ Holds (now file) (now work) × Low 0 (logOf (now work)) × Listed (fldsOf (now work)) ⌝ }
+pub fn chunk(file: &[u8], at: usize, d: DueRow, work: &[u32], pools: &[u32]) -> Step
+    requires { ⌜ Holds (now file) (now work) × Low 0 (logOf (now work)) × Noted (now pools) (view (now file) (now work)) × Listed (fldsOf (now work)) ⌝ }
     requires { ⌜ (d .field < fieldsIn (now work)) × (at + d .size ≤ length (now file)) ⌝ }
     ensures { λ r. ⌜ stepOf r ≡ forget (chunk (view (now (file .entry)) (now (work .entry))) (dueIn d) (now (file .entry)) at) ⌝ }
 {
     let kind = field_at(work, d.field);
     let size = d.size as usize;
     let end = at + size;
-    let a = values_of(&file[at..end], d.values, kind, work);
+    let a = values_of(&file[at..end], d.values, kind, pools, work);
     fill(a, at, size)
 }

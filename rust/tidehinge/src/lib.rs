@@ -67,6 +67,10 @@ pub fn objects(file: &[u8], type_name: &[u8], work: &mut [u32]) -> Result<usize,
 /// | 12, 13 | f32, f64: the bits; those of an f32 as a number from 0 up |
 /// | 14 | string: its number in the file, from 1, or 0 for none |
 /// | 32 | reference to any type: the object's number, from 1, or 0 for none |
+///
+/// An annotation (kind 5), an array, list or set (15, 17 to 19) and a map (20)
+/// have no column: every number asked of them gives [`Refusal::OtherKind`].
+/// [`listing`] shows them.
 pub fn column(
     file: &[u8],
     type_name: &[u8],

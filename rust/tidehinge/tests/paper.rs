@@ -165,6 +165,10 @@ fn changed_listings() {
         ("type\t1\t0\t-\t2\t1", "type\t2\t0\t-\t2\t1"),
         ("type\t1\t0\t-\t2\t1", "type\t1\t0\t-\t3\t1"),
         ("new\t11\t1", "new\t5\t1"),
+        ("new\t11\t1", "new\t16\t1"),
+        ("new\t11\t1", "new\t20\t1"),
+        ("new\t11\t1", "new\t20,1,11\t1"),
+        ("new\t11\t1", "new\t20,2,11,11\t1"),
         ("new\t11\t1", "new\t32\t1"),
     ];
     for (from, to) in wrong {

@@ -75,13 +75,10 @@ fn string_end(random: &mut Random, old: &[u8]) -> Vec<u8> {
 }
 
 fn number(random: &mut Random, role: Role, old: &[u8]) -> Vec<u8> {
-    let value = v64::read(old, 0).map_or(0, |(value, _)| value);
-    // A kind's coding can have more numbers behind the first.
-    let rest = match v64::read(old, 0) {
-        Ok((_, next)) => &old[next..],
-        Err(_) => &[],
-    };
-    let first = match random.below(10) {
+    // A kind's coding can have several numbers, of which one is changed.
+    let start = *random.pick(&starts(old));
+    let (value, next) = v64::read(old, start).unwrap_or((0, old.len()));
+    let new = match random.below(10) {
         0 => v64::coded(value.wrapping_add(1)),
         1 => v64::coded(value.wrapping_sub(1)),
         2 => v64::coded(0),
@@ -94,7 +91,19 @@ fn number(random: &mut Random, role: Role, old: &[u8]) -> Vec<u8> {
         8 => v64::coded(value ^ 1),
         _ => v64::coded(random.below(6)),
     };
-    [&first, rest].concat()
+    [&old[..start], &new, &old[next..]].concat()
+}
+
+/// Where the numbers of a coding begin, the first one at least.
+fn starts(coded: &[u8]) -> Vec<usize> {
+    let mut starts = vec![0];
+    while let Some(Ok((_, next))) = starts.last().map(|&start| v64::read(coded, start)) {
+        if next == coded.len() {
+            break;
+        }
+        starts.push(next);
+    }
+    starts
 }
 
 /// A coding of the value that is one byte too long, where there is one.
@@ -208,9 +217,26 @@ fn of_chunk(random: &mut Random, chunk: &mut Vec<u8>) {
 
 /// The bytes of a kind that may be any.
 fn any_kind(random: &mut Random) -> Vec<u8> {
+    if random.once_in(4) {
+        return any_map(random);
+    }
     let mut kind = v64::coded(random.below(40));
     if random.once_in(2) {
         kind.extend(v64::coded(random.below(40)));
+    }
+    kind
+}
+
+/// The bytes of a map's kind, mostly with as many element kinds as it says.
+fn any_map(random: &mut Random) -> Vec<u8> {
+    let number = random.between(1, 9);
+    let kinds = match random.below(6) {
+        0 => random.below(10),
+        _ => number,
+    };
+    let mut kind = [v64::coded(20), v64::coded(number)].concat();
+    for _ in 0..kinds {
+        kind.extend(v64::coded(random.between(4, 15)));
     }
     kind
 }

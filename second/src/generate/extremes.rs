@@ -18,6 +18,7 @@ pub fn cases() -> Vec<Case> {
     cases.extend(starts());
     cases.extend(fixed_lengths());
     cases.extend(array_lengths());
+    cases.extend(map_sizes());
     cases.extend(reaches());
     cases
 }
@@ -333,6 +334,8 @@ fn objects() -> Vec<Case> {
             0,
             &column("20", &[0x01]),
         ),
+        case("65535 annotations", 0, &column("05", &[0x01, 0x01])),
+        case("65535 null annotations", 0, &column("05", &[0x00, 0x00])),
         case(
             "65535 objects with fixed arrays of length 0",
             0,
@@ -439,6 +442,60 @@ fn array_lengths() -> Vec<Case> {
     cases
 }
 
+/// Sizes of maps at the bound and one beyond, at every depth.
+fn map_sizes() -> Vec<Case> {
+    // One key each down to a depth, there a size, and so many keys, each with
+    // a 00: an empty map, or an i8 where there is no type left.
+    let map = |depth: usize, size: u64, keys: usize| {
+        let mut chunk = [1, 5].repeat(depth);
+        v64::write(&mut chunk, size);
+        chunk.extend([6, 0].repeat(keys));
+        chunk
+    };
+    let file = |types: usize, objects: u64, chunk: Vec<u8>| {
+        let kind = [vec![20, types as u8], vec![7; types]].concat();
+        let field = FieldDraft {
+            new: Some((kind, 2)),
+            chunk,
+        };
+        vec![pair(names(4), vec![base(1, objects, vec![field])])]
+    };
+    let mut cases = Vec::new();
+    for (types, depth) in [(2, 0), (3, 0), (3, 1), (8, 0), (8, 3), (8, 6)] {
+        for (size, keys, answer) in [
+            (65_535, 65_535, 0),
+            (65_535, 65_534, 12),
+            (65_535, 65_536, 12),
+            (65_536, 65_536, 3),
+            (65_536, 0, 3),
+        ] {
+            let label = format!("map of {types} types, size {size} at depth {depth}, {keys} keys");
+            let chunk = map(depth, size, keys);
+            cases.push(case(&label, answer, &file(types, 1, chunk)));
+        }
+    }
+    // Sizes are bounded one by one.
+    let inner = [
+        vec![3],
+        [vec![5], map(0, 30_000, 30_000)].concat().repeat(3),
+    ]
+    .concat();
+    cases.push(case("map of 90000 inner keys", 0, &file(3, 1, inner)));
+    let many = map(0, 40_000, 40_000).repeat(2);
+    cases.push(case("two maps of 40000 keys", 0, &file(2, 2, many)));
+    cases.push(case(
+        "65535 empty maps",
+        0,
+        &file(8, 65_535, vec![0; 65_535]),
+    ));
+    cases.push(case(
+        "65535 empty maps, one missing",
+        12,
+        &file(8, 65_535, vec![0; 65_534]),
+    ));
+    cases
+}
+
 /// How far string numbers, object numbers and reference kinds reach.
 fn reaches() -> Vec<Case> {
     let text = |number: u64| {
@@ -451,6 +508,16 @@ fn reaches() -> Vec<Case> {
         vec![
             pair(names(4), vec![base(1, 65_534, Vec::new())]),
             pair(Vec::new(), vec![far, base(3, 1, vec![field])]),
+        ]
+    };
+    // By the last string that can be there, which is the type's name again.
+    let annotation = |text: u64, object: u64| {
+        let mut strings = names(1023);
+        strings.push(strings[0].clone());
+        let chunk = [v64::coded(text), v64::coded(object)].concat();
+        vec![
+            pair(strings, vec![base(1, 65_534, Vec::new())]),
+            pair(Vec::new(), vec![base(3, 1, vec![new("05", 2, chunk)])]),
         ]
     };
     let kind = |number: u64| {
@@ -467,6 +534,21 @@ fn reaches() -> Vec<Case> {
         case("string 1025 of 1024", 14, &text(1025)),
         case("object 65534 of 65534", 0, &object(65_534)),
         case("object 65535 of 65534", 14, &object(65_535)),
+        case(
+            "annotation by string 1024 to object 65534",
+            0,
+            &annotation(1024, 65_534),
+        ),
+        case(
+            "annotation by string 1024 to object 65535",
+            14,
+            &annotation(1024, 65_535),
+        ),
+        case(
+            "annotation by string 1025 to object 65534",
+            14,
+            &annotation(1025, 65_534),
+        ),
         case("reference to the last of 32 types", 0, &kind(63)),
         case("reference past the last of 32 types", 10, &kind(64)),
         case("name 1024 of 1024", 0, &name(1024)),

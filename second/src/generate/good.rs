@@ -2,7 +2,7 @@
 
 use crate::bounds;
 use crate::draft::{kind_bytes, wide, EntryDraft, FieldDraft, PairDraft};
-use crate::kind::{Element, Form, Kind};
+use crate::kind::{Element, Form, Kind, MapTypes};
 use crate::v64;
 
 use super::random::Random;
@@ -266,19 +266,36 @@ impl World<'_> {
     }
 
     fn kind(&mut self) -> Kind {
-        let form = match self.random.below(12) {
+        let form = match self.random.below(14) {
             0 | 1 => return self.constant(),
             2 => Form::Fixed(self.random.below(4)),
             3 => Form::Sized(17),
             4 => Form::Sized(18),
             5 => Form::Sized(19),
+            6 | 7 => return self.map_kind(),
             _ => Form::Single,
         };
-        let element = match self.random.below(14) {
-            9.. => Element::Object(self.random.below(self.types.len() as u64)),
-            plain => Element::of(6 + plain).expect("6 to 14 are element kinds"),
-        };
+        let element = self.element_kind();
         Kind::Stored { form, element }
+    }
+
+    /// Mostly of two or three types.
+    fn map_kind(&mut self) -> Kind {
+        let number = match self.random.below(4) {
+            0 => self.random.between(2, 8),
+            1 => 3,
+            _ => 2,
+        };
+        let types: Vec<Element> = (0..number).map(|_| self.element_kind()).collect();
+        Kind::Map(MapTypes::new(&types).expect("maps have 2 to 8 types"))
+    }
+
+    fn element_kind(&mut self) -> Element {
+        match self.random.below(16) {
+            11.. => Element::Object(self.random.below(self.types.len() as u64)),
+            10 => Element::Annotation,
+            plain => Element::of(5 + plain).expect("5 to 14 are element kinds"),
+        }
     }
 
     fn constant(&mut self) -> Kind {
@@ -293,23 +310,50 @@ impl World<'_> {
 
     fn chunk(&mut self, kind: Kind, values: u64) -> Vec<u8> {
         let mut chunk = Vec::new();
-        if let Kind::Stored { form, element } = kind {
-            for _ in 0..values {
-                let length = match form {
-                    Form::Single => 1,
-                    Form::Fixed(length) => length,
-                    Form::Sized(_) => {
-                        let length = self.array_length(values);
-                        v64::write(&mut chunk, length);
-                        length
-                    }
-                };
-                for _ in 0..length {
-                    self.element(element, &mut chunk);
-                }
+        for _ in 0..values {
+            match kind {
+                Kind::Constant { .. } => {}
+                Kind::Stored { form, element } => self.array(form, element, values, &mut chunk),
+                Kind::Map(types) => self.map(types.elements(), values, &mut chunk),
             }
         }
         chunk
+    }
+
+    /// A value of one or more elements, in a chunk of so many values.
+    fn array(&mut self, form: Form, element: Element, values: u64, out: &mut Vec<u8>) {
+        let length = match form {
+            Form::Single => 1,
+            Form::Fixed(length) => length,
+            Form::Sized(_) => {
+                let length = self.array_length(values);
+                v64::write(out, length);
+                length
+            }
+        };
+        for _ in 0..length {
+            self.element(element, out);
+        }
+    }
+
+    /// A map of the first type to what the others make, in a chunk of so many
+    /// values.
+    fn map(&mut self, types: &[Element], values: u64, out: &mut Vec<u8>) {
+        let (&first, rest) = types.split_first().expect("a type is left");
+        if rest.is_empty() {
+            return self.element(first, out);
+        }
+        // One key on average where others are below it: no map grows with
+        // its number of types.
+        let size = match rest.len() {
+            1 => self.array_length(values),
+            _ => self.random.below(3),
+        };
+        v64::write(out, size);
+        for _ in 0..size {
+            self.element(first, out);
+            self.map(rest, values, out);
+        }
     }
 
     /// Short, so that files stay small, but now and then of two bytes.
@@ -338,6 +382,11 @@ impl World<'_> {
                 let number = self.object(index as usize);
                 v64::write(out, number);
             }
+            Element::Annotation => {
+                let (name, number) = self.annotation();
+                v64::write(out, name);
+                v64::write(out, number);
+            }
         }
     }
 
@@ -349,6 +398,18 @@ impl World<'_> {
         }
         let &(first, count) = self.random.pick(ranges);
         first + self.random.below(count)
+    }
+
+    /// A base type's name and an object of its pool, or null.
+    fn annotation(&mut self) -> (u64, u64) {
+        let index = self.random.index(self.types.len());
+        let base = self.types[index].base;
+        let number = self.object(base);
+        if number == 0 {
+            return (0, 0);
+        }
+        let names = self.numbers_of(&self.types[base].name);
+        (*self.random.pick(&names), number)
     }
 
     fn any_string(&mut self) -> Vec<u8> {
@@ -369,16 +430,19 @@ impl World<'_> {
     /// A string number that stands for this name: one that is there, or one
     /// more string.
     fn number_of(&mut self, name: &[u8]) -> u64 {
-        let there: Vec<u64> = (1..)
-            .zip(&self.strings)
-            .filter(|(_, text)| &text[..] == name)
-            .map(|(number, _)| number)
-            .collect();
+        let there = self.numbers_of(name);
         let again = there.is_empty() || self.random.once_in(8);
         if again && self.push_string(name.to_vec()) {
             return self.strings.len() as u64;
         }
         *self.random.pick(&there)
+    }
+
+    /// The numbers of the strings that are this name.
+    fn numbers_of(&self, name: &[u8]) -> Vec<u64> {
+        let numbered = (1..).zip(&self.strings);
+        let equal = numbered.filter(|(_, text)| &text[..] == name);
+        equal.map(|(number, _)| number).collect()
     }
 }
 

@@ -4,9 +4,11 @@
 //! made for a rule carry the answer the paper gives; they come first, the ones
 //! made by chance behind them.
 
+mod annotations;
 mod damage;
 mod extremes;
 mod good;
+mod maps;
 mod neighbours;
 pub mod notation;
 pub mod random;
@@ -75,6 +77,8 @@ pub fn fixed_files() -> Vec<Case> {
             .flat_map(|section| section.cases),
     );
     cases.extend(rules::cases());
+    cases.extend(annotations::cases());
+    cases.extend(maps::cases());
     cases.extend(neighbours::cases());
     cases.extend(extremes::cases());
     cases.extend(thorough());
@@ -103,11 +107,12 @@ fn thorough() -> Vec<Case> {
         ("all array kinds", rules::ALL_ARRAYS),
         ("tree", rules::TREE),
         ("late fields", rules::LATE),
+        ("annotations and maps", maps::LINKED),
     ];
     for (name, text) in named {
         let file = notation::bytes(text);
         let mut damaged = damage::cuts(&file);
-        if matches!(name, "E" | "tree" | "late fields") {
+        if matches!(name, "E" | "tree" | "late fields" | "annotations and maps") {
             damaged.extend(damage::flips(&file));
             damaged.extend(damage::shifts(&file));
         }

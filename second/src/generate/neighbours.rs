@@ -11,7 +11,18 @@ type Row = (&'static str, u8, &'static str);
 
 /// All of them.
 pub fn cases() -> Vec<Case> {
-    let rows = [NAMES, WIDE, SIBLINGS, RANGES, FIELDS, LATE, REFERENCES].concat();
+    let rows = [
+        NAMES,
+        WIDE,
+        SIBLINGS,
+        RANGES,
+        FIELDS,
+        LATE,
+        REFERENCES,
+        ANNOTATIONS,
+        MAPS,
+    ]
+    .concat();
     let rows = rows.into_iter();
     let mut cases: Vec<Case> = rows
         .map(|(label, answer, text)| Case::ruled(label, answer, bytes(text)))
@@ -153,6 +164,21 @@ const WIDE: &[Row] = &[
         "P 01 01 00 01 00 01 00 11 8B 80 80 80 10 01 02 01 05",
     ),
     (
+        "2^32+2 types of a map",
+        10,
+        "P 01 01 00 01 00 01 00 14 82 80 80 80 10 07 07 01 01 00",
+    ),
+    (
+        "key kind of 2^32+7",
+        10,
+        "P 01 01 00 01 00 01 00 14 02 87 80 80 80 10 07 01 01 00",
+    ),
+    (
+        "value kind of 2^32+32",
+        10,
+        "P 01 01 00 01 00 01 00 14 02 07 A0 80 80 80 10 01 01 00",
+    ),
+    (
         "field name of 2^32+1",
         5,
         "P 01 01 00 01 00 01 00 0B 81 80 80 80 10 01 05",
@@ -166,6 +192,26 @@ const WIDE: &[Row] = &[
         "array length of 2^32+1",
         3,
         "P 01 01 00 01 00 01 00 11 07 01 06 81 80 80 80 10 05",
+    ),
+    (
+        "map size of 2^32+1",
+        3,
+        "P 01 01 00 01 00 01 00 14 02 07 07 01 07 81 80 80 80 10 05 06",
+    ),
+    (
+        "inner map size of 2^32",
+        3,
+        "P 01 01 00 01 00 01 00 14 03 07 07 07 01 07 01 05 80 80 80 80 10",
+    ),
+    (
+        "annotation's string number of 2^32+1",
+        14,
+        "P 01 01 00 01 00 01 00 05 01 06 81 80 80 80 10 01",
+    ),
+    (
+        "annotation's object number of 2^32+1",
+        14,
+        "P 01 01 00 01 00 01 00 05 01 06 01 81 80 80 80 10",
     ),
     (
         "string number of 2^32+1",
@@ -422,6 +468,134 @@ const REFERENCES: &[Row] = &[
     ),
 ];
 
+/// Names that nearly are a base type's, and objects that nearly are there.
+const ANNOTATIONS: &[Row] = &[
+    (
+        "annotation by a name of nine bytes",
+        0,
+        "02 00000009 00000012 'abcdefghi 'abcdefghi 01 01 00 01 00 01 00 05 01 02 0201",
+    ),
+    (
+        "annotation by a name that differs in the ninth byte",
+        14,
+        "02 00000009 00000012 'abcdefghi 'abcdefghj 01 01 00 01 00 01 00 05 01 02 0201",
+    ),
+    (
+        "annotation by a name that goes on behind a 00",
+        14,
+        "02 00000003 00000006 610062 610063 01 01 00 01 00 01 00 05 01 02 0201",
+    ),
+    (
+        "annotation by a name with a capital",
+        14,
+        "02 00000001 00000002 61 41 01 01 00 01 00 01 00 05 01 02 0201",
+    ),
+    (
+        "annotation by the second of two base types",
+        0,
+        "P 02 01 00 01 00 01 00 05 01 02 02 00 03 00 00 0203",
+    ),
+    (
+        "annotation by the first of two base types, an object of the second",
+        14,
+        "P 02 01 00 01 00 01 00 05 01 02 02 00 03 00 00 0103",
+    ),
+    (
+        "annotation by a base type behind a subtype of another",
+        0,
+        "P 03 01 00 02 00 01 00 05 01 04 02 01 00 01 00 00 03 00 03 00 00 0303 0102",
+    ),
+    (
+        "annotation by a subtype before a base type of more objects",
+        14,
+        "P 03 01 00 02 00 01 00 05 01 04 02 01 00 01 00 00 03 00 03 00 00 0201 0102",
+    ),
+    (
+        "annotation to an object of a subtype's gap",
+        0,
+        "P 02 01 00 03 00 01 00 05 01 06 02 01 01 01 00 00 0101 0102 0103",
+    ),
+    (
+        "annotation to the objects of three pairs",
+        0,
+        "P 01 01 00 02 00 00 00 01 01 02 00 00 01 01 02 01 00 05 02 0C 0101 0102 0103 0104 0105 0106",
+    ),
+    (
+        "annotation past the objects of three pairs",
+        14,
+        "P 01 01 00 02 00 00 00 01 01 02 00 00 01 01 02 01 00 05 02 0C 0101 0102 0103 0104 0105 0107",
+    ),
+    (
+        "annotation to a type that has its objects in an earlier pair",
+        0,
+        "P 02 01 00 02 00 00 02 00 01 00 00 00 02 01 00 00 02 01 01 00 05 01 04 0102 0201",
+    ),
+    (
+        "annotation and reference to the same objects",
+        0,
+        "P 02 01 00 02 00 02 00 05 03 04 00 21 04 06 02 01 01 01 00 00 0102 0101 02 00",
+    ),
+];
+
+/// One byte of a map more, less or another.
+const MAPS: &[Row] = &[
+    (
+        "two maps of one key and one of none",
+        0,
+        "P 01 01 00 03 00 01 00 14 02 07 07 01 07 01 02 03 00 01 04 05",
+    ),
+    (
+        "two maps of one key and one of none, a size more",
+        12,
+        "P 01 01 00 03 00 01 00 14 02 07 07 01 07 01 02 03 01 01 04 05",
+    ),
+    (
+        "map of three types, a size more",
+        12,
+        "P 01 01 00 01 00 01 00 14 03 07 07 07 01 07 02 01 01 02 03 04 01",
+    ),
+    (
+        "map of three types, a size less",
+        12,
+        "P 01 01 00 01 00 01 00 14 03 07 07 07 01 07 01 01 01 02 03 04 00",
+    ),
+    (
+        "map of three types, both sizes right",
+        0,
+        "P 01 01 00 01 00 01 00 14 03 07 07 07 01 07 02 01 01 02 03 04 00",
+    ),
+    (
+        "map of references, each of its own type",
+        0,
+        "P 02 01 00 01 00 01 00 14 02 20 21 01 03 02 00 02 00 00 01 01 02",
+    ),
+    (
+        "map of references, each of the other's type",
+        14,
+        "P 02 01 00 01 00 01 00 14 02 20 21 01 03 02 00 02 00 00 01 02 01",
+    ),
+    (
+        "map of annotations and strings",
+        0,
+        "P 01 01 00 01 00 01 00 14 02 05 0E 01 04 01 01 01 05",
+    ),
+    (
+        "map of strings and annotations",
+        14,
+        "P 01 01 00 01 00 01 00 14 02 0E 05 01 04 01 01 01 05",
+    ),
+    (
+        "map between two plain fields",
+        0,
+        "P 01 01 00 01 00 03 00 07 01 01 00 14 02 07 08 02 05 00 07 03 06 09 01 05 0006 08",
+    ),
+    (
+        "map between two plain fields, one byte to the next",
+        12,
+        "P 01 01 00 01 00 03 00 07 01 01 00 14 02 07 08 02 04 00 07 03 06 09 01 05 0006 08",
+    ),
+];
+
 /// What stands before a missing or cut element is tested first, in an array
 /// of each kind and in single values.
 fn cut_arrays() -> Vec<Case> {
@@ -433,6 +607,10 @@ fn cut_arrays() -> Vec<Case> {
         ("0E", "05", "8500", 2, "85"),
         ("20", "01", "03", 14, "81"),
         ("20", "01", "8100", 2, "81"),
+        ("05", "0102", "0103", 14, "01"),
+        ("05", "0101", "0301", 14, "0381"),
+        ("05", "0000", "0001", 14, "00"),
+        ("05", "0000", "018100", 2, "0181"),
     ];
     let mut cases = Vec::new();
     for (kind, good, wrong, answer, cut) in elements {
@@ -469,7 +647,7 @@ fn cut_arrays() -> Vec<Case> {
                 {
                     let mut elements = vec![good; count];
                     elements[0] = wrong;
-                    [value(&elements), good.repeat(60)].concat()
+                    [value(&elements), good.repeat(50)].concat()
                 },
             );
             if !cut.is_empty() {

@@ -8,6 +8,9 @@
 //! - `S33`: a string block of 33 strings of one byte each, a and on
 //! - `D`, `E`: the paper's files of these names
 //! - `'word`: the bytes of the word itself
+//! - `[ .. ]`: the end offset of a first chunk, as a v64, and the chunk
+
+use crate::v64;
 
 /// The paper's file D.
 pub const FILE_D: &str = "01 00000004 64617465 01 01 00 02 00 01 00 0B 01 0A 01 FF*9";
@@ -24,8 +27,11 @@ const PIECE_Q: &str = "02 00000001 00000002 6162";
 /// If the text is not in this notation; all of them stand in this package.
 pub fn bytes(text: &str) -> Vec<u8> {
     let mut out = Vec::new();
+    let mut chunk = 0;
     for word in text.split_whitespace() {
         match word {
+            "[" => chunk = out.len(),
+            "]" => drop(out.splice(chunk..chunk, v64::coded((out.len() - chunk) as u64))),
             "P" => out.extend(bytes(PIECE_P)),
             "Q" => out.extend(bytes(PIECE_Q)),
             "D" => out.extend(bytes(FILE_D)),

@@ -2,7 +2,7 @@
 //! sentence of its readings, with the answer the paper gives.
 
 use super::notation::bytes;
-use super::Case;
+use super::{maps, Case};
 use crate::v64;
 
 /// A case by its label, answer (0 for accepted) and bytes.
@@ -217,7 +217,7 @@ const PADDED: &[Row] = &[
     (
         "padded kind that is not listed",
         2,
-        "P 01 01 00 01 00 01 00 85 00",
+        "P 01 01 00 01 00 01 00 90 00",
     ),
     ("padded kind", 2, "P 01 01 00 01 00 01 00 8B 00 01 01 00"),
     (
@@ -233,7 +233,7 @@ const PADDED: &[Row] = &[
     (
         "padded element kind that is not listed",
         2,
-        "P 01 01 00 01 00 01 00 11 85 00",
+        "P 01 01 00 01 00 01 00 11 90 00",
     ),
     (
         "padded field name that would be 0",
@@ -624,9 +624,10 @@ const FIELDS: &[Row] = &[
 ];
 
 const KINDS: &[Row] = &[
-    ("kind 5, nothing behind", 10, "P 01 01 00 01 00 01 00 05"),
+    ("kind 5, nothing behind", 1, "P 01 01 00 01 00 01 00 05"),
     ("kind 16, nothing behind", 10, "P 01 01 00 01 00 01 00 10"),
-    ("kind 20, nothing behind", 10, "P 01 01 00 01 00 01 00 14"),
+    ("kind 20, nothing behind", 1, "P 01 01 00 01 00 01 00 14"),
+    ("kind 21, nothing behind", 10, "P 01 01 00 01 00 01 00 15"),
     ("kind 31, nothing behind", 10, "P 01 01 00 01 00 01 00 1F"),
     ("kind 32, nothing behind", 1, "P 01 01 00 01 00 01 00 20"),
     (
@@ -1182,6 +1183,7 @@ const GOOD: &[Row] = &[
     ("all array kinds in one type", 0, ALL_ARRAYS),
     ("tree of five types in two blocks", 0, TREE),
     ("late fields twice", 0, LATE),
+    ("annotations and maps in two blocks", 0, maps::LINKED),
     ("numbers of two bytes", 0, "81 01 00000000*127 00000001 00000002 6162 01 80 01 00 80 01 00 01 00 07 81 01 80 01 05*128"),
 ];
 
@@ -1214,14 +1216,14 @@ pub const LATE: &str = "Q 01 01 00 02 00 01 00 07 01 02 0102 \
 
 /// Every kind and element kind that is not listed, good behind it.
 fn unlisted_kinds() -> Vec<Case> {
-    let wrong = [5, 16].into_iter().chain(20..32);
+    let wrong = [16].into_iter().chain(21..32);
     let mut cases = Vec::new();
     for kind in wrong {
         let field = [v64::coded(kind), vec![1, 0]].concat();
         let file = [bytes("P 01 01 00 00 00 01 00"), field].concat();
         cases.push(Case::ruled(&format!("kind {kind}"), 10, file));
     }
-    for kind in (0..6).chain(15..32) {
+    for kind in (0..5).chain(15..32) {
         for array in ["0F 02", "11", "12", "13"] {
             let front = bytes(&format!("P 01 01 00 00 00 01 00 {array}"));
             let file = [front, v64::coded(kind), vec![1, 0]].concat();
@@ -1235,6 +1237,7 @@ fn unlisted_kinds() -> Vec<Case> {
 /// Every array kind with every element kind, two objects.
 fn element_kinds() -> Vec<Case> {
     let elements = [
+        ("05", "0203", "0000"),
         ("06", "FF", "00"),
         ("07", "80", "7F"),
         ("08", "8000", "7FFF"),

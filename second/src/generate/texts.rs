@@ -1,7 +1,7 @@
 //! Listings: good ones, and ones that no accepted file has.
 
 use super::random::Random;
-use super::{good, neighbours, rules, Case};
+use super::{annotations, good, maps, neighbours, rules, Case};
 use crate::bounds;
 use crate::draft;
 use crate::listing;
@@ -29,6 +29,8 @@ pub fn fixed() -> Vec<Case> {
     cases.extend(changed());
     cases.extend(parted());
     cases.extend(values());
+    cases.extend(map_values());
+    cases.extend(map_kinds());
     cases.extend(constants());
     cases.extend(whole());
     cases.extend(extremes());
@@ -56,16 +58,32 @@ fn changed() -> Vec<Case> {
     cases
 }
 
-/// Every tab and newline of a listing doubled, left out, or another byte.
+/// Every tab, comma and newline of two listings doubled, left out, or another
+/// byte.
 fn parted() -> Vec<Case> {
-    let text = "pair\t2\t2\nstr\t61\nstr\t62\ntype\t1\t0\t-\t2\t2\nnew\t17,11\t1\nnew\t15,2,8\t2\n\
+    [PARTED, PARTED_MAPS]
+        .into_iter()
+        .flat_map(parted_in)
+        .collect()
+}
+
+const PARTED: &str =
+    "pair\t2\t2\nstr\t61\nstr\t62\ntype\t1\t0\t-\t2\t2\nnew\t17,11\t1\nnew\t15,2,8\t2\n\
         type\t2\t1\t1\t1\t1\nnew\t0,-5\t1\nval\t-1\t-2\nval\nval\t3\t4\nval\t5\t6\n\
-        pair\t0\t1\ntype\t1\t-\t-\t1\t2\nold\nold\nval\nval\t7\t8\n";
+    pair\t0\t1\ntype\t1\t-\t-\t1\t2\nold\nold\nval\nval\t7\t8\n";
+
+const PARTED_MAPS: &str = "pair\t3\t1\nstr\t61\nstr\t62\nstr\t63\ntype\t1\t0\t-\t2\t3\nnew\t5\t1\n\
+    new\t18,5\t2\nnew\t20,3,14,11,5\t3\nval\t1\t2\nval\t0\t0\nval\nval\t1\t1\t1\t2\n\
+    val\t2\t3\t1\t-5\t1\t2\t0\t0\nval\t0\npair\t0\t1\ntype\t1\t-\t-\t1\t3\nold\nold\nold\n\
+    val\t1\t3\nval\t0\t0\nval\t1\t0\t2\t7\t0\t0\t7\t1\t1\n";
+
+fn parted_in(text: &str) -> Vec<Case> {
     let mut cases = vec![Case::ruled("listing to be parted", GOOD, text.into())];
     for (place, byte) in text.bytes().enumerate() {
         let instead: &[&str] = match byte {
             b'\t' => &["\t\t", "", " ", "\n", ",", " \t", "\t "],
             b'\n' => &["\n\n", "", " ", "\r\n", "\r", "\t\n", " \n", "\0"],
+            b',' => &[",,", "", " ", ", ", ".", "\t", "\n"],
             _ => &[],
         };
         for new in instead {
@@ -205,6 +223,7 @@ const CHANGES: &[(&str, &str, u8)] = &[
     ("new\t11\t1", "new\t5\t1", BAD),
     ("new\t11\t1", "new\t16\t1", BAD),
     ("new\t11\t1", "new\t20\t1", BAD),
+    ("new\t11\t1", "new\t21\t1", BAD),
     ("new\t11\t1", "new\t31\t1", BAD),
     ("new\t11\t1", "new\t32\t1", BAD),
     ("new\t11\t1", "new\t33\t1", BAD),
@@ -234,6 +253,8 @@ const CHANGES: &[(&str, &str, u8)] = &[
     ("new\t11\t1", "new\t14,11\t1", BAD),
     ("new\t11\t1", "new\t17,17\t1", BAD),
     ("new\t11\t1", "new\t17,5\t1", BAD),
+    ("new\t11\t1", "new\t17,16\t1", BAD),
+    ("new\t11\t1", "new\t17,20\t1", BAD),
     ("new\t11\t1", "new\t17,11,11\t1", BAD),
     ("new\t11\t1", "old", BAD),
 ];
@@ -317,6 +338,76 @@ fn values() -> Vec<Case> {
         ),
         ("33", &[], &["\t0"]),
         (
+            "5",
+            &["\t0\t0", "\t1\t1"],
+            &[
+                "",
+                "\t",
+                "\t0",
+                "\t1",
+                "\t0\t1",
+                "\t1\t0",
+                "\t1\t2",
+                "\t2\t1",
+                "\t61\t1",
+                "\t0\t0\t0",
+                "\t1\t1\t",
+                "\t1\t1\t1",
+                "\t1\t1\t1\t1",
+                "\t1\t1 ",
+                "\t1 1",
+                "\t1,1",
+                "\t1\t\t1",
+                "\t01\t1",
+                "\t1\t01",
+                "\t00\t0",
+                "\t-0\t0",
+                "\t0\t-0",
+                "\t-1\t1",
+                "\t1\t-1",
+                "\t-",
+                "\t-\t-",
+                "\t18446744073709551615\t1",
+                "\t18446744073709551616\t0",
+                "\t18446744073709551617\t1",
+                "\t1\t18446744073709551615",
+                "\t0\t18446744073709551616",
+                "\t1\t18446744073709551617",
+            ],
+        ),
+        (
+            "17,5",
+            &["", "\t0\t0", "\t1\t1\t0\t0", "\t1\t1\t1\t1\t1\t1"],
+            &[
+                "\t",
+                "\t0",
+                "\t1\t1\t",
+                "\t1\t1\t1",
+                "\t0\t0\t0\t0\t0",
+                "\t1\t1\t1\t0",
+                "\t0\t0\t0\t1",
+                "\t1\t1\t2\t1",
+                "\t1\t1\t1\t2",
+            ],
+        ),
+        ("18,5", &["", "\t0\t0\t1\t1"], &["\t0", "\t1\t1\t0"]),
+        ("19,5", &["", "\t1\t1\t1\t1"], &["\t1", "\t1\t1\t1\t2"]),
+        ("15,0,5", &[""], &["\t", "\t0", "\t0\t0"]),
+        ("15,1,5", &["\t0\t0", "\t1\t1"], &["", "\t0", "\t0\t0\t0"]),
+        (
+            "15,2,5",
+            &["\t1\t1\t0\t0", "\t0\t0\t1\t1"],
+            &[
+                "",
+                "\t1\t1",
+                "\t1\t1\t0",
+                "\t1\t1\t0\t0\t0",
+                "\t1\t1\t0\t0\t0\t0",
+                "\t1\t0\t0\t1",
+                "\t1\t1\t1\t2",
+            ],
+        ),
+        (
             "17,6",
             &["", "\t0", "\t1\t0\t1"],
             &["\t", "\t2", "\t1\t", "\t\t1", "\t1 0"],
@@ -357,6 +448,287 @@ fn values() -> Vec<Case> {
             }
         }
     }
+    cases
+}
+
+/// Maps: sizes before their keys, each key with what it leads to.
+fn map_values() -> Vec<Case> {
+    let rows: &[(&str, &[&str], &[&str])] = &[
+        (
+            "20,2,6,7",
+            &["0", "1 0 5", "1 1 -128", "2 1 127 0 -1", "3 1 1 1 2 1 3"],
+            &[
+                "",
+                "1",
+                "1 0",
+                "0 0 5",
+                "1 0 5 0",
+                "1 0 5 1 6",
+                "2 0 5",
+                "2 0 5 1",
+                "3 0 5 1 6",
+                "1 2 5",
+                "1 0 128",
+                "1 0 -0",
+                "1 0 05",
+                "00",
+                "-0",
+                "-1",
+                "-",
+                "01 0 5",
+                "+1 0 5",
+                "1,0 5",
+                "1 0,5",
+                "65535",
+                "65535 0 5",
+                "65536",
+                "65537 0 5",
+                "4294967297 0 5",
+                "18446744073709551615",
+                "18446744073709551615 0 5",
+                "18446744073709551616",
+                "18446744073709551617 0 5",
+                "100000000000000000000000000000000000000001 0 5",
+            ],
+        ),
+        (
+            "20,3,6,7,14",
+            &[
+                "0",
+                "1 0 0",
+                "1 0 1 5 1",
+                "2 1 0 1 2 5 0 5 1",
+                "2 0 2 1 1 2 0 1 1 3 1",
+            ],
+            &[
+                "",
+                "1",
+                "1 0",
+                "1 0 1",
+                "1 0 1 5",
+                "1 0 5 1",
+                "1 5 0 1",
+                "1 0 0 5 1",
+                "1 0 2 5 1",
+                "1 0 1 5 2",
+                "1 0 1 5 1 0",
+                "1 0 1 5 1 0 0",
+                "2 0 1 5 1",
+                "2 0 1 5 1 1",
+                "2 0 1 5 1 1 1",
+                "1 0 00",
+                "1 0 -1",
+                "1 0 65535",
+                "1 0 65536",
+                "1 0 65537 5 1",
+                "1 0 18446744073709551615",
+                "1 0 18446744073709551616",
+                "1 0 18446744073709551617 5 1",
+            ],
+        ),
+        (
+            "20,4,7,7,7,7",
+            &[
+                "0",
+                "1 1 0",
+                "1 1 1 2 0",
+                "1 1 1 2 1 3 4",
+                "2 1 0 2 2 3 0 4 2 5 6 7 8",
+            ],
+            &[
+                "1 1",
+                "1 1 1",
+                "1 1 1 2",
+                "1 1 1 2 1",
+                "1 1 1 2 1 3",
+                "1 1 1 2 1 3 4 5",
+                "1 1 1 2 0 3 4",
+            ],
+        ),
+        (
+            "20,8,7,7,7,7,7,7,7,7",
+            &[
+                "0",
+                "1 1 1 2 1 3 1 4 1 5 1 6 1 7 8",
+                "1 1 1 2 1 3 1 4 1 5 1 6 0",
+                "2 1 0 2 1 3 0",
+            ],
+            &[
+                "1 1 1 2 1 3 1 4 1 5 1 6 1 7",
+                "1 1 1 2 1 3 1 4 1 5 1 6 1",
+                "1 1 1 2 1 3 1 4 1 5 1 6",
+                "1 1 1 2 1 3 1 4 1 5 1 6 0 7 8",
+                "1 1 1 2 1 3 1 4 1 5 1 6 1 7 8 9",
+                "1 1 1 2 1 3 1 4 1 5 1 6 65536",
+                "1 1 1 2 1 3 1 4 1 5 1 6 18446744073709551615",
+                "1 1 2 3 4 5 6 7 8",
+            ],
+        ),
+        (
+            "20,2,5,6",
+            &["0", "1 0 0 1", "1 1 1 0", "2 1 1 0 1 1 1"],
+            &[
+                "1 0 1",
+                "1 1 0 1",
+                "1 0 1 0",
+                "1 1 2 0",
+                "1 2 1 0",
+                "1 0 0",
+                "2 0 0 1",
+                "1 1 1 0 0",
+            ],
+        ),
+        (
+            "20,2,14,5",
+            &["0", "1 0 0 0", "2 1 1 1 0 0 0"],
+            &[
+                "1 0 0",
+                "1 0 0 1",
+                "1 1 1 0",
+                "1 2 0 0",
+                "1 0 0 0 0",
+                "1 1 1 2",
+            ],
+        ),
+        (
+            "20,2,32,32",
+            &["0", "1 1 0", "2 0 1 0 1"],
+            &["1 2 0", "1 0 2", "1 -1 0", "1 1"],
+        ),
+        (
+            "20,2,12,13",
+            &["0", "1 0123abcd 0123456789abcdef"],
+            &[
+                "1 0123abc 0123456789abcdef",
+                "1 0123abcd 0123456789abcdeF",
+                "1 0123abcd",
+            ],
+        ),
+        (
+            "20,3,8,9,10",
+            &[
+                "1 -32768 1 -2147483648 -9223372036854775808",
+                "1 32767 1 2147483647 9223372036854775807",
+            ],
+            &[
+                "1 32768 0",
+                "1 0 1 2147483648 0",
+                "1 0 1 0 9223372036854775808",
+                "1 -32769 0",
+            ],
+        ),
+        (
+            "20,2,11,11",
+            &["2 -1 128 -9223372036854775808 9223372036854775807"],
+            &["1 9223372036854775808 0", "1 0 18446744073709551615"],
+        ),
+    ];
+    let mut cases = Vec::new();
+    for &(kind, right, wrong) in rows {
+        for (list, answer) in [(right, GOOD), (wrong, BAD)] {
+            for value in list {
+                let fields = value.split(' ').filter(|field| !field.is_empty());
+                let fields: String = fields.map(|field| format!("\t{field}")).collect();
+                let text = one_object(kind, &format!("val{fields}\n"));
+                let label = format!("kind {kind}, map {value:?}");
+                cases.push(Case::ruled(&label, answer, text));
+            }
+        }
+    }
+    cases
+}
+
+/// Kinds of maps by their numbers, each with an empty value.
+fn map_kinds() -> Vec<Case> {
+    let right = [
+        "20,2,14,14",
+        "20,2,5,5",
+        "20,2,6,32",
+        "20,2,32,6",
+        "20,3,5,6,7",
+        "20,4,8,9,10,11",
+        "20,5,12,13,14,32,5",
+        "20,6,6,6,6,6,6,6",
+        "20,7,7,7,7,7,7,7,7",
+        "20,8,5,6,7,8,9,10,11,12",
+    ];
+    let wrong = [
+        "20",
+        "20,",
+        "20,2",
+        "20,2,",
+        "20,2,14",
+        "20,2,14,",
+        "20,2,14,14,",
+        "20,2,14,14,14",
+        "20,14,14",
+        "20,2,,14,14",
+        "20,2,14,,14",
+        "20,,2,14,14",
+        ",20,2,14,14",
+        "20,0",
+        "20,0,14",
+        "20,1,14",
+        "20,1,14,14",
+        "20,3,14,14",
+        "20,8,6,6,6,6,6,6,6",
+        "20,8,6,6,6,6,6,6,6,6,6",
+        "20,9,6,6,6,6,6,6,6,6,6",
+        "20,10,6,6,6,6,6,6,6,6,6,6",
+        "20,02,14,14",
+        "020,2,14,14",
+        "20,2,014,14",
+        "20,2,14,014",
+        "20,-2,14,14",
+        "20,2,-14,14",
+        "20,2,14,-14",
+        "20,+2,14,14",
+        "20, 2,14,14",
+        "20,2,14, 14",
+        "20,2,14,14 ",
+        "20.2.14.14",
+        "20,2,0,14",
+        "20,2,4,14",
+        "20,2,14,4",
+        "20,2,15,14",
+        "20,2,14,15",
+        "20,2,16,14",
+        "20,2,14,17",
+        "20,2,18,14",
+        "20,2,14,19",
+        "20,2,20,14",
+        "20,2,14,20",
+        "20,2,21,14",
+        "20,2,14,31",
+        "20,2,33,14",
+        "20,2,14,33",
+        "20,2,14,255",
+        "20,2,256,14",
+        "20,2,14,4294967296",
+        "20,2,14,18446744073709551615",
+        "20,2,14,18446744073709551616",
+        "20,2,18446744073709551630,14",
+        "20,18446744073709551615,14,14",
+        "20,18446744073709551618,14,14",
+        "18446744073709551636,2,14,14",
+        "15,0,20",
+        "17,20",
+        "18,20,2,14,14",
+        "19,20",
+        "20,2,17,14,14",
+        "20,2,15,1,14,14",
+        "21,2,14,14",
+        "19,2,14,14",
+    ];
+    let mut cases = Vec::new();
+    for (list, answer) in [(&right[..], GOOD), (&wrong[..], BAD)] {
+        for kind in list {
+            let text = one_object(kind, "val\t0\n");
+            cases.push(Case::ruled(&format!("map kind {kind:?}"), answer, text));
+        }
+    }
+    let bare = one_object("20,2,14,14", "val\n");
+    cases.push(Case::ruled("an empty map has its size", BAD, bare));
     cases
 }
 
@@ -425,6 +797,23 @@ fn whole() -> Vec<Case> {
         ("old constant", "pair\t1\t1\nstr\t61\ntype\t1\t0\t-\t1\t1\nnew\t0,5\t1\npair\t0\t1\ntype\t1\t-\t-\t1\t1\nold\n", GOOD),
         ("old constant left out", "pair\t1\t1\nstr\t61\ntype\t1\t0\t-\t1\t1\nnew\t0,5\t1\npair\t0\t1\ntype\t1\t-\t-\t1\t0\n", BAD),
         ("reference to a later entry", "pair\t2\t2\nstr\t61\nstr\t62\ntype\t1\t0\t-\t1\t1\nnew\t33\t1\ntype\t2\t0\t-\t1\t0\nval\t1\n", GOOD),
+        ("annotation to a later entry", "pair\t2\t2\nstr\t61\nstr\t62\ntype\t1\t0\t-\t1\t1\nnew\t5\t1\ntype\t2\t0\t-\t2\t0\nval\t2\t2\n", GOOD),
+        ("annotation past a later entry", "pair\t2\t2\nstr\t61\nstr\t62\ntype\t1\t0\t-\t1\t1\nnew\t5\t1\ntype\t2\t0\t-\t2\t0\nval\t2\t3\n", BAD),
+        ("annotation by a subtype's name", "pair\t2\t2\nstr\t61\nstr\t62\ntype\t1\t0\t-\t1\t1\nnew\t5\t1\ntype\t2\t1\t0\t1\t0\nval\t2\t1\n", BAD),
+        ("annotation by an equal string", "pair\t2\t1\nstr\t61\nstr\t61\ntype\t1\t0\t-\t1\t1\nnew\t5\t1\nval\t2\t1\n", GOOD),
+        ("annotation by an empty name", "pair\t2\t1\nstr\t\nstr\t61\ntype\t1\t0\t-\t1\t1\nnew\t5\t2\nval\t1\t1\n", GOOD),
+        ("annotation to a type of the next pair", "pair\t2\t1\nstr\t61\nstr\t62\ntype\t1\t0\t-\t1\t1\nnew\t5\t1\nval\t2\t1\npair\t0\t1\ntype\t2\t0\t-\t1\t0\n", BAD),
+        ("annotation to a type of the pair before", "pair\t2\t1\nstr\t61\nstr\t62\ntype\t2\t0\t-\t1\t0\npair\t0\t1\ntype\t1\t0\t-\t1\t1\nnew\t5\t1\nval\t2\t1\n", GOOD),
+        ("annotation by a string of the next pair", "pair\t1\t1\nstr\t61\ntype\t1\t0\t-\t1\t1\nnew\t5\t1\nval\t2\t1\npair\t1\t0\nstr\t61\n", BAD),
+        ("annotations of a known field", "pair\t1\t1\nstr\t61\ntype\t1\t0\t-\t1\t1\nnew\t5\t1\nval\t0\t0\npair\t0\t1\ntype\t1\t-\t-\t1\t1\nold\nval\t1\t2\n", GOOD),
+        ("annotations of a known field, one line too many", "pair\t1\t1\nstr\t61\ntype\t1\t0\t-\t1\t1\nnew\t5\t1\nval\t0\t0\npair\t0\t1\ntype\t1\t-\t-\t1\t1\nold\nval\t1\t2\nval\t0\t0\n", BAD),
+        ("maps of a known field", "pair\t1\t1\nstr\t61\ntype\t1\t0\t-\t1\t1\nnew\t20,2,32,5\t1\nval\t0\npair\t0\t1\ntype\t1\t-\t-\t1\t1\nold\nval\t1\t2\t1\t2\n", GOOD),
+        ("maps of a known field, of the next pair's object", "pair\t1\t1\nstr\t61\ntype\t1\t0\t-\t1\t1\nnew\t20,2,32,5\t1\nval\t1\t2\t0\t0\npair\t0\t1\ntype\t1\t-\t-\t1\t1\nold\nval\t0\n", BAD),
+        ("maps of a late field", "pair\t1\t1\nstr\t61\ntype\t1\t0\t-\t1\t0\npair\t0\t1\ntype\t1\t-\t-\t1\t1\nnew\t20,2,7,7\t1\nval\t1\t5\t6\nval\t0\n", GOOD),
+        ("maps of a late field, one line missing", "pair\t1\t1\nstr\t61\ntype\t1\t0\t-\t1\t0\npair\t0\t1\ntype\t1\t-\t-\t1\t1\nnew\t20,2,7,7\t1\nval\t1\t5\t6\n", BAD),
+        ("map of a later entry's type", "pair\t2\t2\nstr\t61\nstr\t62\ntype\t1\t0\t-\t1\t1\nnew\t20,2,33,6\t1\ntype\t2\t0\t-\t1\t0\nval\t1\t1\t0\n", GOOD),
+        ("map of the next pair's type", "pair\t2\t1\nstr\t61\nstr\t62\ntype\t1\t0\t-\t1\t1\nnew\t20,2,33,6\t1\nval\t0\npair\t0\t1\ntype\t2\t0\t-\t1\t0\n", BAD),
+        ("map over two lines", "pair\t1\t1\nstr\t61\ntype\t1\t0\t-\t1\t1\nnew\t20,2,7,7\t1\nval\t2\t5\t6\nval\t7\t8\n", BAD),
         ("values among the entries", "pair\t2\t2\nstr\t61\nstr\t62\ntype\t1\t0\t-\t1\t1\nnew\t11\t1\nval\t1\ntype\t2\t0\t-\t1\t0\n", BAD),
     ];
     for &(label, text, answer) in plain {
@@ -473,6 +862,10 @@ fn extremes() -> Vec<Case> {
     };
     let array =
         |kind: &str, length: usize| one_object(kind, &format!("val{}\n", "\t1".repeat(length)));
+    let map = |kind: &str, size: &str, piece: &str, keys: usize| {
+        one_object(kind, &format!("val\t{size}{}\n", piece.repeat(keys)))
+    };
+    let (two, three) = ("20,2,7,6", "20,3,7,7,6");
     vec![
         Case::ruled("32 pairs", GOOD, empty_pairs(32)),
         Case::ruled("33 pairs", BAD, empty_pairs(33)),
@@ -495,6 +888,50 @@ fn extremes() -> Vec<Case> {
         Case::ruled("200000 values", BAD, column(200_000, 200_000)),
         Case::ruled("array of 65535", GOOD, array("17,7", 65_535)),
         Case::ruled("array of 65536", BAD, array("17,7", 65_536)),
+        Case::ruled("map of 65535", GOOD, map(two, "65535", "\t1\t0", 65_535)),
+        Case::ruled(
+            "map of 65535, one missing",
+            BAD,
+            map(two, "65535", "\t1\t0", 65_534),
+        ),
+        Case::ruled(
+            "map of 65535, one too many",
+            BAD,
+            map(two, "65535", "\t1\t0", 65_536),
+        ),
+        Case::ruled("map of 65536", BAD, map(two, "65536", "\t1\t0", 65_536)),
+        Case::ruled(
+            "map of 2^64 - 1",
+            BAD,
+            map(two, "18446744073709551615", "\t1\t0", 70_000),
+        ),
+        Case::ruled(
+            "map of 65535 empty maps",
+            GOOD,
+            map(three, "65535", "\t1\t0", 65_535),
+        ),
+        Case::ruled(
+            "map of 65536 empty maps",
+            BAD,
+            map(three, "65536", "\t1\t0", 65_536),
+        ),
+        Case::ruled(
+            "inner map of 65535",
+            GOOD,
+            map(three, "1\t5\t65535", "\t1\t0", 65_535),
+        ),
+        Case::ruled(
+            "inner map of 65536",
+            BAD,
+            map(three, "1\t5\t65536", "\t1\t0", 65_536),
+        ),
+        Case::ruled(
+            "inner map of 2^64 - 1",
+            BAD,
+            map(three, "1\t5\t18446744073709551615", "\t1\t0", 70_000),
+        ),
+        Case::ruled("array of 65535 annotations", GOOD, array("17,5", 131_070)),
+        Case::ruled("array of 65536 annotations", BAD, array("17,5", 131_072)),
         Case::ruled("fixed array of 65535", GOOD, array("15,65535,6", 65_535)),
         Case::ruled("fixed array of 65536", BAD, array("15,65536,6", 65_536)),
         Case::ruled(
@@ -513,8 +950,13 @@ fn extremes() -> Vec<Case> {
 
 /// The listings of the accepted files made for rules.
 fn of_rules() -> Vec<Case> {
-    let cases = rules::cases().into_iter().chain(neighbours::cases());
-    let accepted = cases.filter_map(|case| {
+    let cases = [
+        rules::cases(),
+        annotations::cases(),
+        maps::cases(),
+        neighbours::cases(),
+    ];
+    let accepted = cases.into_iter().flatten().filter_map(|case| {
         let text = listing_of(&case.bytes)?;
         Some(Case::ruled(
             &format!("listing of: {}", case.label),
@@ -525,25 +967,36 @@ fn of_rules() -> Vec<Case> {
     accepted.collect()
 }
 
-/// Every byte value at some places of E's listing.
+/// Every byte value at some places of E's listing, and of a map.
 fn every_byte() -> Vec<Case> {
-    let mut cases = Vec::new();
+    let last = LISTING_E.len() - 1;
+    let places = [0, 4, 5, 9, 14, 22, 29, last - 1, last];
+    let mut cases = every_byte_at("listing of E", LISTING_E, &places);
+    let text = one_object("20,2,7,5", "val\t1\t5\t1\t1\n");
+    let text = String::from_utf8(text).expect("a listing is ASCII");
+    let at = |piece: &str, place: usize| text.find(piece).expect("a piece of it") + place;
+    let (kind, value) = (at("20,2", 0), at("val", 0));
     let places = [
-        0,
-        4,
-        5,
-        9,
-        14,
-        22,
-        29,
-        LISTING_E.len() - 2,
-        LISTING_E.len() - 1,
+        kind + 1,
+        kind + 2,
+        kind + 3,
+        kind + 5,
+        value + 4,
+        value + 5,
+        value + 6,
+        value + 8,
     ];
-    for place in places {
+    cases.extend(every_byte_at("listing of a map", &text, &places));
+    cases
+}
+
+fn every_byte_at(name: &str, text: &str, places: &[usize]) -> Vec<Case> {
+    let mut cases = Vec::new();
+    for &place in places {
         for byte in 0..=255 {
-            let mut text = LISTING_E.as_bytes().to_vec();
+            let mut text = text.as_bytes().to_vec();
             text[place] = byte;
-            let label = format!("listing of E, byte {byte:02x} at {place}");
+            let label = format!("{name}, byte {byte:02x} at {place}");
             cases.push(Case::chance(label, text));
         }
     }

@@ -10,6 +10,8 @@ pub fn ask(sheet: &mut Sheet) {
     values(sheet);
     words(sheet);
     kinds(sheet);
+    annotations(sheet);
+    maps(sheet);
     rows(
         sheet,
         "heads-built",
@@ -180,12 +182,16 @@ fn kinds(sheet: &mut Sheet) {
         ("16,6", "\t0"),
         ("20", "\t0"),
         ("20,6", "\t0"),
+        ("21", "\t0"),
+        ("21,6", "\t0"),
         ("31", "\t0"),
         ("17,5", ""),
+        ("17,16", ""),
         ("17,4", ""),
         ("17,15", ""),
         ("17,31", ""),
         ("15,0,5", ""),
+        ("15,0,16", ""),
         ("15,0,15", ""),
         ("15,1", "\t0"),
         ("15,1,6,6", "\t0"),
@@ -252,6 +258,227 @@ fn kinds(sheet: &mut Sheet) {
         "constants-built",
         "constants at the ends of their ranges, lengths at their bound",
     );
+}
+
+/// Annotations: two fields each.
+fn annotations(sheet: &mut Sheet) {
+    for value in [
+        "\t0\t0",
+        "\t1\t1",
+        "",
+        "\t0",
+        "\t1",
+        "\t1\t0",
+        "\t0\t1",
+        "\t1\t2",
+        "\t2\t1",
+        "\t2\t0",
+        "\t1\t1\t",
+        "\t1\t1\t1",
+        "\t1\t1\t0\t0",
+        "\t1\t01",
+        "\t01\t1",
+        "\t1\t-1",
+        "\t-1\t1",
+        "\t-0\t0",
+        "\t-",
+        "\t-\t-",
+        "\t1,1",
+        "\t1 1",
+        "\t1\t\t1",
+        "\t18446744073709551615\t1",
+        "\t1\t18446744073709551615",
+        "\t18446744073709551617\t1",
+        "\t1\t18446744073709551617",
+        "\t18446744073709551616\t18446744073709551616",
+    ] {
+        sheet.build(ROOM, TABLE, &one("5", value));
+    }
+    sheet.state(
+        "annotations-built",
+        "an annotation is two fields, both 0 or neither",
+    );
+    for (kind, value) in [
+        ("17,5", "\t0\t0\t1\t1"),
+        ("17,5", "\t0"),
+        ("17,5", "\t1\t1\t0"),
+        ("17,5", "\t1\t1\t0\t1"),
+        ("17,5", "\t1\t1\t1\t2"),
+        ("18,5", "\t1\t1\t1\t1"),
+        ("18,5", "\t1\t1\t1"),
+        ("19,5", "\t0\t0\t0\t0"),
+        ("19,5", "\t0\t0\t0\t0\t0"),
+        ("15,2,5", "\t1\t1\t0\t0"),
+        ("15,2,5", "\t1\t1"),
+        ("15,2,5", "\t1\t1\t0"),
+        ("15,2,5", "\t1\t1\t0\t0\t0\t0"),
+        ("15,1,5", "\t1\t1"),
+        ("15,1,5", "\t1"),
+        ("15,0,5", "\t0\t0"),
+    ] {
+        sheet.build(ROOM, TABLE, &one(kind, value));
+    }
+    sheet.state(
+        "annotated-arrays-built",
+        "as many pairs of fields as an array has annotations",
+    );
+}
+
+/// Maps: a size before its keys, each with what it leads to.
+fn maps(sheet: &mut Sheet) {
+    for (kind, values) in [
+        (
+            "20,2,6,7",
+            &[
+                "0",
+                "1 0 5",
+                "2 1 -128 1 127",
+                "",
+                "1",
+                "1 0",
+                "0 0 5",
+                "1 0 5 0",
+                "1 0 5 1 6",
+                "2 0 5",
+                "2 0 5 1",
+                "1 2 5",
+                "1 0 128",
+                "00",
+                "-0",
+                "-1",
+                "01 0 5",
+                "1,0 5",
+                "65535",
+                "65536",
+                "65537 0 5",
+                "4294967297 0 5",
+                "18446744073709551615",
+                "18446744073709551616",
+                "18446744073709551617 0 5",
+            ] as &[&str],
+        ),
+        (
+            "20,3,6,7,14",
+            &[
+                "0",
+                "1 0 0",
+                "1 0 1 5 1",
+                "2 1 0 1 2 5 0 5 1",
+                "1",
+                "1 0",
+                "1 0 1",
+                "1 0 1 5",
+                "1 0 5 1",
+                "1 0 0 5 1",
+                "1 0 2 5 1",
+                "1 0 1 5 2",
+                "1 0 1 5 1 0",
+                "2 0 1 5 1",
+                "1 0 00",
+                "1 0 65536",
+                "1 0 18446744073709551615",
+                "1 0 18446744073709551616",
+                "1 0 18446744073709551617 5 1",
+            ],
+        ),
+        (
+            "20,8,7,7,7,7,7,7,7,7",
+            &[
+                "0",
+                "1 1 1 2 1 3 1 4 1 5 1 6 1 7 8",
+                "1 1 1 2 1 3 1 4 1 5 1 6 0",
+                "1 1 1 2 1 3 1 4 1 5 1 6 1 7",
+                "1 1 1 2 1 3 1 4 1 5 1 6",
+                "1 1 1 2 1 3 1 4 1 5 1 6 0 7 8",
+                "1 1 1 2 1 3 1 4 1 5 1 6 1 7 8 9",
+                "1 1 2 3 4 5 6 7 8",
+            ],
+        ),
+        (
+            "20,3,5,32,14",
+            &[
+                "1 1 1 1 1 1",
+                "1 0 0 1 0 0",
+                "1 1 0 0",
+                "1 0 1 0",
+                "1 1 2 0",
+                "1 2 1 0",
+                "1 0 0 1 2 0",
+                "1 0 0 1 0 2",
+                "1 1 1",
+                "1 1",
+            ],
+        ),
+        (
+            "20,2,12,13",
+            &[
+                "1 0123abcd 0123456789abcdef",
+                "1 0123abc 0123456789abcdef",
+                "1 0123abcd 0123456789abcdeF",
+            ],
+        ),
+        (
+            "20,2,11,5",
+            &["1 -1 1 1", "1 -1 1", "1 -1 1 0", "1 -1 0 1", "1 -1 0 0 0"],
+        ),
+    ] {
+        for value in values {
+            let fields = value.split(' ').filter(|field| !field.is_empty());
+            let fields: String = fields.map(|field| format!("\t{field}")).collect();
+            sheet.build(ROOM, TABLE, &one(kind, &fields));
+        }
+    }
+    sheet.state(
+        "maps-built",
+        "a size before its keys, each followed by what it leads to",
+    );
+    for kind in [
+        "20,2,14,14",
+        "20,2,5,32",
+        "20,8,5,6,7,8,9,10,11,12",
+        "20,8,6,6,6,6,6,6,6",
+        "20,9,6,6,6,6,6,6,6,6,6",
+        "20,2",
+        "20,2,",
+        "20,2,14",
+        "20,2,14,",
+        "20,2,14,14,",
+        "20,2,14,14,14",
+        "20,2,,14",
+        "20,14,14",
+        "20,0",
+        "20,1,14",
+        "20,1,14,14",
+        "20,3,14,14",
+        "20,02,14,14",
+        "20,2,014,14",
+        "20,-2,14,14",
+        "20,2,4,14",
+        "20,2,14,15",
+        "20,2,16,14",
+        "20,2,14,17",
+        "20,2,20,14",
+        "20,2,14,21",
+        "20,2,31,14",
+        "20,2,14,33",
+        "20,2,33,14",
+        "20,2,14,18446744073709551615",
+        "20,2,14,18446744073709551630",
+        "20,18446744073709551618,14,14",
+        "17,20",
+        "15,0,20",
+    ] {
+        sheet.build(ROOM, TABLE, &one(kind, "\t0"));
+    }
+    sheet.build(ROOM, TABLE, &one("20,2,14,14", ""));
+    sheet.state(
+        "map-kinds-built",
+        "the number of types and as many element kinds, each with a value",
+    );
+    let head = "pair\t1\t1\nstr\t61\ntype\t1\t0\t-\t1\t1\nnew\t20,2,7,6\t1\nval\t130";
+    let text = [(1, head), (130, "\t5\t0"), (1, "\n")];
+    sheet.build(ROOM, TABLE, &Text::pieces(&text));
+    sheet.state("map-of-130-built", "a size of more than a byte");
 }
 
 const HEADS: &[&str] = &[
@@ -373,6 +600,23 @@ const REACH: &[&str] = &[
     "pair 1 1/str 61/type 1 0 - 1 1/new 14 1/val 2/pair 1 1/str 62/type 1 - - 1 1/old/val 2",
     "pair 2 2/str 61/str 62/type 1 0 - 3 1/new 33 1/type 2 1 1 1 0/val 2/val 0/val 2",
     "pair 2 2/str 61/str 62/type 1 0 - 3 1/new 33 1/type 2 1 1 1 0/val 2/val 0/val 1",
+    "pair 2 2/str 61/str 62/type 1 0 - 1 1/new 5 1/type 2 0 - 2 0/val 2 2",
+    "pair 2 2/str 61/str 62/type 1 0 - 1 1/new 5 1/type 2 0 - 2 0/val 2 3",
+    "pair 2 2/str 61/str 62/type 1 0 - 1 1/new 5 1/type 2 1 0 1 0/val 1 1",
+    "pair 2 2/str 61/str 62/type 1 0 - 1 1/new 5 1/type 2 1 0 1 0/val 2 1",
+    "pair 2 1/str 61/str 62/type 1 0 - 1 1/new 5 1/val 2 1/pair 0 1/type 2 0 - 1 0",
+    "pair 2 1/str 61/str 62/type 2 0 - 1 0/pair 0 1/type 1 0 - 1 1/new 5 1/val 2 1",
+    "pair 2 1/str 61/str 61/type 1 0 - 1 1/new 5 1/val 2 1",
+    "pair 1 1/str 61/type 1 0 - 1 1/new 5 1/val 2 1/pair 1 0/str 61",
+    "pair 1 1/str 61/type 1 0 - 1 1/new 5 1/val 0 0/pair 1 1/str 61/type 2 - - 1 1/old/val 2 2",
+    "pair 1 1/str 61/type 1 0 - 1 1/new 5 1/val 1 2/pair 1 1/str 61/type 2 - - 1 1/old/val 2 2",
+    "pair 1 1/str 61/type 1 0 - 200 0/pair 1 1/str 62/type 2 0 - 1 1/new 5 2/val 1 200",
+    "pair 1 1/str 61/type 1 0 - 200 0/pair 1 1/str 62/type 2 0 - 1 1/new 5 2/val 1 201",
+    "pair 2 2/str 61/str 62/type 1 0 - 1 1/new 20,2,33,5 1/type 2 0 - 1 0/val 1 1 2 1",
+    "pair 2 1/str 61/str 62/type 1 0 - 1 1/new 20,2,33,5 1/val 0/pair 0 1/type 2 0 - 1 0",
+    "pair 1 1/str 61/type 1 0 - 1 1/new 20,2,6,32 1/val 0/pair 0 1/type 1 - - 1 1/old/val 1 0 2",
+    "pair 1 1/str 61/type 1 0 - 1 1/new 20,2,6,32 1/val 1 0 2/pair 0 1/type 1 - - 1 1/old/val 0",
+    "pair 1 1/str 61/type 1 0 - 1 1/new 20,2,6,7 1/val 2 0 5/val 1 6",
     "pair 1 1/str 61/type 1 0 - 1 0/pair 1 1/str 62/type 2 1 0 0 0",
     "pair 1 0/str 61/pair 0 1/type 1 0 - 0 0",
     "pair 0 1/type 1 0 - 0 0/pair 1 0/str 61",
@@ -427,13 +671,17 @@ const EVERY: &str =
     "pair 3 2/str 6162/str 63/str /type 1 0 - 1 3/new 15,2,8 1/new 4,-12 2/new 12 3\
     /type 2 1 0 1 1/new 17,11 1/val 1 -1/val 0a1b2c3d/val 10 20";
 
+/// One with an annotation and a map.
+const LINKED: &str = "pair 1 1/str 61/type 1 0 - 1 1/new 20,3,14,7,5 1/val 1 0 2 5 0 0 -5 1 1";
+
 /// A blank for each tab, newline or comma in turn.
 fn separators(sheet: &mut Sheet) {
-    let text = lines(EVERY);
-    sheet.build(ROOM, TABLE, &Text::plain(&text));
-    for (place, _) in text.match_indices(['\t', '\n', ',']) {
-        let wrong = format!("{} {}", &text[..place], &text[place + 1..]);
-        sheet.build(ROOM, TABLE, &Text::plain(&wrong));
+    for text in [EVERY, LINKED].map(lines) {
+        sheet.build(ROOM, TABLE, &Text::plain(&text));
+        for (place, _) in text.match_indices(['\t', '\n', ',']) {
+            let wrong = format!("{} {}", &text[..place], &text[place + 1..]);
+            sheet.build(ROOM, TABLE, &Text::plain(&wrong));
+        }
     }
     sheet.state(
         "separators-built",
@@ -444,9 +692,14 @@ fn separators(sheet: &mut Sheet) {
 /// Each byte left out in turn.
 fn left_out(sheet: &mut Sheet) {
     let text = lines("pair 1 1/str 6a/type 1 0 - 1 1/new 17,11 1/val 1 -1");
-    for place in 0..text.len() {
-        let wrong = format!("{}{}", &text[..place], &text[place + 1..]);
-        sheet.build(ROOM, TABLE, &Text::plain(&wrong));
+    let linked = lines("pair 1 1/str 6a/type 1 0 - 1 1/new 20,2,11,5 1/val 1 -1 1 1");
+    // The front of both is the same.
+    let kind = linked.find("20,").expect("a map's kind");
+    for (text, first) in [(text, 0), (linked, kind)] {
+        for place in first..text.len() {
+            let wrong = format!("{}{}", &text[..place], &text[place + 1..]);
+            sheet.build(ROOM, TABLE, &Text::plain(&wrong));
+        }
     }
     sheet.state("left-out-built", "each byte of a listing left out in turn");
 }

@@ -29,6 +29,13 @@ const ARRAYS: &str = "pair 6 1/str 61/str 62/str 63/str 64/str 65/str 66/type 1 
     /new 15,1,7 2/new 17,8 3/new 18,9 4/new 19,32 5/new 15,0,6 6\
     /val 5/val 6/val 7/val 1/val";
 
+/// Annotations and maps on both sides of a plain field, over two blocks.
+const LINKS: &str = "pair 7 1/str 61/str 62/str 63/str 64/str 65/str 66/str 67/type 1 0 - 2 5\
+    /new 5 2/new 20,2,7,8 3/new 7 4/new 20,3,5,32,11 5/new 17,5 6\
+    /val 1 2/val 0 0/val 2 5 600 5 -1/val 0/val 9/val -8/val 1 1 1 1 2 -3/val 0/val 1 1/val\
+    /pair 0 1/type 1 - - 1 6/old/old/old/old/old/new 5 7\
+    /val 1 3/val 1 -5 7/val 7/val 1 0 0 0/val 0 0/val 0 0/val 0 0/val 1 1";
+
 /// References to the first, the second and the third type.
 const REFERENCES: &str = "pair 6 3/str 61/str 62/str 63/str 64/str 65/str 66\
     /type 1 0 - 2 3/new 32 4/new 33 5/new 34 6/type 2 0 - 1 0/type 3 0 - 3 0\
@@ -54,6 +61,7 @@ pub fn ask(sheet: &mut Sheet) {
     others(sheet);
     constants(sheet);
     arrays(sheet);
+    links(sheet);
     references(sheet);
     tree(sheet);
     unnamed(sheet);
@@ -161,6 +169,47 @@ fn arrays(sheet: &mut Sheet) {
         sheet.values(("a", "c", kind), 1, &file);
     }
     sheet.state("column-arrays", "an array has no column, whatever is asked");
+}
+
+fn links(sheet: &mut Sheet) {
+    let file = sheet.listed("links", "annotations and maps over two blocks", LINKS);
+    sheet.shown(&file);
+    for (field, kinds) in [
+        (
+            "b",
+            &[5, 0, 4, 6, 11, 14, 20, 32, 33, 37, u64::MAX] as &[u64],
+        ),
+        ("c", &[20, 5, 2, 7, 8, 11, 17, 32, 33, 52, u64::MAX]),
+        ("d", &[5, 20, 6, 8]),
+        ("e", &[20, 3, 5, 11, 32]),
+        ("f", &[17, 5, 20, 32]),
+        ("g", &[5, 20, 7]),
+    ] {
+        for &kind in kinds {
+            sheet.values(("a", field, kind), 3, &file);
+        }
+    }
+    sheet.values(("a", "d", 7), 3, &file);
+    sheet.state(
+        "column-links",
+        "annotations and maps have no column, whatever is asked; a field between them has its own",
+    );
+    for kind in [5, 20] {
+        for room in [0, 2, 4] {
+            sheet.values(("a", "b", kind), room, &file);
+            sheet.values(("a", "c", kind), room, &file);
+            sheet.values(("a", "d", kind), room, &file);
+            sheet.values(("a", "z", kind), room, &file);
+            sheet.values(("z", "b", kind), room, &file);
+        }
+    }
+    sheet.state(
+        "column-links-order",
+        "18 has its place behind 16 and 17 and before 19",
+    );
+    sheet.objects("a", TABLE, &file);
+    sheet.objects("b", TABLE, &file);
+    sheet.state("links-objects", "the objects of a type that has them");
 }
 
 fn references(sheet: &mut Sheet) {

@@ -35,6 +35,7 @@ pub fn ask(sheet: &mut Sheet, two: &File) {
     columns(sheet, two, &padded);
     listings(sheet, two, &padded);
     builds(sheet);
+    maps(sheet);
 }
 
 fn columns(sheet: &mut Sheet, two: &File, padded: &File) {
@@ -69,4 +70,20 @@ fn builds(sheet: &mut Sheet) {
     sheet.after_build(&good, SHORT, &enough);
     sheet.after_build(&bad, EXACT, &more);
     sheet.state("after-build", "table and output after a build");
+}
+
+/// A map with an annotation, asked for, printed and built.
+fn maps(sheet: &mut Sheet) {
+    let text = "pair 1 1/str 61/type 1 0 - 1 1/new 20,2,7,5 1/val 1 -1 1 1";
+    let file = sheet.listed("lent-map", "a map with an annotation", text);
+    let text = Text::plain(&lines(text));
+    let [more, ..] = rooms(1, -4);
+    sheet.after_column(&file, ("a", "a", 20), LONG, &more);
+    let [more, _, less] = rooms(text.bytes().len(), 1);
+    sheet.after_listing(&file, LONG, &more);
+    sheet.after_listing(&file, EXACT, &less);
+    let [more, _, less] = rooms(file.bytes.len(), 1);
+    sheet.after_build(&text, LONG, &more);
+    sheet.after_build(&text, EXACT, &less);
+    sheet.state("after-maps", "table and output after questions about a map");
 }

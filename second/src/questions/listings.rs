@@ -54,6 +54,40 @@ const ROWS: &[Row] = &[
          /val -1 256 0/val/val 7/val/val 0000000a a0000000/val ffffffff/val 3 3/val 0/val",
     ),
     (
+        "annotated",
+        "annotations are two fields each, null is two noughts; alone, in arrays of every form, by equal strings",
+        "pair 7 2/str 61/str 62/str 63/str 64/str 65/str 66/str 61/type 1 0 - 2 5/new 5 1/new 15,2,5 2/new 17,5 3/new 18,5 4/new 19,5 5\
+         /type 2 0 - 3 1/new 15,0,5 6/val 2 3/val 0 0/val 7 1 0 0/val 0 0 1 2/val/val 2 1 2 2 2 3/val 0 0/val/val 1 1 1 1/val 7 2\
+         /val/val/val",
+    ),
+    (
+        "annotated-late",
+        "annotations of known and late fields, to objects and types of this pair and before",
+        "pair 4 2/str 61/str 62/str 63/str 64/type 1 0 - 2 1/new 5 4/type 2 1 1 1 0/val 1 2/val 0 0\
+         /pair 1 2/str 61/type 5 - - 1 2/old/new 5 3/type 3 0 - 1 1/new 5 4/val 3 1/val 5 3/val 3 1/val 0 0/val 1 1",
+    ),
+    (
+        "mapped",
+        "maps print their sizes before their keys: every element kind as key and as value, repeated and null keys, empty maps",
+        "pair 6 1/str 61/str 62/str 63/str 64/str 65/str 66/type 1 0 - 2 6/new 20,2,6,7 1/new 20,2,8,9 2/new 20,2,10,11 3\
+         /new 20,2,12,13 4/new 20,2,14,5 5/new 20,2,32,14 6\
+         /val 2 1 -128 1 127/val 0/val 1 -300 70000/val 2 5 6 5 6/val 0/val 1 -4294967296 128/val 1 0123abcd fedcba9876543210/val 0\
+         /val 3 6 1 2 0 0 0 0 0 0/val 1 1 1 1/val 2 2 0 0 6/val 1 1 5",
+    ),
+    (
+        "mapped-deep",
+        "an inner map prints its size first: three, four and eight types, empty ones at every depth",
+        "pair 3 1/str 61/str 62/str 63/type 1 0 - 3 3/new 20,3,14,11,7 1/new 20,4,6,5,32,8 2/new 20,8,7,7,7,7,7,7,7,7 3\
+         /val 2 3 2 -1 5 300 6 0 0/val 0/val 1 1 0/val 1 1 2 0 0 0 1 3 1 2 -300/val 1 0 0/val 0\
+         /val 1 1 1 2 1 3 1 4 1 5 1 6 1 7 8/val 2 1 0 2 2 3 0 4 1 5 0/val 1 1 1 2 1 3 1 4 1 5 1 6 2 7 8 9 10",
+    ),
+    (
+        "mapped-late",
+        "maps of known and late fields; types of later entries as keys and values",
+        "pair 3 2/str 61/str 62/str 63/type 1 0 - 1 1/new 20,2,33,32 3/type 2 0 - 2 0/val 2 2 1 0 0\
+         /pair 0 1/type 1 - - 2 2/old/new 20,3,6,33,5 2/val 0/val 1 1 3/val 1 0 1 2 2 2/val 0/val 1 1 0",
+    ),
+    (
         "longest",
         "the largest length of a fixed array, of a type that has no objects",
         "pair 1 1/str 61/type 1 0 - 0 1/new 15,65535,7 1",

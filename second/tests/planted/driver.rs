@@ -1,9 +1,10 @@
 //! Asks a copy of the second program, with each of its faults in turn, about
 //! what the generator makes. It is compiled against the copy.
 //!
-//! The words are a file with the cases, as the test writes them, and the
-//! number of faults. For each fault a line is printed: its number, a tab, and
-//! the first case that it answers differently, or nothing.
+//! The words are a file with the cases, as the test writes them, the number of
+//! the last fault that is not about places, and the number of faults. For each
+//! fault a line is printed: its number, a tab, and the first case that it
+//! answers differently, or nothing.
 
 use std::panic::{self, AssertUnwindSafe};
 
@@ -65,11 +66,23 @@ impl Call {
     }
 }
 
-/// What a call says and leaves. The place of a refusal is not a part of it:
-/// the library that is held to this program does not tell it. A call that
-/// panics says nothing.
-#[derive(PartialEq, Eq)]
+/// What a call says and leaves, and the place of its refusal.
 struct Answer {
+    outcome: Outcome,
+    place: u64,
+}
+
+impl Answer {
+    /// The library that is held to this program does not tell places, so they
+    /// only count for faults that are about them.
+    fn differs(&self, other: &Answer, places: bool) -> bool {
+        self.outcome != other.outcome || places && self.place != other.place
+    }
+}
+
+/// What a call says and leaves. A call that panics says nothing.
+#[derive(PartialEq, Eq)]
+struct Outcome {
     said: Option<i64>,
     table: State,
     numbers: u64,
@@ -86,7 +99,7 @@ enum State {
 fn main() {
     let words: Vec<String> = std::env::args().skip(1).collect();
     let cases = cases(&std::fs::read(&words[0]).expect("a file with cases"));
-    let faults: usize = words[1].parse().expect("the number of faults");
+    let [numbered, faults] = [1, 2].map(|word: usize| words[word].parse().expect("a number"));
     panic::set_hook(Box::new(|_| ()));
     let questions = questions(&cases);
     let mut lent = Lent::new();
@@ -95,7 +108,9 @@ fn main() {
     let mut telling: Vec<usize> = Vec::new();
     for fault in 1..=faults {
         planted::set(fault);
-        let mut shows = |&index: &usize| lent.ask(&questions[index]) != right[index];
+        let places = fault > numbered;
+        let mut shows =
+            |&index: &usize| lent.ask(&questions[index]).differs(&right[index], places);
         let shown = telling.iter().rev().copied().find(&mut shows);
         let shown = shown.or_else(|| (0..questions.len()).find(&mut shows));
         let label = shown.map_or("", |index| &questions[index].case.label[..]);
@@ -323,22 +338,24 @@ impl Lent {
         let said = panic::catch_unwind(AssertUnwindSafe(|| self.said(question)));
         let numbers = self.numbers.iter().map(|&number| number as u64);
         let bytes = self.bytes.iter().map(|&byte| u64::from(byte));
-        Answer {
-            said: said.ok(),
+        let (said, place) = said.map_or((None, 0), |(said, place)| (Some(said), place));
+        let outcome = Outcome {
+            said,
             table: state(&self.table),
             numbers: numbers.fold(0, mixed),
             bytes: bytes.fold(0, mixed),
-        }
+        };
+        Answer { outcome, place }
     }
 
-    /// The answer as the C functions have it: minus the refusal, or 0 and
-    /// more.
-    fn said(&mut self, question: &Question<'_>) -> i64 {
+    /// The answer as the C functions have it, minus the refusal or 0 and more,
+    /// and the place of the refusal.
+    fn said(&mut self, question: &Question<'_>) -> (i64, u64) {
         let input = &question.case.bytes;
         let table = &mut self.table[..];
         let done = |answer: Result<usize, Refusal>| match answer {
-            Ok(count) => count as i64,
-            Err(refusal) => -i64::from(refusal.number),
+            Ok(count) => (count as i64, 0),
+            Err(refusal) => (-i64::from(refusal.number), refusal.place),
         };
         match &question.call {
             Call::Check => done(second::check(input, table).map(|()| 0)),

@@ -5,7 +5,8 @@
 //! `driver.rs` is compiled against it: it asks the copy about all files and
 //! listings that are made for rules and bounds, once without a fault and once
 //! with each. A fault that changes no answer says that a sentence of the paper
-//! is not held by any case.
+//! is not held by any case. A place is no answer but for the faults that are
+//! about places.
 
 mod copy;
 mod faults;
@@ -30,14 +31,16 @@ pub struct Edit {
 #[test]
 fn every_fault_is_noticed() {
     let mut faults = faults::all();
+    let numbered = faults.len();
+    faults.extend(faults::of_places());
     faults.push(faults::NONE);
     let folder = Path::new(env!("CARGO_TARGET_TMPDIR")).join("planted");
     copy::write(&folder, &faults).unwrap_or_else(|text| panic!("{text}"));
     let driver = compiled(&folder);
     let cases = folder.join("cases");
     fs::write(&cases, generated()).unwrap_or_else(|error| panic!("{error}"));
-    let number = faults.len().to_string();
-    let output = run(Command::new(driver).arg(cases).arg(number));
+    let numbers = [numbered, faults.len()].map(|number| number.to_string());
+    let output = run(Command::new(driver).arg(cases).args(numbers));
     let mut missed = missed(&output, &faults);
     let none = missed.pop();
     assert!(missed.is_empty(), "not noticed:\n{}", missed.join("\n"));

@@ -12,7 +12,7 @@ use Rattle.lines.proofs.put_kind.Tie as tie
 
 returns-4 : tie.Need-returns-4
 unfolding kindWord
-returns-4 c = rw (kind-plain _ _ _ (omega arith) (c .before .before .before .before .before .before .match .rest .1) (λ h. ⊎-elim (λ w. omega arith) (λ w. w .1 .left) (c .before .before .before .before .if2 .came))) (c .before .before .put-decimal .ensures)
+returns-4 c = rw (kind-plain _ _ _ (omega arith) (c .before .before .before .before .before .before .match .rest .1) (λ h. ⊎-elim (λ w. omega arith) (λ w. w .1 .left) (c .before .before .before .before .if2 .came)) (c .before .before .before .before .before .before .before .before .pre)) (c .before .before .put-decimal .ensures)
 
 pub put-kind-spec : {M : Type 1} → statement M
 put-kind-spec =

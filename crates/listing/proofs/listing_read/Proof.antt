@@ -1,4 +1,4 @@
-use Rattle.listing.specs.Text.{file-there, listing-accepted, listing-refused}
+use Rattle.listing.specs.Text.{table-there, listing-accepted, listing-refused}
 use borrow.Author.Needs.{needs}
 use Rattle.listing.proofs.listing_read.Statement.{statement}
 use Rattle.listing.proofs.listing_read.Tie as tie
@@ -8,7 +8,7 @@ listing-read-spec =
     tie.close
     (tie.spec
     (λ c. search needs)
-    (λ c κs. ((c .before .before .before .before .before .before .before) .pre .0, file-there ((c .before .before .before .before .before .before .before) .pre .1) (c .before .before .enum-told .given .1)))
+    (λ c κs. table-there ((c .before .before .before .before .before .before .before) .pre .1) (c .before .before .enum-told .given .1))
     (λ c. search needs)
     (λ c. search needs)
     (λ c. search needs)

@@ -1,6 +1,6 @@
 use native.Mathlib.Omega.{arith}
-use Rattle.calls.specs.Told.{nothing-lent}
-use Rattle.listing.specs.Text.{text-no-room, text-written}
+use Rattle.walk.specs.FileLaws.{all-bytes}
+use Rattle.listing.specs.Text.{text-direct}
 use borrow.Author.Needs.{needs}
 use Rattle.listing.proofs.write_text.Statement.{statement}
 use Rattle.listing.proofs.write_text.Tie as tie
@@ -9,13 +9,12 @@ pub write-text-spec : {M : Type 1} → statement M
 write-text-spec =
     tie.close
     (tie.spec
+    (λ c κs. c .before .before .before .before .pre .ok)
+    (λ c κs. (c .before .before .before .before .before .before .before .before .pre .ok .long, c .before .before .before .before .before .before .before .before .pre .there))
     (λ c. search needs)
     (λ c. search needs)
-    (λ c κs. search needs)
+    (λ c. let s = c .before .before .before .before .before .before .before .before .before .before .before .before .before in text-direct (c .before .before .before .before .before .before .before .before .is-roomy .ensures) (c .before .before .before .before .before .before .before .if1 .taken) (all-bytes (s .args .file .now) (λ i. omega (arith, c .before .before .before .before .before .before .before .before .before .before .before .before .shared-slice-known .given i))) (s .pre .says) (omega arith) (c .before .before .before .before .print-file .ensures))
+    (λ c κs. (c .before .before .before .before .before .before .before .before .pre .ok .long, c .before .before .before .before .before .before .before .before .pre .there))
     (λ c. search needs)
     (λ c. search needs)
-    (λ c. text-no-room (nothing-lent (c .before .before .before .before .before .print-file .last .1 .1 .0) _ (c .before .before .before .before .before .print-file .kept .1 .1 .0)) (c .before .before .before .before .before .print-file .ensures) (omega arith) (c .if1 .taken))
-    (λ c κs. search needs)
-    (λ c. search needs)
-    (λ c. search needs)
-    (λ c. text-written (nothing-lent (c .before .before .before .before .before .before .before .before .before .before .before .before .print-file .last .1 .1 .0) _ (c .before .before .before .before .before .before .before .before .before .before .before .before .print-file .kept .1 .1 .0)) (c .before .before .before .before .before .before .before .before .before .before .before .before .print-file .ensures) (omega arith) (c .before .before .before .before .before .before .before .if1 .left) (c .before .before .before .before .print-file2 .ensures)))
+    (λ c. c .before .before .before .before .count-and-write .ensures))

@@ -18,7 +18,7 @@ returns-3 c = rw (kind-many ((c .before .before .before .before .before .before 
 
 returns-4 : tie.Need-returns-4
 unfolding putKind
-returns-4 c = rw (kind-plain _ _ _ (omega arith) (c .before .before .before .before .before .before .match .rest .1) (λ h. ⊎-elim (λ w. omega arith) (λ w. w .1 .left) (c .before .before .before .before .if2 .came))) (c .before .before .put-v64 .ensures)
+returns-4 c = rw (kind-plain _ _ _ (omega arith) (c .before .before .before .before .before .before .match .rest .1) (λ h. ⊎-elim (λ w. omega arith) (λ w. w .1 .left) (c .before .before .before .before .if2 .came)) (c .before .before .before .before .before .before .before .before .pre)) (c .before .before .put-v64 .ensures)
 
 pub put-kind-spec : {M : Type 1} → statement M
 put-kind-spec =

@@ -5,12 +5,10 @@ use borrow.Author.Needs.{needs}
 use Rattle.regions.proofs.add_up.Statement.{statement}
 use Rattle.regions.proofs.add_up.Tie as tie
 
--- src/lib.rt:171:9
 returns : tie.Need-returns
 unfolding most
 returns c = omega arith
 
--- src/lib.rt:167:1
 returns-2 : tie.Need-returns-2
 unfolding most
 returns-2 c = omega arith

@@ -6,20 +6,17 @@ use borrow.Author.Needs.{needs}
 use Rattle.regions.proofs.lay_due.Statement.{statement}
 use Rattle.regions.proofs.lay_due.Tie as tie
 
--- src/lib.rt:199:9
 returns-2 : tie.Need-returns-2
 unfolding most
-returns-2 c = due-too-long ((c .before .before .before .before .before .before .before .before .before .before .before .before) .pre) (c .before .before .before .before .before .before .due-bytes .ensures) (c .before .before .a .given .1) (omega (arith, c .if1 .taken))
+returns-2 c = due-too-long ((c .before .before .before .before .before .before .before .before .before .before .before .before .before) .pre) (c .before .before .before .before .before .before .due-bytes .ensures) (c .before .before .a .given .1) (omega (arith, c .if1 .taken))
 
--- src/lib.rt:219:16
 sub-size : tie.Need-sub-size
 unfolding most
-sub-size c = omega (arith, due-behind ((c .before .before .before .before .before .before .before .before .before .before .before .before .before .before) .pre) (c .before .before .before .before .before .before .before .before .due-bytes .ensures) (c .before .before .before .before .a .given .1) (omega arith))
+sub-size c = omega (arith, due-behind ((c .before .before .before .before .before .before .before .before .before .before .before .before .before .before .before) .pre) (c .before .before .before .before .before .before .before .before .due-bytes .ensures) (c .before .before .before .before .a .given .1) (omega arith))
 
--- src/lib.rt:208:1
 returns-3 : tie.Need-returns-3
 unfolding most
-returns-3 c = due-laid ((c .before .before .before .before .before .before .before .before .before .before .before .before .before .before .before .before .before .before) .pre) (c .before .before .before .before .before .before .before .before .before .before .before .before .due-bytes .ensures) (c .before .before .before .before .before .before .before .before .a .given .1) (omega arith) (c .before .before .size-due .ensures)
+returns-3 c = due-laid ((c .before .before .before .before .before .before .before .before .before .before .before .before .before .before .before .before .before .before .before) .pre) (c .before .before .before .before .before .before .before .before .before .before .before .before .due-bytes .ensures) (c .before .before .before .before .before .before .before .before .a .given .1) (omega arith) (c .before .before .size-due .ensures)
 
 pub lay-due-spec : {M : Type 1} → statement M
 lay-due-spec =
@@ -30,7 +27,7 @@ lay-due-spec =
     (λ c. search needs)
     (λ c. search needs)
     (λ c. search needs)
-    (λ c. due-not-read ((c .before .before .before .before .before .before .before .before .before .before) .pre) (c .before .before .before .before .due-bytes .ensures) (c .enum-told .given .1))
+    (λ c. due-not-read ((c .before .before .before .before .before .before .before .before .before .before .before) .pre) (c .before .before .before .before .due-bytes .ensures) (c .enum-told .given .1))
     (λ c. search needs)
     (λ c. search needs)
     returns-2

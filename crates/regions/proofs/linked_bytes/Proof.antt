@@ -1,7 +1,8 @@
 -- `regions::linked_bytes` meets its contract: the ranges that were gathered are those of the type. Assumes nothing.
 use mathlib.Core.Path.{sym, _∙_}
-use Rattle.walk.specs.Gather.{first-lent, last-lent}
-use Rattle.regions.specs.Chunk.{taken-linked}
+use Rattle.lookups.specs.Gather.{first-lent, last-lent}
+use Rattle.lookups.specs.Known.{linked-known}
+use Rattle.regions.specs.Chunk.{kind-taken}
 use borrow.Author.Needs.{needs}
 use Rattle.regions.proofs.linked_bytes.Statement.{statement}
 use Rattle.regions.proofs.linked_bytes.Tie as tie
@@ -18,9 +19,10 @@ linked-bytes-spec =
     (λ c κs. search needs)
     (λ c. search needs)
     (λ c. search needs)
-    (λ c. first-lent (c .before .before .before .before .before .gather .ensures))
     (λ c. search needs)
-    (λ c. last-lent (c .before .before .before .before .before .before .gather .ensures))
-    (λ c κs. ((c .before .before .before .before .before .before .before .before .before .before .before .before .before .before) .pre .1 .0, sym (first-lent (c .before .before .before .before .before .before .before .gather .ensures)) ∙ last-lent (c .before .before .before .before .before .before .before .gather .ensures)))
+    (λ c. first-lent (c .before .before .before .before .before .before .gather .ensures))
     (λ c. search needs)
-    (λ c. taken-linked ((c .before .before .before .before .before .before .before .before .before .before .before .before .before .before .before .before .before) .args .kind) ((c .before .before .before .before .before .before .before .before .before .before .before .before .before .before .before .before .before) .pre .0 .0) (c .before .before .before .before .before .before .strings .ensures) (c .before .before .before .before .before .before .before .before .before .before .gather .ensures) (c .before .before .chunk-text .ensures)))
+    (λ c. last-lent (c .before .before .before .before .before .before .before .gather .ensures))
+    (λ c κs. ((c .before .before .before .before .before .before .before .before .before .before .before .before .before .before .before) .pre .1 .0, (c .before .before .before .before .before .before .before .before .before .before .before .before .before .before .before) .pre .1 .1, sym (first-lent (c .before .before .before .before .before .before .before .before .gather .ensures)) ∙ last-lent (c .before .before .before .before .before .before .before .before .gather .ensures)))
+    (λ c. search needs)
+    (λ c. kind-taken ((c .before .before .before .before .before .before .before .before .before .before .before .before .before .before .before .before .before .before) .args .kind) ((c .before .before .before .before .before .before .before .before .before .before .before .before .before .before .before .before .before .before) .args .work .now) (linked-known ((c .before .before .before .before .before .before .before .before .before .before .before .before .before .before .before .before .before .before) .pre .0 .0) (c .before .before .before .before .before .before .before .strings .ensures) ((c .before .before .before .before .before .before .before .before .before .before .before .before .before .before .before .before .before .before) .pre .1 .2) (c .before .before .before .before .before .before .before .before .before .before .before .gather .ensures)) (c .before .before .chunk-text .ensures)))

@@ -10,14 +10,14 @@ use Rattle.show.proofs.put_elements.Statement.{statement}
 use Rattle.show.proofs.put_elements.Tie as tie
 
 abbrev Inv-loop : tie.InvT-loop
-Inv-loop part m e out₀ at here₀ rest₀ out here rest = Showing e (λ s. element s e) (λ x. tab ∷ elementWord x) part m (here₀ .next .at) out₀ at rest out here
+Inv-loop part m e out₀ at here₀ rest₀ out here rest = Showing (λ s. element s e) (λ x. tab ∷ elementWord x) part m (here₀ .next .at) out₀ at rest out here
 
 abbrev μ-loop : tie.MeasureT-loop
 μ-loop part m e out₀ at here₀ rest₀ out here rest = rest
 
 loop-holds : tie.Need-loop-holds Inv-loop μ-loop
 unfolding most
-loop-holds c = showing-start _ _ _ _ _ _ _ _ (omega arith) (omega arith) refl
+loop-holds c = showing-start _ _ _ _ _ _ _ (omega arith) (omega arith) refl
 
 returns : tie.Need-returns Inv-loop μ-loop
 unfolding tabs

@@ -1,4 +1,4 @@
-use Rattle.show.specs.Lines.{line-shows, one-shows}
+use Rattle.show.specs.Lines.{link-shows, line-shows, one-shows}
 use borrow.Author.Needs.{needs}
 use Rattle.show.proofs.put_link_line.Statement.{statement}
 use Rattle.show.proofs.put_link_line.Tie as tie
@@ -12,4 +12,4 @@ put-link-line-spec =
     (λ c κs. search needs)
     (λ c κs. search needs)
     (λ c. search needs)
-    (λ c. line-shows (c .before .before .before .before .before .before .before .before .before .before .before .put-bytes .ensures) (one-shows (c .before .before .before .before .before .before .before .put-link .ensures)) (c .before .before .before .put .ensures)))
+    (λ c. line-shows (c .before .before .before .before .before .before .before .before .before .before .before .put-bytes .ensures) (one-shows (link-shows (c .before .before .before .before .before .before .before .before .before .before .before .before .before .before .before .before .pre) (c .before .before .before .before .before .before .before .put-number .ensures))) (c .before .before .before .put .ensures)))

@@ -9,14 +9,14 @@ use Rattle.show.proofs.put_link_lines.Statement.{statement}
 use Rattle.show.proofs.put_link_lines.Tie as tie
 
 abbrev Inv-loop : tie.InvT-loop
-Inv-loop part n e out₀ at here₀ rest₀ out here rest = Showing e (λ s. repeat 1 (element s e)) valueLine part n 0 out₀ at rest out here
+Inv-loop part n e out₀ at here₀ rest₀ out here rest = Showing (λ s. repeat 1 (element s e)) valueLine part n 0 out₀ at rest out here
 
 abbrev μ-loop : tie.MeasureT-loop
 μ-loop part n e out₀ at here₀ rest₀ out here rest = rest
 
 loop-holds : tie.Need-loop-holds Inv-loop μ-loop
 unfolding most
-loop-holds c = showing-start _ _ _ _ _ _ _ _ (omega arith) (omega arith) refl
+loop-holds c = showing-start _ _ _ _ _ _ _ (omega arith) (omega arith) refl
 
 returns : tie.Need-returns Inv-loop μ-loop
 unfolding printChunk

@@ -1,3 +1,5 @@
+use native.Mathlib.Omega.{arith}
+use Rattle.show.specs.Lines.{element-low}
 use borrow.Author.Needs.{needs}
 use Rattle.show.proofs.put_singles.Statement.{statement}
 use Rattle.show.proofs.put_singles.Tie as tie
@@ -12,6 +14,9 @@ put-singles-spec =
     (λ c κs. search needs)
     (λ c. search needs)
     (λ c. search needs)
-    (λ c κs. search needs)
+    (λ c κs h. c .before .before .before .before .before .before .pre)
+    (λ c. search needs)
+    (λ c. search needs)
+    (λ c κs. (element-low _ (c .before .before .before .before .before .before .pre) (c .before .if3 .left), omega arith))
     (λ c. search needs)
     (λ c. search needs))

@@ -10,10 +10,10 @@ use Rattle.texts.proofs.lists_text.Statement.{statement}
 use Rattle.texts.proofs.lists_text.Tie as tie
 
 abbrev Inv-loop : tie.InvT-loop
-Inv-loop t n e strings first last out₀ at here₀ rest₀ out here rest = Taking (listed (kept strings first last e) e) (putList e) t n (here₀ .next .at) out₀ at rest out here
+Inv-loop t n e strings pools first last out₀ at here₀ rest₀ out here rest = Taking (listed (kept strings pools first last e) e) (putList e) t n (here₀ .next .at) out₀ at rest out here
 
 abbrev μ-loop : tie.MeasureT-loop
-μ-loop t n e strings first last out₀ at here₀ rest₀ out here rest = rest
+μ-loop t n e strings pools first last out₀ at here₀ rest₀ out here rest = rest
 
 loop-holds : tie.Need-loop-holds Inv-loop μ-loop
 unfolding most
@@ -26,13 +26,13 @@ lists-text-spec =
     Inv-loop
     μ-loop
     loop-holds
-    (λ c κs. (c .before .before .before .before .before .before .before) .pre)
+    (λ c κs. (c .before .before .before .before .before .before .before .before) .pre)
     (λ c. search needs)
     (λ c. search needs)
-    (λ c. c .before .before .before .before .list-text .kept .1 .1 .1 .1 .1 .1 .0 ∙ c .before .before .before .before .before .before .before .loop .inv .long)
+    (λ c. c .before .before .before .before .list-text .kept .1 .1 .1 .1 .1 .1 .1 .0 ∙ c .before .before .before .before .before .before .before .loop .inv .long)
     (λ c. taking-bad (c .before .before .before .before .before .before .before .loop .inv) (c .before .before .before .before .before .before .loop-test .taken) (c .before .before .before .before .list-text .ensures) (c .enum-told .given .1))
     (λ c. omega arith)
     (λ c. omega arith)
-    (λ c. taking-next (c .before .before .before .before .before .before .before .before .loop .inv) (c .before .before .before .before .before .before .before .loop-test .taken) (c .before .before .before .before .before .list-text .ensures) (c .before .a .given .1) (c .before .before .before .before .before .list-text .kept .1 .1 .1 .1 .1 .1 .0))
+    (λ c. taking-next (c .before .before .before .before .before .before .before .before .loop .inv) (c .before .before .before .before .before .before .before .loop-test .taken) (c .before .before .before .before .before .list-text .ensures) (c .before .a .given .1) (c .before .before .before .before .before .list-text .kept .1 .1 .1 .1 .1 .1 .1 .0))
     (λ c. c .before .loop .inv .long)
     (λ c. taking-done (c .before .loop .inv) (c .loop-test .left)))

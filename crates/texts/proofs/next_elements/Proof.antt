@@ -10,10 +10,10 @@ use Rattle.texts.proofs.next_elements.Statement.{statement}
 use Rattle.texts.proofs.next_elements.Tie as tie
 
 abbrev Inv-loop : tie.InvT-loop
-Inv-loop t m e strings first last out₀ at here₀ rest₀ out here rest = Taking (behindTab (kept strings first last e) e) (putElement e) t m (here₀ .next .at) out₀ at rest out here
+Inv-loop t m e strings pools first last out₀ at here₀ rest₀ out here rest = Taking (behindTab (kept strings pools first last e) e) (putElement e) t m (here₀ .next .at) out₀ at rest out here
 
 abbrev μ-loop : tie.MeasureT-loop
-μ-loop t m e strings first last out₀ at here₀ rest₀ out here rest = rest
+μ-loop t m e strings pools first last out₀ at here₀ rest₀ out here rest = rest
 
 loop-holds : tie.Need-loop-holds Inv-loop μ-loop
 unfolding most
@@ -26,13 +26,13 @@ next-elements-spec =
     Inv-loop
     μ-loop
     loop-holds
-    (λ c κs. ((c .before .before .before .before .before .before .before) .pre .0 (omega (arith, c .before .before .loop .inv .fewer)), (c .before .before .before .before .before .before .before) .pre .1))
+    (λ c κs. ((c .before .before .before .before .before .before .before .before) .pre .0 (omega (arith, c .before .before .loop .inv .fewer)), (c .before .before .before .before .before .before .before .before) .pre .1))
     (λ c. search needs)
     (λ c. search needs)
-    (λ c. c .before .before .before .before .next-element .kept .1 .1 .1 .1 .1 .1 .0 ∙ c .before .before .before .before .before .before .before .loop .inv .long)
+    (λ c. c .before .before .before .before .next-element .kept .1 .1 .1 .1 .1 .1 .1 .0 ∙ c .before .before .before .before .before .before .before .loop .inv .long)
     (λ c. taking-bad (c .before .before .before .before .before .before .before .loop .inv) (c .before .before .before .before .before .before .loop-test .taken) (c .before .before .before .before .next-element .ensures) (c .enum-told .given .1))
     (λ c. omega arith)
     (λ c. omega arith)
-    (λ c. taking-next (c .before .before .before .before .before .before .before .before .loop .inv) (c .before .before .before .before .before .before .before .loop-test .taken) (c .before .before .before .before .before .next-element .ensures) (c .before .a .given .1) (c .before .before .before .before .before .next-element .kept .1 .1 .1 .1 .1 .1 .0))
+    (λ c. taking-next (c .before .before .before .before .before .before .before .before .loop .inv) (c .before .before .before .before .before .before .before .loop-test .taken) (c .before .before .before .before .before .next-element .ensures) (c .before .a .given .1) (c .before .before .before .before .before .next-element .kept .1 .1 .1 .1 .1 .1 .1 .0))
     (λ c. c .before .loop .inv .long)
     (λ c. taking-done (c .before .loop .inv) (c .loop-test .left)))

@@ -31,7 +31,7 @@ const NUMBER: &[Row] = &[
     ("fewer fields than known: declared in two blocks", 11, "P 01 01 00 00 00 01 00 07 01 00 00 01 01 00 01 00 07 02 00 00 01 01 01 01"),
     ("fewer fields than known: constants count", 11, "P 01 01 00 01 00 01 00 00 05 01 00 00 01 01 01 00"),
     ("count 0: no known field is given", 0, "D 00 01 01 00 00"),
-    ("count 0: all fields are new", 10, "D 00 01 01 00 01 00 05"),
+    ("count 0: all fields are new", 10, "D 00 01 01 00 01 00 10"),
     ("known are the type's own fields, not its super type's", 0, "P 02 01 00 01 00 01 00 07 01 01 02 01 00 01 00 00 01 00 02 01 01 01 01 02 00 01 00 02"),
     ("known are the type's own fields, not those below it", 0, "P 02 01 00 01 00 00 02 01 00 01 00 01 00 07 01 01 01 00 02 01 01 00 02 00 01 01 01 02"),
     ("known are the type's own fields, not another type's", 0, "P 02 01 00 01 00 02 00 07 01 01 00 07 02 02 02 00 01 00 01 00 07 01 03 010203 00 01 02 01 01 01 04"),
@@ -78,7 +78,7 @@ const NAMES: &[Row] = &[
     ("a field name may be used by a type below", 0, "Q 02 01 00 00 00 00 02 01 00 00 00 01 00 0B 01 00 00 01 01 00 01 00 0B 01 00"),
     ("a field name may be a type's name, its own or another's", 0, "Q 02 02 00 00 00 00 01 00 00 00 02 00 0B 01 00 00 0B 02 00"),
     ("a field name may be empty", 0, "01 00000000 01 01 00 01 00 01 00 07 01 01 05"),
-    ("a field's kind comes before its name", 10, "P 01 01 00 00 00 01 00 05 00"),
+    ("a field's kind comes before its name", 10, "P 01 01 00 00 00 01 00 10 00"),
     ("a field's name comes before its end", 5, "P 01 01 00 00 00 02 00 0B 01 05 00 0B 00 04"),
 ];
 

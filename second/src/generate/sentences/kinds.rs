@@ -26,26 +26,27 @@ fn unlisted() -> Vec<Case> {
         };
         Case::ruled(&label, 10, file)
     };
-    let kinds = [5, 16].into_iter().chain(20..32);
+    let kinds = [16].into_iter().chain(21..32);
     let mut cases: Vec<Case> = kinds.map(|number| kind("", number)).collect();
-    for front in ["0F 02", "11"] {
-        cases.extend((0..6).chain(15..32).map(|number| kind(front, number)));
+    for front in ["0F 02", "11", "14 02"] {
+        cases.extend((0..5).chain(15..32).map(|number| kind(front, number)));
     }
-    for front in ["12", "13"] {
-        cases.extend([0, 5, 15, 16, 19, 31].map(|number| kind(front, number)));
+    for front in ["12", "13", "14 02 05"] {
+        cases.extend([0, 4, 15, 16, 17, 18, 19, 20, 31].map(|number| kind(front, number)));
     }
     cases
 }
 
 /// Each kind and element kind that is listed, in a type without objects.
 fn listed() -> Vec<Case> {
-    let numbers = || (6..15).chain([32]);
+    let numbers = || (5..15).chain([32]);
     let plain = numbers().map(|number| format!("{number:02X}"));
     let array = numbers().map(|number| format!("0F 02 {number:02X}"));
     let mut fields: Vec<String> = plain.chain(array).collect();
-    for many in ["11", "12", "13"] {
+    for many in ["11", "12", "13", "14 02 06"] {
         fields.extend(numbers().map(|number| format!("{many} {number:02X}")));
     }
+    fields.extend(numbers().map(|number| format!("14 02 {number:02X} 06")));
     let rows = fields.iter().enumerate();
     let text: String = rows
         .map(|(index, kind)| format!("00 {kind} {:02X} 00 ", index + 1))
@@ -66,11 +67,11 @@ const EARLY: &[Row] = &[
     ("a kind of 288 is no kind of 32", 10, "Q 01 01 00 01 00 01 00 A0 02 01 01 00"),
     ("a kind of 2^32 + 11 is no kind of 11", 10, "Q 01 01 00 01 00 01 00 8B 80 80 80 10 01 01 00"),
     ("an unlisted kind of a second field", 10, "Q 01 01 00 00 00 02 00 0B 01 00 00 10"),
-    ("an unlisted kind before a falling end", 10, "P 01 01 00 00 00 02 00 0B 01 02 00 14 02 01"),
+    ("an unlisted kind before a falling end", 10, "P 01 01 00 00 00 02 00 0B 01 02 00 15 02 01"),
     ("a fixed array of length 65535: the element kind is due", 1, "Q 01 01 00 01 00 01 00 0F FF FF 03"),
     ("a fixed array of length 65535 is accepted", 0, "Q 01 01 00 00 00 01 00 0F FF FF 03 0D 01 00"),
     ("a fixed array of length 65536, at the length", 3, "Q 01 01 00 01 00 01 00 0F 80 80 04"),
-    ("a fixed array of length 65536, before the element kind", 3, "Q 01 01 00 01 00 01 00 0F 80 80 04 05 01 00"),
+    ("a fixed array of length 65536, before the element kind", 3, "Q 01 01 00 01 00 01 00 0F 80 80 04 10 01 00"),
     ("a fixed array of length 2^64 - 1", 3, "Q 01 01 00 01 00 01 00 0F FF*9"),
     ("a fixed array has its length before its element kind", 0, "Q 01 01 00 01 00 01 00 0F 07 08 01 0E 00*7 01*7"),
     ("a fixed array of length 0 is accepted", 0, "Q 01 01 00 02 00 01 00 0F 00 0B 01 00"),

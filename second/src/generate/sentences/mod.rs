@@ -5,9 +5,11 @@
 //! another order. The answers are written from the paper, the places are this
 //! program's.
 
+mod annotations;
 mod entries;
 mod fields;
 mod kinds;
+mod maps;
 mod numbers;
 mod objects;
 mod ranges;
@@ -37,6 +39,8 @@ pub fn sections() -> Vec<Section> {
         section("Kinds", kinds::cases()),
         section("Values", values::cases()),
         section("References", references::cases()),
+        section("Annotations", annotations::cases()),
+        section("Maps", maps::cases()),
     ]
 }
 

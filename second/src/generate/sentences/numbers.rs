@@ -173,7 +173,7 @@ const PADDED: &[Row] = &[
     (
         "padded kind: 2 before 10",
         2,
-        "P 01 01 00 01 00 01 00 85 00",
+        "P 01 01 00 01 00 01 00 90 00",
     ),
     (
         "padded kind that is listed",
@@ -193,12 +193,12 @@ const PADDED: &[Row] = &[
     (
         "padded element kind: 2 before 10",
         2,
-        "P 01 01 00 01 00 01 00 11 85 00",
+        "P 01 01 00 01 00 01 00 11 90 00",
     ),
     (
         "padded element kind of a fixed array: 2 before 10",
         2,
-        "P 01 01 00 01 00 01 00 0F 02 85 00",
+        "P 01 01 00 01 00 01 00 0F 02 90 00",
     ),
     (
         "padded field name: 2 before 5",

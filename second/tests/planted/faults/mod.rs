@@ -1,10 +1,13 @@
 //! The faults: each breaks one sentence of the paper and no other.
 
+mod annotations;
 mod block;
 mod build;
 mod calls;
 mod front;
 mod listing;
+mod maps;
+mod places;
 mod values;
 
 use crate::Edit;
@@ -42,10 +45,13 @@ pub fn all() -> Vec<Fault> {
         block::RANGES,
         block::FIELDS,
         block::KINDS,
+        maps::MAP_KINDS,
         block::ENDS,
         values::VALUES,
         values::ARRAYS,
         values::REFERENCES,
+        annotations::ANNOTATIONS,
+        maps::MAPS,
         calls::MEMORY,
         calls::ORDER,
         calls::COLUMNS,
@@ -54,4 +60,9 @@ pub fn all() -> Vec<Fault> {
         build::SCAN,
     ];
     groups.concat()
+}
+
+/// Those that change nothing but a place.
+pub fn of_places() -> Vec<Fault> {
+    places::PLACES.to_vec()
 }

@@ -1,7 +1,6 @@
 use borrow.Author.Needs.{needs}
 use native.Mathlib.Omega.{arith}
-use Rattle.reader.specs.KindLaws.{past-gaps}
-use Rattle.calls.specs.Kinds.{asked-constant, asked-array, asked-many, asked-as-plain, asked-in-gap}
+use Rattle.calls.specs.Kinds.{asked-constant, asked-array, asked-none, asked-as-plain}
 use Rattle.calls.proofs.asks.asked_with.Statement.{statement}
 use Rattle.calls.proofs.asks.asked_with.Tie as tie
 
@@ -13,7 +12,7 @@ asked-with-spec =
     (λ c. asked-array _ _ (c .match .keys1))
     (λ c. asked-constant _ _ (omega arith))
     (λ c. asked-as-plain _ _ (omega arith) (λ q. omega arith) (λ q. omega arith) (c .before .before .before .asked-plain .ensures))
-    (λ c. asked-many _ _ (past-gaps _ (c .before .before .before .match .rest .1) .1 (omega arith)) (omega arith))
+    (λ c. asked-none _ _ (let other = c .before .before .before .match .rest in omega (arith, other .0, other .1)) (omega arith))
     (λ c. asked-as-plain _ _ (omega arith) (λ q. omega arith) (λ q. omega arith) (c .before .before .before .before .before .asked-plain .ensures))
-    (λ c. asked-in-gap _ _ (c .match .keys2) (c .before .asked-plain .ensures))
+    (λ c. asked-as-plain _ _ (omega (arith, c .match .keys2)) (λ q. omega (arith, c .match .keys2)) (λ q. omega (arith, c .match .keys2)) (c .before .asked-plain .ensures))
     (λ c. asked-as-plain _ _ (omega arith) (λ q. omega arith) (λ q. omega arith) (c .before .before .before .before .before .asked-plain .ensures)))

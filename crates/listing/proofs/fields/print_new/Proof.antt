@@ -24,4 +24,4 @@ print-new-spec =
     (λ c. new-no-end (c .before .before .before .before .before .before .before .before .before .before .before .new-kind .ensures) (c .before .before .before .before .before .before .before .before .before .k .given .1) (c .before .before .before .before .before .before .before .v64 .ensures) (c .before .before .before .before .before .a .given .1) (c .before .before .before .v642 .ensures) (c .before .enum-told3 .given .1))
     (λ c κs. search needs)
     (λ c. search needs)
-    (λ c. new-printed (c .before .before .before .before .before .before .before .before .before .before .before .before .before .before .before .new-kind .ensures) (c .before .before .before .before .before .before .before .before .before .before .before .before .before .k .given .1) (c .before .before .before .before .before .before .before .before .before .before .before .v64 .ensures) (c .before .before .before .before .before .before .before .before .before .a .given .1) (c .before .before .before .before .before .before .before .v642 .ensures) (c .before .before .before .before .before .b .given .1) (c .before .before .put-new .ensures)))
+    (λ c. new-printed (c .before .before .before .before .before .before .before .before .before .before .before .before .before .before .before .new-kind .ensures) (c .before .before .before .before .before .before .before .before .before .before .before .before .before .k .given .1) (c .before .before .before .before .before .before .before .before .before .before .before .v64 .ensures) (c .before .before .before .before .before .before .before .before .before .a .given .1) (c .before .before .before .before .before .before .before .v642 .ensures) (c .before .before .before .before .before .b .given .1) (c .before .before .put-field .ensures)))

@@ -11,5 +11,5 @@ constant-spec =
     (λ c. search needs)
     (λ c. search needs)
     (λ c κs. search needs)
-    (λ c named. constant-no named (c .before .before .before .constant-bits .ensures) (c .before .before .before .before .before .pre) (c .before .enum-told .given .1) (c .refused .ensures))
-    (λ c named. constant-got named (c .before .before .before .constant-bits .ensures) (c .before .before .before .before .before .pre) (c .before .a .given .1)))
+    (λ c. constant-no (c .before .before .before .constant-bits .ensures) (c .before .before .before .before .before .pre) (c .before .enum-told .given .1) (c .refused .ensures))
+    (λ c. constant-got (c .before .before .before .constant-bits .ensures) (c .before .before .before .before .before .pre) (c .before .a .given .1)))

@@ -5,6 +5,7 @@ use native.Mathlib.Omega.{arith}
 use Prim.Native.Nat.{_-_}
 use mathlib.Core.Path.{subst}
 use lib.ListN.{length}
+use Rattle.values.specs.Listed.{single-5}
 use Rattle.values.specs.Columns.{StorableIn}
 use Rattle.values.specs.Filling.{Filling, fill-start, fill-done, fill-full, fill-cut, fill-next}
 use Rattle.values.proofs.columns.fill.Statement.{statement}
@@ -41,4 +42,4 @@ fill-spec =
     (λ c. omega (arith, c .before .before .before .before .before .before .before .before .loop .inv .long))
     (λ c. fill-next (c .before .before .before .before .before .before .before .before .loop .inv) (c .before .before .before .before .before .before .if1 .taken) (c .before .before .before .before .read-value .ensures) (c .before .before .a .given .1) (toZ-ofZ (record { sfits = c .store .ok }) ∙ c .store .ensures))
     (λ c. c .before .before .loop .inv .long)
-    (λ c. fill-done (c .before .before .loop .inv) (c .if1 .left)))
+    (λ c. fill-done (c .before .before .loop .inv) (single-5 _ ((c .before .before .before .before) .pre)) (c .if1 .left)))

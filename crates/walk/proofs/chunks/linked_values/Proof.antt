@@ -1,7 +1,8 @@
 -- `walk::chunks::linked_values` meets its contract: the ranges that were gathered are those of the type. Assumes nothing.
 use mathlib.Core.Path.{sym, _∙_}
-use Rattle.walk.specs.Gather.{first-lent, last-lent}
-use Rattle.walk.specs.Steps.{valued-linked}
+use Rattle.lookups.specs.Gather.{first-lent, last-lent}
+use Rattle.lookups.specs.Known.{linked-known}
+use Rattle.walk.specs.Steps.{valued}
 use borrow.Author.Needs.{needs}
 use Rattle.walk.proofs.chunks.linked_values.Statement.{statement}
 use Rattle.walk.proofs.chunks.linked_values.Tie as tie
@@ -18,8 +19,9 @@ linked-values-spec =
     (λ c κs. search needs)
     (λ c. search needs)
     (λ c. search needs)
-    (λ c. first-lent (c .before .before .before .before .before .gather .ensures))
     (λ c. search needs)
-    (λ c. last-lent (c .before .before .before .before .before .before .gather .ensures))
-    (λ c κs. (c .before .before .before .before .before .before .before .before .before .before .before .before .pre .1 .0, sym (first-lent (c .before .before .before .before .before .before .gather .ensures)) ∙ last-lent (c .before .before .before .before .before .before .gather .ensures)))
-    (λ c. valued-linked (c .before .before .before .strings .ensures) (c .before .before .before .before .before .before .before .gather .ensures) (c .chunk-values .ensures)))
+    (λ c. first-lent (c .before .before .before .before .before .before .gather .ensures))
+    (λ c. search needs)
+    (λ c. last-lent (c .before .before .before .before .before .before .before .gather .ensures))
+    (λ c κs. let kinds = c .before .before .before .before .before .before .before .before .before .before .before .before .before .pre .1 in (kinds .0, kinds .1, kinds .2, sym (first-lent (c .before .before .before .before .before .before .before .gather .ensures)) ∙ last-lent (c .before .before .before .before .before .before .before .gather .ensures)))
+    (λ c file holds. valued _ (linked-known holds (c .before .before .before .before .strings .ensures) (c .before .before .before .before .before .before .before .before .before .before .before .before .before .before .pre .1 .3) (c .before .before .before .before .before .before .before .before .gather .ensures)) (c .chunk-values .ensures)))

@@ -1,33 +1,19 @@
--- `walk::region::region` meets its contract. The invariant: the chunks that are left, from here, give the whole. Assumes nothing.
-use borrow.Author.Needs.{needs}
+-- `walk::region::region` meets its contract: the pools say which annotations keep the rule. Assumes nothing.
 use native.Mathlib.Omega.{arith}
 use mathlib.Core.Path.{sym, _∙_}
-use Prim.Native.Nat.{_-_}
-use Rattle.walk.specs.RegionTurns.{Going, going-start, going-next, going-on, going-out, going-done}
+use Rattle.lookups.specs.Named.{due-lent}
+use borrow.Author.Needs.{needs}
 use Rattle.walk.proofs.region.region.Statement.{statement}
 use Rattle.walk.proofs.region.region.Tie as tie
-
-abbrev Inv-loop : tie.InvT-loop
-Inv-loop file at work₀ n place₀ i₀ work place i = Going file work₀ at work place i
-
-abbrev μ-loop : tie.MeasureT-loop
-μ-loop file at work₀ n place₀ i₀ work place i = n - i
 
 pub region-spec : {M : Type 1} → statement M
 region-spec =
     tie.close
     (tie.spec
-    Inv-loop
-    μ-loop
-    (λ c κs. c .before .before .before .pre .holds .ok)
-    (λ c. going-start (c .before .before .before .before .pre))
-    (λ c κs. going-next (c .before .before .before .before .before .before .before .pre) (c .before .before .loop .inv) (omega arith))
     (λ c. search needs)
-    (λ c. search needs)
-    (λ c. c .before .before .before .before .next-chunk .ensures .holds .ok .long ∙ sym (c .before .before .before .before .before .before .before .before .before .before .before .before .pre .holds .ok .long))
-    (λ c. going-out (c .before .before .before .before .before .before .before .before .before .before .before .before .pre) (c .before .before .before .before .before .before .before .loop .inv) (omega arith) (c .before .before .before .before .next-chunk .ensures) (c .enum-told .given .1))
-    (λ c. omega arith)
-    (λ c. omega arith)
-    (λ c. going-on (c .before .before .before .before .before .before .before .before .before .before .before .before .before .pre) (c .before .before .before .before .before .before .before .before .loop .inv) (omega arith) (c .before .before .before .before .before .next-chunk .ensures) (c .before .a .given .1))
-    (λ c. c .before .loop .inv .holds .ok .long ∙ sym (c .before .before .before .before .before .before .pre .holds .ok .long))
-    (λ c. going-done (c .before .before .before .before .before .before .pre) (c .before .loop .inv) (omega arith)))
+    (λ c κs. let pre = c .before .before .before .before .pre in (pre .holds, pre .pooled, omega arith))
+    (λ c. omega (arith, c .before .before .pools-due .ensures .few))
+    (λ c. due-lent (c .before .before .before .pools-due .ensures))
+    (λ c κs. (c .before .before .before .before .before .before .before .before .pre, c .before .before .before .pools-due .ensures .noted))
+    (λ c. c .before .before .chunks .ensures .holds .ok .long ∙ sym (c .before .before .before .before .before .before .before .before .before .before .before .pre .holds .ok .long))
+    (λ c. c .before .before .chunks .ensures))

@@ -1,0 +1,8 @@
+-- The ranges of types
+pub mod Low
+pub mod Gather
+pub mod Group
+-- The objects that annotations name
+pub mod Bytes
+pub mod Named
+pub mod Known

@@ -1,0 +1,56 @@
+// The ranges of a type, and of all types, in two lists: the i-th range begins behind object first[i] and ends with object last[i].
+ghost use mathlib.Core.Path.{_≡_};
+ghost use Prim.Native.Nat.{_+_, _≤_};
+ghost use lib.ListN.{length};
+ghost use Rattle.table.specs.View.{logOf, Ok};
+ghost use Rattle.lookups.specs.Low.{Low};
+ghost use Rattle.lookups.specs.Gather.{countOf, GatheredFrom, Gathered};
+ghost use Rattle.lookups.specs.Group.{AllGrouped};
+use table::rows::range_at;
+use table::rows::ranges;
+
+// The ranges of type t, which come from a place on in the log's order: the place behind them. What stands before is left alone.
+fn gather_from(work: &[u32], t: u64, first: &mut [u32], last: &mut [u32], from: usize) -> usize
+    requires { ⌜ Ok (now work) × Low 0 (logOf (now work)) ⌝ }
+    requires { ⌜ (length (now first) ≡ 1024) × (length (now last) ≡ 1024) × (from + countOf t (logOf (now work)) ≤ 1024) ⌝ }
+    ensures { λ r. ⌜ GatheredFrom t (logOf (now (work .entry))) from (now (first .entry)) (now (last .entry)) (now (first .exit)) (now (last .exit)) r ⌝ }
+{
+    let n = ranges(work);
+    let mut k = from;
+    let mut i = 0;
+    while i < n {
+        let r = range_at(work, i);
+        if r.typ as u64 == t {
+            first[k] = r.first;
+            last[k] = r.first + r.count;
+            k += 1;
+        }
+        i += 1;
+    }
+    k
+}
+
+// The ranges of type t at the front of both lists: how many there are. A type that is not declared has none, so t has no bound.
+pub fn gather(work: &[u32], t: u64, first: &mut [u32], last: &mut [u32]) -> usize
+    requires { ⌜ Ok (now work) × Low 0 (logOf (now work)) ⌝ }
+    requires { ⌜ (length (now first) ≡ 1024) × (length (now last) ≡ 1024) ⌝ }
+    ensures { λ r. ⌜ Gathered t (logOf (now (work .entry))) (now (first .exit)) (now (last .exit)) r ⌝ }
+{
+    gather_from(work, t, first, last, 0)
+}
+
+// The ranges of all types, one type after the other: those of type t stand from starts[t] up to starts[t + 1].
+pub fn group(work: &[u32], starts: &mut [u32], first: &mut [u32], last: &mut [u32])
+    requires { ⌜ Ok (now work) × Low 0 (logOf (now work)) ⌝ }
+    requires { ⌜ (length (now starts) ≡ 33) × (length (now first) ≡ 1024) × (length (now last) ≡ 1024) ⌝ }
+    ensures { λ r. ⌜ AllGrouped (logOf (now (work .entry))) (now (starts .exit)) (now (first .exit)) (now (last .exit)) ⌝ }
+{
+    starts[0] = 0;
+    let mut k: usize = 0;
+    let mut t: usize = 0;
+    while t < 32 {
+        k = gather_from(work, t as u64, first, last, k);
+        t += 1;
+        starts[t] = k as u32;
+    }
+}
