@@ -26,7 +26,9 @@
 #define TH_FILE 1048576
 #define TH_OBJECTS 65535
 
-/* Why a call was refused. docs/REFUSALS.md says of each when it is given and what to do. */
+/* Why a call was refused. docs/REFUSALS.md says of each when it is given and what to do. TH_PADDED
+ * is no longer given: every coding of a number in at most nine bytes is taken. It keeps its number,
+ * and no other refusal will get it. */
 enum th_refusal {
     TH_SHORT = 1,
     TH_PADDED = 2,
@@ -91,9 +93,14 @@ int64_t th_column(const uint8_t *file, size_t file_length, const uint8_t *type, 
 int64_t th_listing(const uint8_t *file, size_t file_length, uint32_t *work, size_t work_length,
                    uint8_t *out, size_t out_length);
 
-/* Builds a file from its listing: writes the one file that has this listing to the front of `out`,
- * and gives its length in bytes. The rest of `out` is untouched, and a refusal leaves all of it as
- * it was. What is built is accepted by the other calls, and th_listing gives the same text for it.
+/* Builds a file from its listing: writes the shortest file that has this listing to the front of
+ * `out`, and gives its length in bytes. The rest of `out` is untouched, and a refusal leaves all of
+ * it as it was. What is built is accepted by the other calls, and th_listing gives the same text
+ * for it.
+ *
+ * A listing does not show in how many bytes the file had its numbers. Where they all were in their
+ * shortest coding, as in every file that th_build wrote, the same bytes come back. Where some were
+ * padded, the built file has the same contents and is shorter, its end offsets worked out again.
  *
  * The text has to be what th_listing would write, byte for byte; a zero byte at its end is not
  * counted in `text_length`. Whatever else it is gives TH_LISTING: a blank too many, a number with a

@@ -1,5 +1,6 @@
 //! The proved v64 reader against a plain Rust loop: the same buffers, one run, the best of several repetitions.
-//! Nanoseconds a number, over a megabyte of one-byte, of nine-byte and of mixed numbers. `rt staticlib pace` first.
+//! Nanoseconds a number, over a megabyte of one-byte, of nine-byte and of mixed numbers, and of mixed ones padded to nine
+//! bytes. `rt staticlib pace` first.
 use std::hint::black_box;
 use std::time::Instant;
 
@@ -18,15 +19,12 @@ mod proved {
     }
 }
 
-/// A v64 at `at`, in shortest coding, and the place behind it.
+/// A v64 at `at`, in any coding, and the place behind it.
 fn plain_v64(bytes: &[u8], at: usize) -> Option<(u64, usize)> {
     let mut value = 0u64;
     for k in 0..9 {
         let byte = *bytes.get(at + k)?;
         if k == 8 || byte < 128 {
-            if k > 0 && byte == 0 {
-                return None;
-            }
             return Some((value | u64::from(byte) << (7 * k), at + k + 1));
         }
         value |= u64::from(byte & 127) << (7 * k);
@@ -44,9 +42,10 @@ fn plain_sum(bytes: &[u8]) -> u64 {
     sum
 }
 
-fn put_v64(out: &mut Vec<u8>, mut value: u64) {
-    for _ in 0..8 {
-        if value < 128 {
+/// Appends a number in at least so many bytes, from 1 to 9, and in no more than it needs beyond that.
+fn put_v64(out: &mut Vec<u8>, mut value: u64, least: usize) {
+    for k in 1..9 {
+        if value < 128 && k >= least {
             break;
         }
         out.push(128 | value as u8);
@@ -73,13 +72,13 @@ struct Case {
     count: usize,
 }
 
-/// As many numbers as begin in a megabyte, each chosen from a random one.
-fn case(name: &'static str, choose: fn(u64) -> u64) -> Case {
+/// As many numbers as begin in a megabyte, each chosen from a random one and in at least so many bytes.
+fn case(name: &'static str, choose: fn(u64) -> u64, least: usize) -> Case {
     let mut numbers = Numbers(0x9E37_79B9_7F4A_7C15);
     let mut bytes = Vec::with_capacity(BYTES + 9);
     let mut count = 0;
     while bytes.len() < BYTES {
-        put_v64(&mut bytes, choose(numbers.next()));
+        put_v64(&mut bytes, choose(numbers.next()), least);
         count += 1;
     }
     Case { name, bytes, count }
@@ -96,10 +95,12 @@ fn best(case: &Case, sum: fn(&[u8]) -> u64) -> f64 {
 }
 
 fn main() {
+    let mixed = |r: u64| r >> (r % 64);
     let cases = [
-        case("one byte", |r| r % 128),
-        case("nine bytes", |r| r | 1 << 63),
-        case("mixed, 1 to 9", |r| r >> (r % 64)),
+        case("one byte", |r| r % 128, 1),
+        case("nine bytes", |r| r | 1 << 63, 1),
+        case("mixed, 1 to 9", mixed, 1),
+        case("padded to nine", mixed, 9),
     ];
     println!("v64, ns a number    proved    plain    proved / plain");
     for case in &cases {

@@ -1,4 +1,5 @@
-//! What is asked of the builder: every accepted file from its listing and back, and texts that are no listing.
+//! What is asked of the builder: every accepted file from its listing and back, which gives its shortest spelling, and texts
+//! that are no listing.
 
 use second::bounds::{FILE, TABLE};
 use second::generate::{self, Case, LISTINGS, SEED};
@@ -107,7 +108,8 @@ pub fn sheets(count: usize) -> Vec<Sheet> {
     sheets.filter(|one| one.text.len() <= LONGEST).collect()
 }
 
-/// An accepted file: the builder gives it again from its listing.
+/// An accepted file: the builder gives it again from its listing, without padding where it has some. It needs no more room
+/// than the file had.
 pub fn of_file<R: Reader>(
     comparison: &mut Comparison<'_, R>,
     origin: &str,
@@ -115,6 +117,11 @@ pub fn of_file<R: Reader>(
 ) -> Result<(), Mismatch> {
     let room = plan::listing_length(file);
     let text = written(comparison, origin, file, &Call::Listing { room })?;
+    let answer = asked(comparison, origin, &text, file.len(), TABLE)?;
+    let length = usize::try_from(answer).unwrap_or(usize::MAX);
+    if length < file.len() {
+        return built(comparison, origin, &text, length).map(drop);
+    }
     let built = built(comparison, origin, &text, file.len())?;
     same(origin, "the file of its listing", &built, file)
 }

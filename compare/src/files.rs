@@ -1,4 +1,5 @@
-//! The run over all generated files: good, damaged, extreme and large. Every accepted one is built again from its listing.
+//! The run over all generated files: good, damaged, padded, extreme and large. Every accepted one is built again from its
+//! listing.
 
 use second::big;
 use second::bounds::TABLE;

@@ -19,23 +19,23 @@ const MANY: &str = "very many lines";
 
 #[rustfmt::skip]
 pub const TEXTS: &[Large] = &[
-    Large { group: AT, name: "1048576 bytes, a string", make: || padded(STRING, FILE) },
-    Large { group: AT, name: "1048576 bytes, values", make: || padded(&values(100_000), FILE) },
-    Large { group: AT, name: "1048576 bytes, arrays", make: || padded(&arrays(15), FILE) },
-    Large { group: AT, name: "1048576 bytes, annotations", make: || padded(&annotations(7), FILE) },
-    Large { group: AT, name: "1048576 bytes, maps", make: || padded(&maps(7), FILE) },
-    Large { group: AT, name: "1048576 bytes, two pairs", make: || padded(&two_pairs(), FILE) },
+    Large { group: AT, name: "1048576 bytes, a string", make: || filled(STRING, FILE) },
+    Large { group: AT, name: "1048576 bytes, values", make: || filled(&values(100_000), FILE) },
+    Large { group: AT, name: "1048576 bytes, arrays", make: || filled(&arrays(15), FILE) },
+    Large { group: AT, name: "1048576 bytes, annotations", make: || filled(&annotations(7), FILE) },
+    Large { group: AT, name: "1048576 bytes, maps", make: || filled(&maps(7), FILE) },
+    Large { group: AT, name: "1048576 bytes, two pairs", make: || filled(&two_pairs(), FILE) },
     Large { group: AT, name: "1048576 bytes, the last two an empty pair", make: || then_empty(FILE - 2) },
-    Large { group: BEYOND, name: "1048577 bytes, a string", make: || padded(STRING, FILE + 1) },
-    Large { group: BEYOND, name: "1048577 bytes, values", make: || padded(&values(100_000), FILE + 1) },
-    Large { group: BEYOND, name: "1048577 bytes, arrays", make: || padded(&arrays(15), FILE + 1) },
-    Large { group: BEYOND, name: "1048577 bytes, annotations", make: || padded(&annotations(7), FILE + 1) },
-    Large { group: BEYOND, name: "1048577 bytes, maps", make: || padded(&maps(7), FILE + 1) },
-    Large { group: BEYOND, name: "1048577 bytes, two pairs", make: || padded(&two_pairs(), FILE + 1) },
+    Large { group: BEYOND, name: "1048577 bytes, a string", make: || filled(STRING, FILE + 1) },
+    Large { group: BEYOND, name: "1048577 bytes, values", make: || filled(&values(100_000), FILE + 1) },
+    Large { group: BEYOND, name: "1048577 bytes, arrays", make: || filled(&arrays(15), FILE + 1) },
+    Large { group: BEYOND, name: "1048577 bytes, annotations", make: || filled(&annotations(7), FILE + 1) },
+    Large { group: BEYOND, name: "1048577 bytes, maps", make: || filled(&maps(7), FILE + 1) },
+    Large { group: BEYOND, name: "1048577 bytes, two pairs", make: || filled(&two_pairs(), FILE + 1) },
     Large { group: BEYOND, name: "1048577 bytes, the last two an empty pair", make: || then_empty(FILE - 1) },
     Large { group: BEYOND, name: "1048578 bytes, the last two an empty pair", make: || then_empty(FILE) },
     Large { group: BEYOND, name: "three megabytes, strings", make: three_strings },
-    Large { group: BEYOND, name: "three megabytes, values", make: || values(350_000).replace(PAD, "").into_bytes() },
+    Large { group: BEYOND, name: "three megabytes, values", make: || values(350_000).replace(FILL, "").into_bytes() },
     Large { group: LONG, name: "a million nines", make: || value(&"9".repeat(MILLION)) },
     Large { group: LONG, name: "a million zeros", make: || value(&"0".repeat(MILLION)) },
     Large { group: LONG, name: "a million zeros and 1", make: || value(&("0".repeat(MILLION) + "1")) },
@@ -75,23 +75,23 @@ pub const TEXTS: &[Large] = &[
 const MILLION: usize = 1_000_000;
 
 /// Where the string stands that makes a file as long as it should be.
-const PAD: &str = "PAD";
+const FILL: &str = "FILL";
 
 /// The listing of a file with so many bytes: the string makes up for what is missing.
-fn padded(text: &str, length: usize) -> Vec<u8> {
-    let empty = text.replace(PAD, "");
+fn filled(text: &str, length: usize) -> Vec<u8> {
+    let empty = text.replace(FILL, "");
     let mut file = vec![0; FILE];
     let least = Second.build(empty.as_bytes(), &mut vec![0; TABLE], &mut file);
     let least = usize::try_from(least).expect("a listing, but for the string");
-    text.replace(PAD, &"78".repeat(length - least)).into()
+    text.replace(FILL, &"78".repeat(length - least)).into()
 }
 
-const STRING: &str = "pair\t1\t0\nstr\tPAD\n";
+const STRING: &str = "pair\t1\t0\nstr\tFILL\n";
 
 /// So many values of nine bytes.
 fn values(count: usize) -> String {
     let fields = count / 50_000;
-    let mut text = "pair\t9\t1\nstr\tPAD\n".to_string();
+    let mut text = "pair\t9\t1\nstr\tFILL\n".to_string();
     (0..8).for_each(|name| text += &format!("str\t0{name}\n"));
     text += &format!("type\t2\t0\t-\t50000\t{fields}\n");
     (0..fields).for_each(|field| text += &format!("new\t11\t{}\n", 2 + field));
@@ -100,14 +100,14 @@ fn values(count: usize) -> String {
 
 /// So many arrays of 65,535 bytes.
 fn arrays(count: usize) -> String {
-    let head = format!("pair\t2\t1\nstr\tPAD\nstr\t61\ntype\t2\t0\t-\t{count}\t1\nnew\t17,7\t2\n");
+    let head = format!("pair\t2\t1\nstr\tFILL\nstr\t61\ntype\t2\t0\t-\t{count}\t1\nnew\t17,7\t2\n");
     let line = format!("val{}\n", "\t-1".repeat(65_535));
     head + &line.repeat(count)
 }
 
 /// So many arrays of 65,535 annotations, each of two bytes.
 fn annotations(count: usize) -> String {
-    let head = format!("pair\t2\t1\nstr\tPAD\nstr\t61\ntype\t2\t0\t-\t{count}\t1\nnew\t17,5\t2\n");
+    let head = format!("pair\t2\t1\nstr\tFILL\nstr\t61\ntype\t2\t0\t-\t{count}\t1\nnew\t17,5\t2\n");
     let line = format!("val{}\n", "\t2\t1".repeat(65_535));
     head + &line.repeat(count)
 }
@@ -115,18 +115,18 @@ fn annotations(count: usize) -> String {
 /// So many maps of 65,535 keys, each with its value in two bytes.
 fn maps(count: usize) -> String {
     let head =
-        format!("pair\t2\t1\nstr\tPAD\nstr\t61\ntype\t2\t0\t-\t{count}\t1\nnew\t20,2,7,7\t2\n");
+        format!("pair\t2\t1\nstr\tFILL\nstr\t61\ntype\t2\t0\t-\t{count}\t1\nnew\t20,2,7,7\t2\n");
     let line = format!("val\t65535{}\n", "\t-1\t1".repeat(65_535));
     head + &line.repeat(count)
 }
 
 fn two_pairs() -> String {
-    values(50_000).replace(PAD, "") + STRING
+    values(50_000).replace(FILL, "") + STRING
 }
 
 /// A file with so many bytes, and an empty pair behind it.
 fn then_empty(length: usize) -> Vec<u8> {
-    [padded(STRING, length), b"pair\t0\t0\n".to_vec()].concat()
+    [filled(STRING, length), b"pair\t0\t0\n".to_vec()].concat()
 }
 
 /// Each of the strings alone would fit.

@@ -84,11 +84,12 @@ fn named(number: usize) -> String {
     }
 }
 
-/// Whether a call can give this answer. No file gets 8. Whatever is wrong with a text, or with the file it would be, is 20.
+/// Whether a call can give this answer. No file gets 2 or 8. Whatever is wrong with a text, or with the file it would be, is
+/// 20.
 fn possible(name: &str, number: usize) -> bool {
     match number {
         0 | 15 => true,
-        8 => false,
+        2 | 8 => false,
         16 => matches!(name, "objects" | "column"),
         17 | 18 => name == "column",
         19 => matches!(name, "column" | "listing" | "build"),

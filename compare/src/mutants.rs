@@ -94,7 +94,7 @@ fn mutant(random: &mut Random, base: &Base, bases: &[Base]) -> Vec<u8> {
     file
 }
 
-/// Flips, replaces, puts in or takes out a byte, or doubles a few.
+/// Flips, replaces, puts in or takes out a byte, doubles a few, or pads the number that ends here.
 pub fn change(random: &mut Random, file: &mut Vec<u8>) {
     if file.is_empty() {
         file.push(random.byte());
@@ -102,7 +102,7 @@ pub fn change(random: &mut Random, file: &mut Vec<u8>) {
     let at = random.index(file.len());
     let any = random.byte();
     let special = *random.pick(&[0x00, 0x01, 0x02, 0x7F, 0x80, 0xFF]);
-    match random.below(8) {
+    match random.below(9) {
         0 => file[at] ^= 1 << random.below(8),
         1 => file[at] = file[at].wrapping_add(1),
         2 => file[at] = file[at].wrapping_sub(1),
@@ -110,6 +110,7 @@ pub fn change(random: &mut Random, file: &mut Vec<u8>) {
         4 => file[at] = special,
         5 => file.insert(at, special),
         6 => drop(file.remove(at)),
+        7 => pad(random, file, at),
         _ => double(random, file, at),
     }
 }
@@ -119,6 +120,14 @@ fn double(random: &mut Random, file: &mut Vec<u8>, at: usize) {
     let end = file.len().min(at + 1 + random.index(12));
     let again = file[at..end].to_vec();
     file.splice(end..end, again);
+}
+
+/// The last byte of a number gets padding behind it, if that is what stands there. Outside of chunks nothing else changes.
+fn pad(random: &mut Random, file: &mut Vec<u8>, at: usize) {
+    let mut padding = vec![0x80; random.index(8)];
+    padding.push(0);
+    file[at] |= 0x80;
+    file.splice(at + 1..at + 1, padding);
 }
 
 /// The front of one file with the back of another.

@@ -128,7 +128,7 @@ fn an_idle_comparison_is_noticed() {
     }
     let met = ["check done", "column #16", "listing done", "listing #15"];
     let met = met.into_iter().chain(["build done", "build #15"]);
-    let impossible = ["check #8", "check #16", "listing #16", "listing #20"];
+    let impossible = ["check #2", "check #8", "listing #16", "listing #20"];
     for answer in met.chain(impossible).chain(["build #1", "build #16"]) {
         assert!(missing.iter().all(|said| said != answer), "{answer}");
     }
@@ -272,13 +272,43 @@ fn last_value_wrong() {
 fn one_refusal_for_another() {
     let faults: [fn(Left<'_>) -> i64; 4] = [
         |left| swapped(left, -12, -13),
-        |left| swapped(left, -2, -1),
+        |left| swapped(left, -4, -2),
         |left| swapped(left, -21, -3),
         |left| swapped(left, -18, -19),
     ];
     for fault in faults {
         caught("answer", fault);
     }
+}
+
+/// Whether the file of a file's listing is shorter.
+fn is_padded(file: &[u8]) -> bool {
+    let mut text = vec![0; 64 * file.len() + 64];
+    let mut built = vec![0; file.len()];
+    let mut table = vec![0; TABLE];
+    let length = Second.listing(file, &mut table, &mut text);
+    let length = usize::try_from(length).unwrap_or(0);
+    let again = Second.build(&text[..length], &mut table, &mut built);
+    length > 0 && (0..file.len() as i64).contains(&again)
+}
+
+#[test]
+fn refuses_padded_numbers() {
+    caught("answer", |left| match left.answer {
+        0.. if is_padded(left.file) => -2,
+        other => other,
+    });
+}
+
+/// The columns of a file with padding have its first value wrong, those of other files are right.
+#[test]
+fn a_padded_value_wrong() {
+    caught("output", |left| {
+        if left.answer > 0 && !left.out.is_empty() && is_padded(left.file) {
+            left.out[0] ^= 1;
+        }
+        left.answer
+    });
 }
 
 fn swapped(left: Left<'_>, from: i64, to: i64) -> i64 {

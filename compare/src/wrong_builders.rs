@@ -298,6 +298,24 @@ fn a_byte_wrong_in_the_middle() {
     });
 }
 
+/// The first number of the file has a byte of padding.
+#[test]
+fn pads_a_number() {
+    caught_by_files("answer", |text, table, file| {
+        let mut short = vec![0; file.len()];
+        match Second.build(text, table, &mut short) {
+            length @ 1.. if (length as usize) < file.len() && short[0] < 0x80 => {
+                let length = length as usize;
+                file[0] = short[0] | 0x80;
+                file[1] = 0;
+                file[2..=length].copy_from_slice(&short[1..length]);
+                length as i64 + 1
+            }
+            _ => Second.build(text, table, file),
+        }
+    });
+}
+
 #[test]
 fn always_the_same_file() {
     caught_by_files("answer", |_, table, file| {

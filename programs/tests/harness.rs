@@ -120,7 +120,12 @@ fn the_bounds_are_met_by_files() {
     assert_eq!(of("32769 bytes, accepted by the calls"), refused(3));
     assert_eq!(of("a listing of 65536 bytes").1.len(), 65_536);
     assert_eq!(of("a listing of 65538 bytes"), refused(19));
-    assert_eq!(of("32768 bytes, refused"), refused(2));
+    assert_eq!(of("32768 bytes, refused"), refused(5));
+    let padding = "32768 bytes, most of them padding";
+    let (accepted, text) = of(padding);
+    assert!(accepted && build(&text).1.len() < 8_000);
+    assert_eq!(bytes_of(&cases, padding).len(), 32_768);
+    assert_eq!(of("32769 bytes, most of them padding"), refused(3));
     assert_eq!(of("32769 bytes, refused"), refused(3));
     assert!(cases.len() > 200);
 }

@@ -5,7 +5,7 @@
 
 use crate::draft::{self, kind_bytes, wide, EntryDraft, FieldDraft, PairDraft};
 use crate::generate::random::Random;
-use crate::generate::{Case, SEED};
+use crate::generate::{spelling, Case, SEED};
 use crate::kind::{Element, Form, Kind, MapTypes};
 use crate::v64;
 
@@ -24,8 +24,9 @@ type Maker = fn(u64) -> Vec<u8>;
 
 /// All files at all sizes, the smallest of each first.
 pub fn files() -> Vec<Case> {
-    let makers: [(&str, Maker); 8] = [
+    let makers: [(&str, Maker); 9] = [
         ("v64 values", v64_values),
+        ("v64 values, every number in nine bytes", padded),
         ("mixed kinds", mixed_kinds),
         ("references to a subtype over 32 pairs", references),
         ("a column of v64 values", column),
@@ -63,6 +64,30 @@ fn v64_fields(fields: usize, objects: u64) -> Vec<u8> {
     let mut world = World::new(&mut random, &kinds);
     draft::write(&[world.pair(objects)])
 }
+
+/// About a megabyte of v64 values in two fields, divided by `part`, as a
+/// controller writes them that takes nine bytes for every number: the values
+/// are of mixed lengths, their codings and those of the front are not.
+pub fn padded(part: u64) -> Vec<u8> {
+    let objects = PADDED_OBJECTS / part;
+    let mut file = Vec::new();
+    spelling::nine(&mut file, 3);
+    file.extend([1u32, 3, 5].map(u32::to_be_bytes).concat());
+    file.extend([TYPE, FIELD, b"f1"].concat());
+    let entry = [1, 1, 0, objects, 0, 2];
+    let fields = [[0, 11, 2, 9 * objects], [0, 11, 3, 18 * objects]];
+    for number in entry.into_iter().chain(fields.concat()) {
+        spelling::nine(&mut file, number);
+    }
+    let mut random = Random::new(SEED);
+    for _ in 0..2 * objects {
+        spelling::nine(&mut file, random.bits());
+    }
+    file
+}
+
+/// As many objects as the file of padded numbers has at full size.
+pub const PADDED_OBJECTS: u64 = 58_000;
 
 /// About a megabyte of values of all kinds but annotations and maps over
 /// eight pairs, divided by `part`.

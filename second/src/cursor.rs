@@ -1,7 +1,7 @@
 //! A reading position in the file, for everything that stands outside chunks.
 
 use crate::refusal::{Refusal, SHORT};
-use crate::v64;
+use crate::v64::{self, Cut};
 
 /// A number and the place where it began.
 #[derive(Clone, Copy, Debug)]
@@ -53,8 +53,7 @@ impl<'f> Cursor<'f> {
     /// Reads a v64.
     pub fn v64(&mut self) -> Result<Found, Refusal> {
         let place = self.position;
-        let (value, next) =
-            v64::read(self.file, place).map_err(|broken| Refusal::at(broken.in_file(), place))?;
+        let (value, next) = v64::read(self.file, place).map_err(|Cut| Refusal::at(SHORT, place))?;
         self.position = next;
         Ok(Found { value, place })
     }

@@ -7,6 +7,9 @@
 use crate::kind::{constant_width, Kind};
 use crate::v64;
 
+/// A way to write numbers: [`v64::write`] is the shortest.
+pub type Spell = fn(&mut Vec<u8>, u64);
+
 /// A field as an entry gives it.
 #[derive(Clone, Debug)]
 pub struct FieldDraft {
@@ -61,13 +64,30 @@ pub struct Mark {
 }
 
 /// The bytes of a draft and where its numbers stand in them.
-#[derive(Default)]
 pub struct Written {
     pub bytes: Vec<u8>,
     pub marks: Vec<Mark>,
+    /// How numbers are written. Those of kinds and chunks stand in the draft.
+    spell: Spell,
+}
+
+impl Default for Written {
+    /// With every number in its shortest coding.
+    fn default() -> Self {
+        Written::spelt(v64::write)
+    }
 }
 
 impl Written {
+    /// Nothing yet, with a way to write numbers.
+    pub fn spelt(spell: Spell) -> Self {
+        Written {
+            bytes: Vec::new(),
+            marks: Vec::new(),
+            spell,
+        }
+    }
+
     /// Appends a pair.
     pub fn pair(&mut self, pair: &PairDraft) {
         self.string_block(&pair.strings);
@@ -121,7 +141,7 @@ impl Written {
 
     fn number(&mut self, role: Role, value: u64) {
         let start = self.bytes.len();
-        v64::write(&mut self.bytes, value);
+        (self.spell)(&mut self.bytes, value);
         let end = self.bytes.len();
         self.marks.push(Mark { role, start, end });
     }
@@ -136,7 +156,12 @@ impl Written {
 
 /// The bytes of some pairs.
 pub fn write(pairs: &[PairDraft]) -> Vec<u8> {
-    let mut written = Written::default();
+    write_spelt(pairs, v64::write)
+}
+
+/// The bytes of some pairs, with a way to write their numbers.
+pub fn write_spelt(pairs: &[PairDraft], spell: Spell) -> Vec<u8> {
+    let mut written = Written::spelt(spell);
     for pair in pairs {
         written.pair(pair);
     }
@@ -145,12 +170,17 @@ pub fn write(pairs: &[PairDraft]) -> Vec<u8> {
 
 /// The bytes a kind has in a new field.
 pub fn kind_bytes(kind: Kind) -> Vec<u8> {
+    spelt_kind(kind, v64::write)
+}
+
+/// The same with a way to write numbers.
+pub fn spelt_kind(kind: Kind, spell: Spell) -> Vec<u8> {
     let mut out = Vec::new();
     for number in kind.numbers() {
-        v64::write(&mut out, number);
+        spell(&mut out, number);
     }
     match kind {
-        Kind::Constant { number: 4, value } => v64::write(&mut out, value as u64),
+        Kind::Constant { number: 4, value } => spell(&mut out, value as u64),
         Kind::Constant { number, value } => wide(&mut out, value as u64, constant_width(number)),
         Kind::Stored { .. } | Kind::Map(_) => {}
     }

@@ -2,9 +2,12 @@
 //!
 //! The stories that they tell are in the folder `examples` of the project.
 
+mod drives;
+mod nine;
 mod slots;
 mod wear;
 
+pub use nine::{nine, nine_short};
 pub use slots::slots;
 pub use wear::wear;
 

@@ -25,6 +25,7 @@ usage: second check FILE
        second questions
        second example-wear
        second example-slots
+       second example-nine
 
 FILE may be - for standard input. Status 0 is accepted, 1 refused or failed,
 2 wrong use. A refusal is printed as `refused`, its number and its place,
@@ -110,6 +111,7 @@ fn run(arguments: &[OsString]) -> io::Result<Outcome> {
         ("questions", []) => Ok(Outcome::Accepted(questions::text().into_bytes())),
         ("example-wear", []) => Ok(Outcome::Accepted(examples::wear())),
         ("example-slots", []) => Ok(Outcome::Accepted(examples::slots())),
+        ("example-nine", []) => Ok(Outcome::Accepted(examples::nine())),
         ("counts", options) => match Options::read(options) {
             Some(options) => Ok(counts(options)),
             None => Ok(Outcome::WrongUse),

@@ -2,7 +2,8 @@
 
 /// The file ends where a number, string bytes or a data region are due.
 pub const SHORT: u8 = 1;
-/// A v64 is not in shortest coding.
+/// A v64 was not in shortest coding. Every coding of at most nine bytes is
+/// taken, so no file can break this; the number is never given.
 pub const PADDED: u8 = 2;
 /// A bound is passed.
 pub const LIMIT: u8 = 3;

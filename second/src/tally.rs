@@ -108,8 +108,7 @@ fn features(ledger: &Ledger<'_>) -> Vec<String> {
     has(
         "maps that have keys",
         kinds().any(|(kind, chunk)| {
-            let full = ledger.part(chunk).iter().any(|&byte| byte != 0);
-            matches!(kind, Kind::Map(_)) && full
+            matches!(kind, Kind::Map(_)) && begins_above_0(ledger.part(chunk))
         }),
     );
     has(
@@ -132,7 +131,20 @@ fn leads(ledger: &Ledger<'_>, kind: Kind, chunk: &Chunk) -> bool {
         form: Form::Single,
         element: Element::Annotation,
     };
-    kind == annotations && ledger.part(chunk).iter().any(|&byte| byte != 0)
+    kind == annotations && begins_above_0(ledger.part(chunk))
+}
+
+/// Whether a chunk that begins with a v64, and goes on with others as long as
+/// they are 0, has one that is not.
+fn begins_above_0(part: &[u8]) -> bool {
+    let mut at = 0;
+    while let Ok((value, next)) = v64::read(part, at) {
+        if value != 0 {
+            return true;
+        }
+        at = next;
+    }
+    false
 }
 
 /// Whether an entry gives a known type with objects a new field.

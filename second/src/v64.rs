@@ -1,58 +1,36 @@
 //! The v64 coding: low seven bits first, a ninth byte with eight bits.
+//!
+//! Every coding of at most nine bytes is read, however many of them are
+//! padding. What is written is the shortest one.
 
-use crate::refusal::{PADDED, SHORT};
-
-/// What can be wrong with a coding by itself.
+/// The bytes end before the coding does. Nothing else can be wrong with one:
+/// the ninth byte is its last, whatever it is.
 #[derive(Clone, Copy, Debug, PartialEq, Eq)]
-pub enum Broken {
-    /// The bytes end before the coding does.
-    Short,
-    /// The coding is not the shortest one of its value.
-    Padded,
-}
-
-impl Broken {
-    /// The refusal number outside of chunks, where the bytes end with the file.
-    pub fn in_file(self) -> u8 {
-        match self {
-            Broken::Short => SHORT,
-            Broken::Padded => PADDED,
-        }
-    }
-}
+pub struct Cut;
 
 /// Reads the coding that begins at `at`; answers its value and where the next
 /// thing begins.
 #[inline]
-pub fn read(bytes: &[u8], at: usize) -> Result<(u64, usize), Broken> {
+pub fn read(bytes: &[u8], at: usize) -> Result<(u64, usize), Cut> {
     match bytes.get(at) {
         // Most numbers of a file are small, so one byte has its own way out.
         Some(&byte) if byte < 0x80 => Ok((u64::from(byte), at + 1)),
         Some(_) => read_long(bytes, at),
-        None => Err(Broken::Short),
+        None => Err(Cut),
     }
 }
 
 /// Reads a coding whose first byte says that another one follows.
-fn read_long(bytes: &[u8], at: usize) -> Result<(u64, usize), Broken> {
+fn read_long(bytes: &[u8], at: usize) -> Result<(u64, usize), Cut> {
     let mut value = 0u64;
     for (index, &byte) in bytes[at..].iter().take(8).enumerate() {
         value |= u64::from(byte & 0x7F) << (7 * index);
         if byte < 0x80 {
-            return shortest(byte, value, at + index + 1);
+            return Ok((value, at + index + 1));
         }
     }
-    let &ninth = bytes.get(at + 8).ok_or(Broken::Short)?;
-    shortest(ninth, value | u64::from(ninth) << 56, at + 9)
-}
-
-/// Takes a coding of two or more bytes only if its last byte is not 00.
-fn shortest(last: u8, value: u64, next: usize) -> Result<(u64, usize), Broken> {
-    if last == 0 {
-        Err(Broken::Padded)
-    } else {
-        Ok((value, next))
-    }
+    let &ninth = bytes.get(at + 8).ok_or(Cut)?;
+    Ok((value | u64::from(ninth) << 56, at + 9))
 }
 
 /// Appends the shortest coding of `value`.

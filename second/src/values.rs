@@ -11,7 +11,7 @@ use crate::kind::{Element, Form, Kind};
 use crate::ledger::{Chunk, Ledger};
 use crate::pools::Pools;
 use crate::refusal::*;
-use crate::v64::{self, Broken};
+use crate::v64::{self, Cut};
 
 /// A refusal at an offset within the chunk.
 struct Fault {
@@ -169,13 +169,10 @@ fn size(part: &[u8], at: usize) -> Result<(u64, usize), Fault> {
     Ok((size, next))
 }
 
-/// Reads a v64 that has to lie within the chunk.
+/// Reads a v64 that has to lie within the chunk, its padding too.
 #[inline]
 fn number(part: &[u8], at: usize) -> Result<(u64, usize), Fault> {
-    v64::read(part, at).map_err(|broken| match broken {
-        Broken::Short => Fault::new(CHUNK, at),
-        Broken::Padded => Fault::new(PADDED, at),
-    })
+    v64::read(part, at).map_err(|Cut| Fault::new(CHUNK, at))
 }
 
 /// A run of v64 numbers that all have to be admitted.

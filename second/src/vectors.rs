@@ -2,11 +2,13 @@
 //!
 //! Each file is computed there with the definitions and must give this
 //! program's answer: the refusal and its place, or the listing. The small files
-//! are built back from their listings as well, and asked for every column.
+//! and those with padded numbers are asked for every column as well, and what
+//! is built from their listings is said: for a file with padding its shortest
+//! spelling.
 
 use std::fmt::Write;
 
-use crate::bounds::{OBJECTS, TABLE};
+use crate::bounds::{FILE, OBJECTS, TABLE};
 use crate::generate::{self, notation, sentences, Case};
 use crate::reader;
 use crate::Refusal;
@@ -51,7 +53,12 @@ pub fn text(part: &str) -> Option<String> {
     let sections = sentences::sections();
     let section = sections.iter().find(|section| section.name == part)?;
     let name = part.to_lowercase();
-    Some(statements(&name, &section.cases, read))
+    let claims = if part == sentences::PADDED {
+        wholly
+    } else {
+        read
+    };
+    Some(statements(&name, &section.cases, claims))
 }
 
 /// A statement for each case, named by what they are and their number.
@@ -101,19 +108,29 @@ fn read(case: &Case) -> Vec<String> {
     }
 }
 
-/// The same, and of an accepted file that it is built back, with every column.
+/// The same, and of an accepted file what is built from its listing, and every
+/// column.
 fn wholly(case: &Case) -> Vec<String> {
     let mut claims = read(case);
     if let Ok(listing) = listing(case) {
-        let file = numbers(&case.bytes);
+        let built = built(&listing);
         claims.push(format!(
-            "(build {} {TABLE} (ascii {}) ≡ done ({file}))",
-            case.bytes.len(),
-            quoted(&listing)
+            "(build {} {TABLE} (ascii {}) ≡ done ({}))",
+            built.len(),
+            quoted(&listing),
+            numbers(&built)
         ));
-        claims.extend(columns(case, &file));
+        claims.extend(columns(case, &numbers(&case.bytes)));
     }
     claims
+}
+
+/// The file of a listing.
+fn built(listing: &[u8]) -> Vec<u8> {
+    let mut out = vec![0; FILE];
+    let answer = crate::build(listing, &mut vec![0; TABLE], &mut out);
+    out.truncate(answer.expect("the listing of an accepted file"));
+    out
 }
 
 /// The listing of a file.

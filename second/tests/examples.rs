@@ -10,6 +10,9 @@ const WEAR: &[u8] = include_bytes!("../../examples/wear.skill");
 const WEAR_LISTING: &[u8] = include_bytes!("../../examples/wear.listing");
 const SLOTS: &[u8] = include_bytes!("../../examples/slots.skill");
 const SLOTS_LISTING: &[u8] = include_bytes!("../../examples/slots.listing");
+const NINE: &[u8] = include_bytes!("../../examples/nine.skill");
+const NINE_LISTING: &[u8] = include_bytes!("../../examples/nine.listing");
+const NINE_SHORT: &[u8] = include_bytes!("../../examples/nine.short.skill");
 
 fn drives(field: &[u8], kind: u64) -> Vec<i64> {
     column(WEAR, b"drive", field, kind).unwrap()
@@ -19,14 +22,53 @@ fn drives(field: &[u8], kind: u64) -> Vec<i64> {
 fn the_files_are_those_made_here() {
     assert_eq!(second::examples::wear(), WEAR);
     assert_eq!(second::examples::slots(), SLOTS);
+    assert_eq!(second::examples::nine(), NINE);
+    assert_eq!(second::examples::nine_short(), NINE_SHORT);
 }
 
 #[test]
 fn listings_and_files_belong_together() {
-    for (file, text) in [(WEAR, WEAR_LISTING), (SLOTS, SLOTS_LISTING)] {
+    let all = [
+        (WEAR, WEAR_LISTING),
+        (SLOTS, SLOTS_LISTING),
+        (NINE_SHORT, NINE_LISTING),
+    ];
+    for (file, text) in all {
         assert_eq!(listing(file).as_deref(), Ok(text));
         assert_eq!(build(text).as_deref(), Ok(file));
     }
+}
+
+/// The listing of the padded file is that of the short one, so the file that
+/// is built from it is the short one.
+#[test]
+fn nine_bytes_for_each_number() {
+    assert_eq!(listing(NINE).as_deref(), Ok(NINE_LISTING));
+    assert_eq!((NINE.len(), NINE_SHORT.len()), (943, 302));
+    for file in [NINE, NINE_SHORT] {
+        assert_eq!(check(file), Ok(()));
+        assert_eq!(objects(file, b"drive"), Ok(10));
+        assert_eq!(objects(file, b"spare"), Ok(2));
+        let wear = column(file, b"drive", b"wear", 11);
+        let expected = vec![127, 256, 402, 311, 128, 0, 300, 255, 129, 1];
+        assert_eq!(wear, Ok(expected));
+        let shelf = column(file, b"drive", b"shelf", 7);
+        assert_eq!(shelf, Ok(vec![5, 5, 5, 5, 5, 5, 6, 6, 6, 6]));
+    }
+    // No number of the padded file has fewer than nine bytes: its columns of
+    // numbers stand nine bytes apart.
+    let ledger = reader::read(NINE).unwrap();
+    let drive = ledger.find_type(b"drive").unwrap();
+    for name in [&b"serial"[..], b"wear"] {
+        let field = ledger.find_field(drive, name).unwrap();
+        let chunks = ledger.chunks.iter().filter(|chunk| chunk.field == field);
+        for chunk in chunks {
+            assert_eq!(ledger.part(chunk).len() as u64, 9 * chunk.values);
+        }
+    }
+    // The first wear of 256: its two bytes, then padding.
+    let wear = common::bytes("80 82 80*6 00");
+    assert_eq!(NINE.windows(9).filter(|nine| **nine == wear).count(), 1);
 }
 
 #[test]

@@ -87,7 +87,8 @@ fn rooms_of_listing_and_build() {
         rooms(&text, 0xA5, &|out| {
             second::listing(file, &mut vec![1; TABLE], out)
         });
-        rooms(file, 0xA5, &|out| {
+        let built = common::build(&text).expect("a listing");
+        rooms(&built, 0xA5, &|out| {
             second::build(&text, &mut vec![1; TABLE], out)
         });
     }

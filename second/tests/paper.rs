@@ -3,8 +3,9 @@
 mod common;
 
 use common::{build, bytes, check, column, listing, number, objects};
+use second::generate::spelling::padded;
 use second::generate::LISTING_E;
-use second::v64::{self, Broken};
+use second::v64::{self, Cut};
 
 /// The paper's table of codings, with the numbers as unsigned ones.
 fn codings() -> Vec<(u64, Vec<u8>)> {
@@ -32,10 +33,29 @@ fn the_eleven_codings_both_ways() {
 }
 
 #[test]
-fn the_two_padded_codings_are_refused() {
-    assert_eq!(v64::read(&bytes("80 00"), 0), Err(Broken::Padded));
-    assert_eq!(v64::read(&bytes("80*8 00"), 0), Err(Broken::Padded));
-    assert_eq!(v64::read(&bytes("80*8"), 0), Err(Broken::Short));
+fn the_two_padded_codings_are_read_as_0() {
+    assert_eq!(v64::read(&bytes("80 00"), 0), Ok((0, 2)));
+    assert_eq!(v64::read(&bytes("80*8 00"), 0), Ok((0, 9)));
+    assert_eq!(v64::read(&bytes("80*8"), 0), Err(Cut));
+}
+
+/// Every number has a coding of each length from its shortest to nine bytes,
+/// and no byte behind the ninth is one of it.
+#[test]
+fn every_length_of_a_number_is_read() {
+    for (value, coded) in codings() {
+        for padding in 0..=8 {
+            let mut longer = padded(value, padding);
+            let length = longer.len();
+            assert_eq!(length, (coded.len() + padding).min(9));
+            assert_eq!(v64::read(&longer, 0), Ok((value, length)));
+            for cut in 0..length {
+                assert_eq!(v64::read(&longer[..cut], 0), Err(Cut));
+            }
+            longer.push(0x01);
+            assert_eq!(v64::read(&longer, 0), Ok((value, length)));
+        }
+    }
 }
 
 #[test]
@@ -45,7 +65,7 @@ fn every_length_of_a_coding_comes_back() {
             let coded = v64::coded(value);
             assert_eq!(v64::read(&coded, 0), Ok((value, coded.len())));
             for cut in 0..coded.len() {
-                assert_eq!(v64::read(&coded[..cut], 0), Err(Broken::Short));
+                assert_eq!(v64::read(&coded[..cut], 0), Err(Cut));
             }
         }
     }

@@ -3,10 +3,12 @@
 //! It keeps one list of all entries read so far and works everything out from
 //! it whenever it is asked: which types there are, their fields, their
 //! objects. Values are read one by one and byte by byte. No ranges are merged,
-//! no names numbered, no runs skipped.
+//! no names numbered, no runs skipped. It notes every v64 that it reads, so
+//! that a file can be written again with each of them in other bytes.
 
 mod common;
 
+use common::{build, listing};
 use second::generate::{self, FILES, SEED};
 use second::Refusal;
 
@@ -38,37 +40,57 @@ struct Plain {
     entries: Vec<Entry>,
 }
 
-/// A v64 in `file[..end]`; the byte missing and the padded coding have numbers
-/// of the caller's.
-fn v64(file: &[u8], at: &mut usize, end: usize, short: u8) -> Result<(u64, usize), Wrong> {
-    let place = *at;
+/// Where reading stands, and every v64 before that.
+#[derive(Default)]
+struct At {
+    now: usize,
+    numbers: Vec<Number>,
+    /// Which of them are the end offsets of the block that is read.
+    ends: Vec<usize>,
+}
+
+/// A v64 of the file.
+struct Number {
+    place: usize,
+    past: usize,
+    value: u64,
+    /// Where the region of an end offset begins, once that is known.
+    region: Option<usize>,
+}
+
+/// A v64 in `file[..end]`; a missing byte has a number of the caller's.
+fn v64(file: &[u8], at: &mut At, end: usize, short: u8) -> Result<(u64, usize), Wrong> {
+    let place = at.now;
     let mut value = 0u64;
     for index in 0..9 {
-        if *at >= end {
+        if at.now >= end {
             return Err((short, place));
         }
-        let byte = file[*at];
-        *at += 1;
+        let byte = file[at.now];
+        at.now += 1;
         let (bits, last) = match index {
             8 => (byte, true),
             _ => (byte & 0x7F, byte & 0x80 == 0),
         };
         value |= u64::from(bits) << (7 * index);
         if last {
-            return match (index, byte) {
-                (1.., 0) => Err((2, place)),
-                _ => Ok((value, place)),
-            };
+            break;
         }
     }
-    unreachable!("the ninth byte is the last")
+    at.numbers.push(Number {
+        place,
+        past: at.now,
+        value,
+        region: None,
+    });
+    Ok((value, place))
 }
 
-fn skip(at: &mut usize, end: usize, width: usize, short: u8) -> Result<(), Wrong> {
-    if end - *at < width {
-        return Err((short, *at));
+fn skip(at: &mut At, end: usize, width: usize, short: u8) -> Result<(), Wrong> {
+    if end - at.now < width {
+        return Err((short, at.now));
     }
-    *at += width;
+    at.now += width;
     Ok(())
 }
 
@@ -149,31 +171,35 @@ impl Plain {
 }
 
 fn read(file: &[u8]) -> Result<(), Wrong> {
+    read_on(file, &mut At::default())
+}
+
+/// Reads a file from its start; what was read stands in `at` afterwards.
+fn read_on(file: &[u8], at: &mut At) -> Result<(), Wrong> {
     if file.len() > 1_048_576 {
         return Err((3, 0));
     }
     let mut plain = Plain::default();
-    let mut at = 0;
     let mut block = 0;
-    while at < file.len() {
+    while at.now < file.len() {
         if block == 32 {
-            return Err((3, at));
+            return Err((3, at.now));
         }
-        strings(&mut plain, file, &mut at)?;
-        types(&mut plain, file, &mut at, block)?;
+        strings(&mut plain, file, at)?;
+        types(&mut plain, file, at, block)?;
         block += 1;
     }
     Ok(())
 }
 
-fn strings(plain: &mut Plain, file: &[u8], at: &mut usize) -> Result<(), Wrong> {
+fn strings(plain: &mut Plain, file: &[u8], at: &mut At) -> Result<(), Wrong> {
     let (count, place) = v64(file, at, file.len(), 1)?;
     if plain.strings.len() as u128 + u128::from(count) > 1_024 {
         return Err((3, place));
     }
     let mut ends = vec![0];
     for _ in 0..count {
-        let place = *at;
+        let place = at.now;
         skip(at, file.len(), 4, 1)?;
         let end = u32::from_be_bytes(file[place..place + 4].try_into().unwrap()) as usize;
         if end < *ends.last().unwrap() {
@@ -181,7 +207,7 @@ fn strings(plain: &mut Plain, file: &[u8], at: &mut usize) -> Result<(), Wrong> 
         }
         ends.push(end);
     }
-    let bytes = *at;
+    let bytes = at.now;
     skip(at, file.len(), *ends.last().unwrap(), 1)?;
     for pair in ends.windows(2) {
         plain
@@ -194,7 +220,7 @@ fn strings(plain: &mut Plain, file: &[u8], at: &mut usize) -> Result<(), Wrong> 
 /// A chunk to be read: kind, number of values, end offset.
 type Chunk = (Vec<u64>, u64, u64);
 
-fn types(plain: &mut Plain, file: &[u8], at: &mut usize, block: usize) -> Result<(), Wrong> {
+fn types(plain: &mut Plain, file: &[u8], at: &mut At, block: usize) -> Result<(), Wrong> {
     let mut chunks: Vec<Chunk> = Vec::new();
     let mut kinds: Vec<(u64, usize)> = Vec::new();
     let (entries, place) = v64(file, at, file.len(), 1)?;
@@ -204,10 +230,13 @@ fn types(plain: &mut Plain, file: &[u8], at: &mut usize, block: usize) -> Result
     for _ in 0..entries {
         entry(plain, file, at, block, &mut chunks, &mut kinds)?;
     }
-    let region = *at;
+    let region = at.now;
     let length = chunks.last().map_or(0, |chunk| chunk.2);
     if length > (file.len() - region) as u64 {
         return Err((1, region));
+    }
+    for end in at.ends.drain(..) {
+        at.numbers[end].region = Some(region);
     }
     for (kind, place) in kinds {
         if kind - 32 >= plain.types().len() as u64 {
@@ -219,8 +248,8 @@ fn types(plain: &mut Plain, file: &[u8], at: &mut usize, block: usize) -> Result
         for _ in 0..values {
             value(plain, file, at, end, &kind)?;
         }
-        if *at < end {
-            return Err((12, *at));
+        if at.now < end {
+            return Err((12, at.now));
         }
     }
     Ok(())
@@ -229,7 +258,7 @@ fn types(plain: &mut Plain, file: &[u8], at: &mut usize, block: usize) -> Result
 fn entry(
     plain: &mut Plain,
     file: &[u8],
-    at: &mut usize,
+    at: &mut At,
     block: usize,
     chunks: &mut Vec<Chunk>,
     kinds: &mut Vec<(u64, usize)>,
@@ -315,6 +344,7 @@ fn entry(
             (field.kind, plain.objects(&name))
         };
         let (end, place) = v64(file, at, file.len(), 1)?;
+        at.ends.push(at.numbers.len() - 1);
         if chunks.last().is_some_and(|chunk| end < chunk.2) {
             return Err((4, place));
         }
@@ -323,7 +353,7 @@ fn entry(
     Ok(())
 }
 
-fn restrictions(file: &[u8], at: &mut usize) -> Result<(), Wrong> {
+fn restrictions(file: &[u8], at: &mut At) -> Result<(), Wrong> {
     match v64(file, at, file.len(), 1)? {
         (0, _) => Ok(()),
         (_, place) => Err((9, place)),
@@ -333,7 +363,7 @@ fn restrictions(file: &[u8], at: &mut usize) -> Result<(), Wrong> {
 fn new_field(
     plain: &Plain,
     file: &[u8],
-    at: &mut usize,
+    at: &mut At,
     owner: &[u8],
     kinds: &mut Vec<(u64, usize)>,
 ) -> Result<Field, Wrong> {
@@ -385,13 +415,7 @@ fn new_field(
     })
 }
 
-fn value(
-    plain: &Plain,
-    file: &[u8],
-    at: &mut usize,
-    end: usize,
-    kind: &[u64],
-) -> Result<(), Wrong> {
+fn value(plain: &Plain, file: &[u8], at: &mut At, end: usize, kind: &[u64]) -> Result<(), Wrong> {
     match *kind {
         [0..=4] => Ok(()),
         [15, length, element] => {
@@ -418,7 +442,7 @@ fn value(
 
 /// A map, by a list of how many keys are still due in it and in the maps
 /// within it that are begun.
-fn map(plain: &Plain, file: &[u8], at: &mut usize, end: usize, types: &[u64]) -> Result<(), Wrong> {
+fn map(plain: &Plain, file: &[u8], at: &mut At, end: usize, types: &[u64]) -> Result<(), Wrong> {
     let mut due = Vec::new();
     loop {
         // A size stands at the beginning, and behind a key with two types left.
@@ -446,7 +470,7 @@ fn map(plain: &Plain, file: &[u8], at: &mut usize, end: usize, types: &[u64]) ->
     }
 }
 
-fn one(plain: &Plain, file: &[u8], at: &mut usize, end: usize, kind: u64) -> Result<(), Wrong> {
+fn one(plain: &Plain, file: &[u8], at: &mut At, end: usize, kind: u64) -> Result<(), Wrong> {
     match kind {
         5 => {
             let (name, place) = v64(file, at, end, 12)?;
@@ -457,7 +481,7 @@ fn one(plain: &Plain, file: &[u8], at: &mut usize, end: usize, kind: u64) -> Res
             }
         }
         6 => {
-            let place = *at;
+            let place = at.now;
             skip(at, end, 1, 12)?;
             match file[place] {
                 0x00 | 0xFF => Ok(()),
@@ -484,6 +508,47 @@ fn one(plain: &Plain, file: &[u8], at: &mut usize, end: usize, kind: u64) -> Res
     }
 }
 
+/// The bytes of a number: as few as it needs, and so much padding behind them.
+fn coded(value: u64, padding: usize) -> Vec<u8> {
+    let least = (1..9)
+        .find(|&length| value >> (7 * length) == 0)
+        .unwrap_or(9);
+    let length = (least + padding).min(9);
+    let byte = |index: usize| match index + 1 {
+        9 => (value >> 56) as u8,
+        at if at == length => (value >> (7 * index)) as u8,
+        _ => (value >> (7 * index)) as u8 | 0x80,
+    };
+    (0..length).map(byte).collect()
+}
+
+/// The file with so much padding in the numbers that were read, by their place
+/// among them, and with end offsets of the chunks as they then are.
+fn spelt(file: &[u8], numbers: &[Number], padding: impl Fn(usize) -> usize) -> Vec<u8> {
+    // How much longer the file is, up to each of its numbers.
+    let mut longer = vec![0];
+    for (index, number) in numbers.iter().enumerate() {
+        let length = coded(number.value, padding(index)).len() as i64;
+        longer.push(longer[index] + length - (number.past - number.place) as i64);
+    }
+    let longer_at = |place: usize| longer[numbers.partition_point(|number| number.place < place)];
+    let mut out = Vec::new();
+    let mut at = 0;
+    for (index, number) in numbers.iter().enumerate() {
+        out.extend_from_slice(&file[at..number.place]);
+        let more = number.region.map_or(0, |region| {
+            longer_at(region + number.value as usize) - longer_at(region)
+        });
+        out.extend(coded(
+            number.value.wrapping_add_signed(more),
+            padding(index),
+        ));
+        at = number.past;
+    }
+    out.extend_from_slice(&file[at..]);
+    out
+}
+
 #[test]
 fn both_readers_agree_on_number_and_place() {
     for seed in [SEED, 11] {
@@ -506,4 +571,54 @@ fn the_slow_reader_gives_the_answers_of_the_rules() {
         }
     }
     assert_eq!(read(&common::bytes("E")), Ok(()));
+}
+
+/// The number of a refusal, 0 for none, and every v64 that was read.
+fn answered(file: &[u8]) -> (u8, Vec<Number>) {
+    let mut at = At::default();
+    let answer = read_on(file, &mut at);
+    (answer.err().map_or(0, |(number, _)| number), at.numbers)
+}
+
+/// Building from the listing of an accepted file gives the file with the same
+/// contents in shortest coding, end offsets worked out again.
+#[test]
+fn the_file_of_a_listing_is_the_shortest() {
+    let (mut same, mut shorter) = (0, 0);
+    for case in generate::files(SEED, FILES) {
+        if let (0, numbers) = answered(&case.bytes) {
+            let shortest = spelt(&case.bytes, &numbers, |_| 0);
+            let text = listing(&case.bytes).expect("an accepted file");
+            assert_eq!(build(&text), Ok(shortest.clone()), "{}", case.label);
+            match shortest == case.bytes {
+                true => same += 1,
+                false => shorter += 1,
+            }
+        }
+    }
+    assert!(same > 3_000 && shorter > 1_000, "{same} and {shorter}");
+}
+
+/// A number in other bytes is the same number: neither an accepted file nor a
+/// refused one has another answer, without any padding or with some in any of
+/// the numbers that were read.
+#[test]
+fn padding_changes_no_answer() {
+    let mut changed = 0;
+    for case in generate::files(SEED, FILES) {
+        // The bound of a file is the only rule that padding can break.
+        if case.bytes.len() > 100_000 {
+            continue;
+        }
+        let (answer, numbers) = answered(&case.bytes);
+        let spellings: [fn(usize) -> usize; 4] =
+            [|_| 0, |_| 8, |index| index % 2, |index| index * 7 % 9];
+        for spelling in spellings {
+            let file = spelt(&case.bytes, &numbers, spelling);
+            changed += usize::from(file != case.bytes);
+            assert_eq!(common::number(&file), answer, "{}", case.label);
+            assert_eq!(listing(&file), listing(&case.bytes), "{}", case.label);
+        }
+    }
+    assert!(changed > 40_000, "only {changed} spellings were others");
 }

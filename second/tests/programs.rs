@@ -34,6 +34,17 @@ fn print_and_build_of_e() {
     assert_eq!(run(&["program-build"], b""), (0, Vec::new()));
 }
 
+/// Padding is not shown, and what is built has none.
+#[test]
+fn print_of_padded_numbers() {
+    let padded = bytes("8000 80*8 00");
+    assert_eq!(
+        run(&["program-print"], &padded),
+        (0, b"pair\t0\t0\n".to_vec())
+    );
+    assert_eq!(run(&["program-build"], b"pair\t0\t0\n"), (0, vec![0, 0]));
+}
+
 /// The example with annotations and maps, as it is made and as it is listed.
 #[test]
 fn print_and_build_of_the_slots() {
@@ -44,10 +55,22 @@ fn print_and_build_of_the_slots() {
     assert_eq!(run(&["program-build"], listing), (0, slots.to_vec()));
 }
 
+/// The example with numbers of nine bytes: listed, and built shorter.
+#[test]
+fn print_and_build_of_nine_bytes() {
+    let nine = include_bytes!("../../examples/nine.skill");
+    let listing = include_bytes!("../../examples/nine.listing");
+    let short = include_bytes!("../../examples/nine.short.skill");
+    assert_eq!(run(&["example-nine"], b""), (0, nine.to_vec()));
+    assert_eq!(run(&["program-print"], nine), (0, listing.to_vec()));
+    assert_eq!(run(&["program-build"], listing), (0, short.to_vec()));
+}
+
 #[test]
 fn refusals_of_the_programs() {
     let refused = |number: u8| (1, format!("refused\t{number}\n").into_bytes());
-    assert_eq!(run(&["program-print"], &bytes("80 00")), refused(2));
+    assert_eq!(run(&["program-print"], &bytes("80 00")), refused(1));
+    assert_eq!(run(&["program-print"], &bytes("8000 01 8100")), refused(5));
     assert_eq!(run(&["program-print"], &bytes("E 00 01 07")), refused(5));
     assert_eq!(run(&["program-build"], b"pair\t0\t0"), refused(20));
 }

@@ -7,10 +7,11 @@ use second::questions;
 #[test]
 fn questions_meet_every_answer() {
     let text = questions::text();
-    for refusal in [2, 15, 16, 17, 18, 19, 20] {
+    for refusal in [1, 15, 16, 17, 18, 19, 20] {
         let answer = format!("≡ refused {refusal})");
         assert!(text.contains(&answer), "no question has {answer}");
     }
+    assert!(!text.contains("refused 2)"), "2 is never given");
     for call in ["check", "objects", "column", "listing", "build"] {
         let asked = text.lines().any(|line| {
             line.trim_start().starts_with(&format!("({call} ")) && line.contains("≡ done ")

@@ -48,7 +48,7 @@ text-too-long t b h = go (fileOf t) refl
     go : (o : Option (List ℕ)) → fileOf t ≡ o → o ≡ none
     go none is = refl
     go (some f) is =
-        let (l, a, p) = forth t f b is in
+        let (l, a, p, _) = forth t f b is in
         let s : length (print l) < 4294967296 = print-short l (accepted-exactly f l .0 a .0) in
         let q : length (print l) ≡ length t = ap length p in
         absurd (omega arith)

@@ -10,7 +10,9 @@ use Rattle.paper.specs.Numbers.{put}
 use Rattle.paper.specs.Lists.{flat}
 use Rattle.paper.specs.Ledger.{Entry, Chunk, Pair, Due, State}
 use Rattle.paper.specs.Rules.{withStrings, dues, closed, afterFront, afterPair}
-use Rattle.paper.specs.Encode.{putStrings, putEntries, putChunks, putFront, putPair, zip}
+use Rattle.paper.specs.Pieces.{endsFrom, zip}
+use Rattle.paper.specs.Encode.{putChunks, putPair}
+use Rattle.laws.specs.Put.{putStrings, putEntries, put-front}
 use Rattle.paper.specs.Scan.{pairText}
 use Rattle.lay.specs.Laid.{most, Laid, laid-as, laid-over}
 use Rattle.laws.specs.Laws.{not-got}
@@ -163,8 +165,7 @@ module _ {t l : List ℕ} {at : ℕ} {s : State} (S : Spelt s) {m from to : ℕ}
       pub front-laid :
           {out o : List ℕ} {p r : ℕ} → Laid out p (putStrings ss ++ put m ++ putEntries (withStrings s ss) es (endsOf 0 (map (λ (d : Due × ℕ). d .1) (duesOf l₂)))) o r
           → Laid out p (frontBytes s pair) o r
-      unfolding putFront
-      front-laid a = laid-as a (rw (F .many, sizes-are, ends-of 0 bs) refl)
+      front-laid a = laid-as a (rw (put-front, F .many, sizes-are, ends-of 0 bs) refl)
 
       -- the values, laid before it
       pub region-laid : {o₁ o₂ : List ℕ} {p₁ : ℕ} {k : Taken} → RegionLaid t l₁ to o₁ p₁ o₂ k l₂ → Laid o₁ p₁ (valueBytes s pair) o₂ (k .at)

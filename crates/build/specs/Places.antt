@@ -10,7 +10,8 @@ use Rattle.paper.specs.Bounds.{mostPairs}
 use Rattle.paper.specs.Lists.{flat}
 use Rattle.paper.specs.Ledger.{Pair, State, nothing}
 use Rattle.paper.specs.Rules.{withStrings, dues, afterFront, afterPair}
-use Rattle.paper.specs.Encode.{endsFrom, putChunks, putFront, putPair}
+use Rattle.paper.specs.Pieces.{endsFrom}
+use Rattle.paper.specs.Encode.{putChunks, putFront, putPair}
 use Rattle.paper.specs.Scan.{pairText}
 use Rattle.lay.specs.Laid.{most}
 

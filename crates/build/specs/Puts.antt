@@ -12,7 +12,7 @@ use Rattle.paper.specs.Lists.{flat, all}
 use Rattle.paper.specs.Ledger.{Entry, Due, State}
 use Rattle.paper.specs.Rules.{afterEntry, dues}
 use Rattle.paper.specs.Listing.{hex}
-use Rattle.paper.specs.Encode.{putStrings, putEntries}
+use Rattle.laws.specs.Put.{putStrings, putEntries}
 use Rattle.paper.specs.Keeps.{bytes?}
 use Rattle.paper.specs.Scan.{entryText}
 use Rattle.lay.specs.Laid.{most, Laid, laid-then}

@@ -9,7 +9,8 @@ use Rattle.paper.specs.Reader.{Reader, Out, got, no, andThen, _>>=_, _>>_, give
 use Rattle.paper.specs.Ledger.{Kind, Element, New, Head, Entry, Chunk, Due, State, fieldAt}
 use Rattle.paper.specs.Rules.{typeOf, afterHead, knownDue, fieldCountRules, afterNew, afterEntry}
 use Rattle.paper.specs.Listing.{oldLine}
-use Rattle.paper.specs.Encode.{putValue, putChunk, putChunks}
+use Rattle.paper.specs.Pieces.{chunkPieces}
+use Rattle.paper.specs.Encode.{putChunk, putChunks}
 use Rattle.paper.specs.Keeps.{number?, hold?, head?, new-field?, value?}
 use Rattle.paper.specs.Scan.{heed, literal, readType, readNew, readLine, newText, entryText, valueText, chunkText}
 use Rattle.laws.specs.Hexed.{hexed, Spelt, head-hexed, knownDue-hexed, typeOf-hexed, afterHead-hexed, fieldCountRules-hexed, new-field-hexed, afterNew-hexed, afterEntry-hexed, spelt-head, spelt-new, spelt-entry, fieldAt-hexed, value-hexed}
@@ -88,7 +89,7 @@ chunkText-hexed s S = fun-ext λ d.
     (ap (λ (ok : List Element → Bool). repeat (d .values) (readLine (fieldAt s (d .field) .kind) >>= λ v. heed (ok v) >> give v)) (fun-ext (value-hexed s S (fieldAt s (d .field) .kind))))
 
 pub putChunks-hexed : (s : State) (ds : List Due) (cs : List Chunk) → putChunks (hexed s) ds cs ≡ putChunks s ds cs
-unfolding putChunks putChunk
+unfolding putChunks putChunk chunkPieces
 putChunks-hexed s [] cs = refl
 putChunks-hexed s (d ∷ ds) [] = refl
 putChunks-hexed s (d ∷ ds) (c ∷ cs) = rw (fieldAt-hexed s (d .field), putChunks-hexed s ds cs)

@@ -13,7 +13,7 @@ use Rattle.laws.specs.Says.{Bytes}
 use Rattle.paper.specs.Listing.{print}
 use Rattle.laws.specs.Columns.{bind-done}
 use Rattle.laws.specs.Promises.{fitted-inv}
-use Rattle.laws.specs.Answers.{check-refusals, objects-refusals, column-refusals, listing-refusals, build-refusals, objects-most, column-most, build-most}
+use Rattle.laws.specs.Answers.{Refusal, check-refusals, objects-refusals, column-refusals, listing-refusals, build-refusals, objects-most, column-most, build-most}
 use Rattle.calls.specs.Told.{answerOf, after}
 use Rattle.calls.specs.declared.replies.Reply.{Reply}
 
@@ -92,7 +92,7 @@ as-coded {A} r {left = left} is says plain =
       output-is = ap (λ (x : Left A). x .output) says;
     }
 
-plain-refusal : (n : ℕ) → (1 ≤ n) × (n ≤ 21) → Plain (refused n)
+plain-refusal : (n : ℕ) → Refusal n → Plain (refused n)
 unfolding Small Numbered
 plain-refusal n h = record { small = omega (arith, h .1); numbered = h .0 }
 

@@ -10,7 +10,7 @@ use borrow.Author.Tests.{le-leb, lt-leb}
 use Rattle.paper.specs.Reader.{if_then_else_}
 use Rattle.paper.specs.Bounds.{tableLength}
 use Rattle.paper.specs.Calls.{Answer, done, refused, Left, cleared, writes, tells, afterCheck, afterObjects, afterColumn, afterListing, afterBuild}
-use Rattle.laws.specs.Answers.{check-refusals, objects-refusals, column-refusals, listing-refusals, build-refusals}
+use Rattle.laws.specs.Answers.{Refusal, check-refusals, objects-refusals, column-refusals, listing-refusals, build-refusals}
 use Rattle.calls.specs.Told.{answerOf, after}
 use Rattle.calls.specs.Fixed.{one-way}
 use Rattle.calls.specs.declared.replies.Reply.{Reply}
@@ -47,27 +47,27 @@ module _ {r q : Reply} {w v : List ℕ} where
   pub one-build : (t work out : List ℕ) {o p : List ℕ} → after r w o ≡ afterBuild t work out → after q v p ≡ afterBuild t work out → (r ≡ q) × (w ≡ v) × (o ≡ p)
   one-build t work out a b = one-way a b
 
--- ── a refusal is one of the paper's numbers ──
+-- ── a refusal is one of the paper's numbers, and never 2 ──
 
 module _ (n : ℕ) {w : List ℕ} where
-  pub check-refusal : (f work : List ℕ) → after (Refused n) w [] ≡ afterCheck f work → (1 ≤ n) × (n ≤ 21)
+  pub check-refusal : (f work : List ℕ) → after (Refused n) w [] ≡ afterCheck f work → Refusal n
   unfolding afterCheck answerOf
   check-refusal f work c = check-refusals (length work) f n (sym (tells-answer _ work (Refused n) c))
 
-  pub objects-refusal : (f type work : List ℕ) → after (Refused n) w [] ≡ afterObjects f type work → (1 ≤ n) × (n ≤ 21)
+  pub objects-refusal : (f type work : List ℕ) → after (Refused n) w [] ≡ afterObjects f type work → Refusal n
   unfolding afterObjects answerOf
   objects-refusal f type work c = objects-refusals type (length work) f n (sym (tells-answer _ work (Refused n) c))
 
   pub column-refusal :
-      (f type field : List ℕ) (k : ℕ) (work : List ℕ) (out : List ℤ) {o : List ℤ} → after (Refused n) w o ≡ afterColumn f type field k work out → (1 ≤ n) × (n ≤ 21)
+      (f type field : List ℕ) (k : ℕ) (work : List ℕ) (out : List ℤ) {o : List ℤ} → after (Refused n) w o ≡ afterColumn f type field k work out → Refusal n
   unfolding afterColumn
   column-refusal f type field k work out c = column-refusals type field k (length out) (length work) f n (was-refused _ work out (Refused n) c n refl .0)
 
-  pub listing-refusal : (f work out : List ℕ) {o : List ℕ} → after (Refused n) w o ≡ afterListing f work out → (1 ≤ n) × (n ≤ 21)
+  pub listing-refusal : (f work out : List ℕ) {o : List ℕ} → after (Refused n) w o ≡ afterListing f work out → Refusal n
   unfolding afterListing
   listing-refusal f work out c = listing-refusals (length out) (length work) f n (was-refused _ work out (Refused n) c n refl .0)
 
-  pub build-refusal : (t work out : List ℕ) {o : List ℕ} → after (Refused n) w o ≡ afterBuild t work out → (1 ≤ n) × (n ≤ 21)
+  pub build-refusal : (t work out : List ℕ) {o : List ℕ} → after (Refused n) w o ≡ afterBuild t work out → Refusal n
   unfolding afterBuild
   build-refusal t work out c = build-refusals (length out) (length work) t n (was-refused _ work out (Refused n) c n refl .0)
 

@@ -11,17 +11,20 @@ use lib.IntN.{ℤ}
 use lib.ListN.{length, drop}
 use borrow.Author.Tests.{leb-true, le-leb, eqb-true, eq-eqb}
 use Rattle.paper.specs.Reader.{Out, got, no}
-use Rattle.paper.specs.Bounds.{tableLength}
+use Rattle.paper.specs.Bounds.{mostBytes, tableLength}
 use Rattle.paper.specs.Ledger.{Ledger, typeNamed, fieldNamed, fieldAt, objectsOf}
 use Rattle.paper.specs.Encode.{encode}
+use Rattle.paper.specs.Spell.{Spells}
 use Rattle.paper.specs.Keeps.{keeps?}
 use Rattle.paper.specs.Calls.{Answer, done, refused, need, found, answered, read, check, known, objects, columnOf, asked, ask, column, afterCheck, afterObjects, afterColumn, _>>=_, _>>_}
 use Rattle.laws.specs.Says.{Bytes}
 use Rattle.laws.specs.Bools.{and-split, and-join}
-use Rattle.laws.specs.Exact.{file-kept, encode-bytes}
+use Rattle.laws.specs.Longer.{file-length}
+use Rattle.laws.specs.Shortest.{encode-short}
+use Rattle.laws.specs.Exact.{file-kept}
 use Rattle.laws.specs.Columns.{bind-done, then-done, found-done, answered-done}
 use Rattle.laws.specs.Lengths.{column-length}
-use Rattle.laws.specs.Promises.{Accepted, accepted-exactly, check-exactly, need-inv}
+use Rattle.laws.specs.Promises.{Accepted, accepted-exactly, encode-accepted, says-one, check-exactly, need-inv}
 use Rattle.calls.specs.Told.{answerOf, after, ask-done}
 use Rattle.calls.specs.declared.replies.Reply.{Reply}
 use Rattle.calls.specs.declared.replies.Reply.the-variants.{Done, Refused}
@@ -29,10 +32,29 @@ use Rattle.demands.specs.Replies.{said-done, says-done, tells-answer, wr
 
 -- ── accepted ──
 
--- the file follows the rules, and l is what it says: l keeps the rules, which read nothing, and the file is its encoding
+-- the file follows the rules, and l is what it says: l keeps the rules and the file spells it, of which neither reads anything, and the
+-- file is not too long
 pub record Follows (f : List ℕ) (l : Ledger) : Type 0 where
   pub keeps : keeps? l ≡ true
-  pub encoded : f ≡ encode l
+  pub spells : Spells f l
+  pub short : length f ≤ mostBytes
+
+pub accepted-follows : {f : List ℕ} {l : Ledger} → Accepted f l → Follows f l
+accepted-follows {f} {l} A = let (k, s, n) = accepted-exactly f l .0 A in record { keeps = k; spells = s; short = n }
+
+pub follows-accepted : {f : List ℕ} {l : Ledger} → Follows f l → Accepted f l
+follows-accepted {f} {l} F = accepted-exactly f l .1 (F .keeps, F .spells, F .short)
+
+-- the shortest of the files that say the ledger is one that follows the rules too
+pub shortest-follows : (l : Ledger) → keeps? l ≡ true → Follows (encode l) l
+shortest-follows l k = accepted-follows (encode-accepted l k)
+
+pub shortest : (f : List ℕ) (l : Ledger) → Follows f l → length (encode l) ≤ length f
+shortest f l F = encode-short f l (F .spells)
+
+-- a file says one ledger
+pub follows-one : (f : List ℕ) (l m : Ledger) → Follows f l → Follows f m → l ≡ m
+follows-one f l m F G = says-one f l m (F .keeps) (F .spells) (G .keeps) (G .spells) (F .short)
 
 -- a reply to a check of f: 0 exactly when the file follows the rules
 abbrev pub AcceptsExactly : List ℕ → Reply → Type 0
@@ -43,8 +65,8 @@ unfolding afterCheck
 accepts-exactly f work {r} b h c =
     let E = check-exactly (length work) f h b in
     let A = tells-answer _ work r c in (
-      (λ is. let (l, k, e) = E .0 (sym A ∙ says-done r 0 is) in (l, record { keeps = k; encoded = e })),
-      (λ x. said-done r 0 (A ∙ E .1 (x .0, x .1 .keeps, x .1 .encoded))),
+      (λ is. let (l, k, s, n) = E .0 (sym A ∙ says-done r 0 is) in (l, record { keeps = k; spells = s; short = n })),
+      (λ x. said-done r 0 (A ∙ E .1 (x .0, x .1 .keeps, x .1 .spells, x .1 .short))),
     )
 
 -- ── what is asked for ──
@@ -58,12 +80,12 @@ pub record Asks (l : Ledger) (type field : List ℕ) (k t i : ℕ) : Type 0 wher
 
 module _ (f : List ℕ) (l : Ledger) (F : Follows f l) where
   pub follows-bytes : Bytes f
-  follows-bytes = rw (F .encoded) (encode-bytes l (F .keeps))
+  follows-bytes = follows-accepted F .bytes
 
   -- what an accepted file is read as
   pub follows-read : (table : ℕ) → tableLength ≤ table → read table f ≡ done l
   unfolding read need answered _>>=_ _>>_
-  follows-read table h = rw (le-leb tableLength table h, accepted-exactly f l .1 (F .keeps, F .encoded) .reads)
+  follows-read table h = rw (le-leb tableLength table h, follows-accepted F .reads)
 
   pub follows-check : (table : ℕ) → tableLength ≤ table → check table f ≡ done 0
   unfolding check _>>=_
@@ -106,7 +128,7 @@ column-inv f type field k room table c b q =
       l,
       t,
       i,
-      record { keeps = K .1; encoded = sym (K .0) },
+      record { keeps = K .1; spells = K .0; short = file-length f l e x′ },
       record { typed = found-done _ 16 t y; fielded = found-done _ 17 i z; kind = eqb-true k _ a₁; given = leb-true k 32 a₂ },
       leb-true (objectsOf (known l) t) room n₂,
     )

@@ -16,13 +16,13 @@ use Rattle.calls.specs.Told.{after}
 use Rattle.calls.specs.declared.replies.Reply.{Reply}
 use Rattle.calls.specs.declared.replies.Reply.the-variants.{Done}
 use Rattle.demands.specs.Replies.{written, take-front}
-use Rattle.demands.specs.Exact.{Follows, Asks, column-done, column-objects}
+use Rattle.demands.specs.Exact.{Follows, follows-accepted, Asks, column-done, column-objects}
 
 -- what a file says begins what a longer one says
 follows-longer : (f g : List ℕ) (l m : Ledger) → Follows f l → Follows (f ++ g) m → Begins l m
 follows-longer f g l m F G =
-    file-longer f g l m (length f) (length (f ++ g)) (accepted-exactly f l .1 (F .keeps, F .encoded) .reads)
-    (accepted-exactly (f ++ g) m .1 (G .keeps, G .encoded) .reads)
+    file-longer f g l m (length f) (length (f ++ g)) (follows-accepted F .reads)
+    (follows-accepted G .reads)
 
 -- a type and a field of the shorter file are those of the longer one
 asks-longer : (l m : Ledger) (type field : List ℕ) (k t i : ℕ) → Begins l m → Asks l type field k t i → Asks m type field k t i

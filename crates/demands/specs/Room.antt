@@ -15,7 +15,7 @@ use Rattle.laws.specs.Room.{emptyField?, emptyValues, print-room, empty-few, em
 use Rattle.calls.specs.Told.{after}
 use Rattle.calls.specs.declared.replies.Reply.{Reply}
 use Rattle.calls.specs.declared.replies.Reply.the-variants.{Done}
-use Rattle.demands.specs.Exact.{Follows}
+use Rattle.demands.specs.Exact.{Follows, shortest}
 use Rattle.demands.specs.Trips.{listing-exactly}
 
 -- a reply to a listing with so much room, and the output afterwards: the whole listing
@@ -26,7 +26,7 @@ ListedInRoom f out r o =
 module _ (f work out : List ℕ) {r : Reply} {w o : List ℕ} (h : tableLength ≤ length work) (c : after r w o ≡ afterListing f work out) where
   pub listed-in-room : ListedInRoom f out r o
   listed-in-room l F room =
-      listing-exactly f l work out h (omega (arith, print-room l (F .keeps), ap length (F .encoded))) c F
+      listing-exactly f l work out h (omega (arith, print-room l (F .keeps), shortest f l F)) c F
 
   module _ (l : Ledger) (F : Follows f l) where
     -- 33,553,920 bytes more are enough for every file

@@ -1,4 +1,5 @@
--- The five wrong readers of the paper: each breaks a sentence of demand 2, with D and E as witnesses. Assumes nothing.
+-- The five wrong readers of the paper, and one that turns padded numbers away: each breaks a sentence of demand 2, with D and E as witnesses.
+-- Assumes nothing.
 use mathlib.Core.Path.{_≡_, refl, sym, ap, _∙_}
 use mathlib.Core.Bool.{Bool, true, false}
 use mathlib.Core.List.{List, [], _∷_, _++_}
@@ -19,7 +20,7 @@ use Rattle.calls.specs.declared.replies.Reply.the-variants.{Done, Refused}
 use Rattle.laws.specs.Says.{Bytes}
 use Rattle.laws.specs.Heads.{bytes-back}
 use Rattle.demands.specs.Answers.{some-reply}
-use Rattle.demands.specs.Exact.{Follows, Asks, AcceptsExactly, ColumnExactly, column-exactly, follows-check, follows-bytes}
+use Rattle.demands.specs.Exact.{Follows, accepted-follows, shortest-follows, Asks, AcceptsExactly, ColumnExactly, column-exactly, follows-check, follows-bytes}
 
 -- ── what D and E say: D the first pair, E the second one behind it ──
 
@@ -39,13 +40,34 @@ second =
       chunks = ((whole (pos 256) ∷ []) ∷ []) ∷ [];
     }
 
+D-encoded : D ≡ encode (first ∷ [])
+unfolding all-of-it date first
+D-encoded = refl
+
+E-encoded : E ≡ encode (first ∷ second ∷ [])
+unfolding all-of-it date first second E E-with
+E-encoded = refl
+
 pub D-follows : Follows D (first ∷ [])
 unfolding all-of-it date first
-D-follows = record { keeps = refl; encoded = refl }
+D-follows = rw D-encoded (shortest-follows (first ∷ []) refl)
 
 pub E-follows : Follows E (first ∷ second ∷ [])
-unfolding all-of-it date first second E E-with
-E-follows = record { keeps = refl; encoded = refl }
+unfolding all-of-it date first second
+E-follows = rw E-encoded (shortest-follows (first ∷ second ∷ []) refl)
+
+-- D with every number in nine bytes says what D says
+unfoldable pub nine : ℕ → List ℕ
+nine n = (128 + n) ∷ replicate 7 0x80 ++ 0 ∷ []
+
+unfoldable pub nines : List ℕ
+nines =
+    nine 1 ++ (0 ∷ 0 ∷ 0 ∷ 4 ∷ date) ++ nine 1 ++ nine 1 ++ nine 0 ++ nine 2 ++ nine 0 ++ nine 1 ++ nine 0 ++ nine 11 ++ nine 1 ++ nine 18 ++ nine 1
+    ++ replicate 9 0xFF
+
+pub nines-follow : Follows nines (first ∷ [])
+unfolding all-of-it date first nine nines
+nines-follow = accepted-follows (record { bytes = bytes-back nines refl; reads = refl })
 
 D-asks : Asks (first ∷ []) date date 11 0 0
 unfolding all-of-it date first
@@ -77,7 +99,7 @@ other = record { strings = second .strings; entries = second .entries; chunks = 
 
 other-follows : Follows (encode (first ∷ other ∷ [])) (first ∷ other ∷ [])
 unfolding all-of-it date first second other
-other-follows = record { keeps = refl; encoded = refl }
+other-follows = shortest-follows (first ∷ other ∷ []) refl
 
 other-asks : Asks (first ∷ other ∷ []) date date 11 0 0
 unfolding all-of-it date first second other
@@ -154,6 +176,13 @@ module _ (reply : List ℕ → Reply) (exactly : (f : List ℕ) → Bytes f → 
       let y : _≡_ {A = ℕ} 0 1 = cc z in
       omega arith
 
+  -- one that takes D and not D with its numbers in nine bytes, as the paper once said, refuses what says the same
+  pub refuses-padded : (n : ℕ) → reply nines ≡ Refused n → ⊥
+  refuses-padded n is =
+      let z : Done 0 ≡ Refused n = sym (exactly nines (follows-bytes nines (first ∷ []) nines-follow) .1 (first ∷ [], nines-follow)) ∙ is in
+      let y : _≡_ {A = ℕ} 0 1 = cc z in
+      omega arith
+
   -- one that reads the first pair and pretends for the later ones takes whatever stands behind D
   pub first-pair-checked : ((g : List ℕ) → reply (D ++ g) ≡ reply D) → ⊥
   unfolding E-with
@@ -191,15 +220,15 @@ module _
     pub first-pair-only : ((p : Pair) (ps qs : Ledger) (out : List ℤ) → reply (encode (p ∷ ps)) out ≡ reply (encode (p ∷ qs)) out) → ⊥
     first-pair-only wrong =
         two-is-not-three
-        (ap (λ (f : List ℕ). reply f noughts) (sym (D-follows .encoded)) ∙ D-replied)
-        (wrong first [] (second ∷ []) noughts ∙ ap (λ (f : List ℕ). reply f noughts) (sym (E-follows .encoded)) ∙ E-replied)
+        (ap (λ (f : List ℕ). reply f noughts) (sym D-encoded) ∙ D-replied)
+        (wrong first [] (second ∷ []) noughts ∙ ap (λ (f : List ℕ). reply f noughts) (sym E-encoded) ∙ E-replied)
 
     -- or it reads how many values the later pairs have, and makes these up: then E with another last value has E's column
     pub first-pair-values :
         ((p q q′ : Pair) (out : List ℤ) → q .strings ≡ q′ .strings → q .entries ≡ q′ .entries → left (encode (p ∷ q ∷ [])) out ≡ left (encode (p ∷ q′ ∷ [])) out) → ⊥
     unfolding second other
     first-pair-values wrong =
-        let e = ap (λ (f : List ℕ). left f noughts) (sym (E-follows .encoded)) ∙ E-exactly noughts _ _ (omega arith) (exactly E noughts) .1 in
+        let e = ap (λ (f : List ℕ). left f noughts) (sym E-encoded) ∙ E-exactly noughts _ _ (omega arith) (exactly E noughts) .1 in
         let o = other-exactly noughts _ _ (omega arith) (exactly (encode (first ∷ other ∷ [])) noughts) in
         let z : pos 1 ∷ negsuc 0 ∷ pos 256 ∷ [] ≡ pos 1 ∷ negsuc 0 ∷ pos 257 ∷ [] = sym e ∙ wrong first second other noughts refl refl ∙ o in
         let y : _≡_ {A = ℕ} 256 257 = cc z in

@@ -2,7 +2,7 @@
 ghost use Prim.Native.Nat.{_≤_};
 ghost use lib.ListN.{length};
 ghost use Rattle.demands.specs.Exact.{AcceptsExactly, ColumnExactly};
-ghost use Rattle.demands.specs.Trips.{BuiltAgain, ListedAgain};
+ghost use Rattle.demands.specs.Trips.{BuiltAgain, ListedAgain, ComesBack};
 ghost use Rattle.demands.specs.Room.{ListedInRoom};
 ghost use Rattle.demands.specs.Growth.{Grown};
 ghost use Rattle.demands.specs.Isolation.{Isolated};
@@ -33,7 +33,7 @@ pub fn column_of(
     column(file, owner, name, k, work, out)
 }
 
-// Demand 2: building from an accepted file's listing gives that file again.
+// Demand 2: building from an accepted file's listing gives the same contents in shortest coding.
 pub fn built_again(file: &[u8], work: &mut [u32], text: &mut [u8], out: &mut [u8]) -> Reply
     ensures { λ r. ⌜ (16384 ≤ length (now (work .entry)) → BuiltAgain (now (file .entry)) (now (text .entry)) (now (out .entry)) r (now (out .exit))) ⌝ }
 {
@@ -51,6 +51,23 @@ pub fn listed_again(text: &[u8], work: &mut [u32], file: &mut [u8], out: &mut [u
     let a = build(text, work, file);
     match a {
         Reply::Done(n) => listing(&file[..n as usize], work, out),
+        Reply::Refused(n) => Reply::Refused(n),
+    }
+}
+
+// Demand 2: a built file comes back from its listing as it was.
+pub fn comes_back(
+    text: &[u8],
+    work: &mut [u32],
+    file: &mut [u8],
+    again: &mut [u8],
+    out: &mut [u8],
+) -> Reply
+    ensures { λ r. ⌜ (16384 ≤ length (now (work .entry)) → ComesBack (now (text .entry)) (now (file .entry)) (now (again .entry)) (now (out .entry)) r (now (file .exit)) (now (out .exit))) ⌝ }
+{
+    let a = build(text, work, file);
+    match a {
+        Reply::Done(n) => built_again(&file[..n as usize], work, again, out),
         Reply::Refused(n) => Reply::Refused(n),
     }
 }

@@ -8,7 +8,7 @@ use native.Mathlib.Nat.{min-eq-left, min-eq-right}
 use lib.ListN.{length, getD, drop, drop-of-length-le}
 use lib.Seq.{drop-cons}
 use Rattle.paper.specs.Ledger.{Due}
-use Rattle.paper.specs.Encode.{endsFrom}
+use Rattle.paper.specs.Pieces.{endsFrom}
 use Rattle.table.specs.View.{duesOf, Ok, duesIn}
 use Rattle.table.specs.Answers.{dueIn, noDue}
 use Rattle.table.specs.declared.rows.DueRow.{DueRow}

@@ -19,7 +19,8 @@ use Rattle.paper.specs.Rules.{typeOf, afterHead, knownDue, fieldCountRules, aft
 use Rattle.paper.specs.Listing.{ascii, line, oldLine}
 use Rattle.paper.specs.Keeps.{number?, head?, kindKept?, new-field?}
 use Rattle.paper.specs.Scan.{heed, byteIs, literal, readType, readNew, newText, entryText}
-use Rattle.paper.specs.Encode.{putHead, putNew, zip, putFields, putEntry, putEntries}
+use Rattle.paper.specs.Pieces.{zip}
+use Rattle.laws.specs.Put.{putHead, putNew, putFields, putEntry, putEntries}
 use Rattle.laws.specs.Laws.{not-got, bind-inv, bind-got, then-inv, each-inv}
 use Rattle.laws.specs.Bools.{and-split, number-split}
 use Rattle.values.specs.Filling.{repeat-first, repeat-none}

@@ -16,7 +16,7 @@ use Rattle.paper.specs.Rules.{noted}
 use Rattle.paper.specs.Listing.{ascii, tab, newline, comma}
 use Rattle.paper.specs.Keeps.{kindKept?}
 use Rattle.paper.specs.Scan.{byteIs, literal, ended, natural, integer, readKind, readNew}
-use Rattle.paper.specs.Encode.{putKind, putNew}
+use Rattle.laws.specs.Put.{putKind, putNew}
 use Rattle.laws.specs.Laws.{not-got, bind-inv, then-inv}
 use Rattle.laws.specs.Bools.{not-so}
 use Rattle.laws.specs.Codes.{fixed-length}

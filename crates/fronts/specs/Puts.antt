@@ -12,7 +12,7 @@ use Rattle.paper.specs.Ledger.{New, Head, Entry, State}
 use Rattle.paper.specs.Rules.{afterEntry, dues}
 use Rattle.paper.specs.Listing.{oldLine}
 use Rattle.paper.specs.Scan.{literal, readType, entryText}
-use Rattle.paper.specs.Encode.{putHead, putNew, putEntries}
+use Rattle.laws.specs.Put.{putHead, putNew, putEntries}
 use Rattle.laws.specs.Laws.{not-got, bind-inv, bind-got}
 use Rattle.lay.specs.Laid.{most, Laid, laid-then, laid-as, Leads, leads-start, leads-on, leads-end}
 use Rattle.values.specs.Filling.{repeat-first, repeat-none}

@@ -9,7 +9,7 @@ ghost use Rattle.paper.specs.Reader.{got, times, repeat};
 ghost use Rattle.paper.specs.Ledger.{State, Entry, Due};
 ghost use Rattle.paper.specs.Rules.{afterEntry, dues};
 ghost use Rattle.paper.specs.Scan.{entryText};
-ghost use Rattle.paper.specs.Encode.{putEntries};
+ghost use Rattle.laws.specs.Put.{putEntries};
 ghost use Rattle.lay.specs.Laid.{Laid};
 ghost use Rattle.table.specs.View.{duesOf, Ok};
 ghost use Rattle.fronts.specs.Ends.{sum, endsOf, NextEnd};

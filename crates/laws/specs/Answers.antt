@@ -1,7 +1,7 @@
 -- What the calls answer fits a signed number: a refusal is one of the paper's numbers, a count of objects and the length of a
 -- column are at most 65,535, and what is built has no more bytes than a file may have. Assumes nothing.
 use mathlib.Core.Path.{_≡_, refl, ap}
-use mathlib.Core.Bool.{Bool, true, false, _&&_, _||_}
+use mathlib.Core.Bool.{Bool, true, false, _&&_, _||_, not}
 use mathlib.Core.Logic.{_⊎_, inl, inr}
 use mathlib.Core.List.{List}
 use mathlib.Core.Option.{Option, none, some}
@@ -19,7 +19,7 @@ use Rattle.paper.specs.Encode.{encode}
 use Rattle.paper.specs.Scan.{short, fileOf}
 use Rattle.paper.specs.Calls.{Answer, done, refused, _>>=_, _>>_, need, found, answered, read, known, check, objects, ask, column, fitted, listing, build}
 use Rattle.laws.specs.Says.{Bytes}
-use Rattle.laws.specs.Bools.{and-split, and-join}
+use Rattle.laws.specs.Bools.{and-split, and-join, not-so}
 use Rattle.laws.specs.Exact.{file-kept}
 use Rattle.laws.specs.Columns.{bind-done, then-done, found-done, answered-done}
 use Rattle.laws.specs.Lengths.{column-length}
@@ -30,7 +30,11 @@ use Rattle.laws.specs.Refused.{fileRefusal?, file-refusals}
 -- ── a refusal is one of the paper's numbers ──
 
 abbrev refusal? : ℕ → Bool
-refusal? n = leb 1 n && leb n 21
+refusal? n = not (eqb n 2) && (leb 1 n && leb n 21)
+
+-- 1 to 21, and 2 is not given
+abbrev pub Refusal : ℕ → Type 0
+Refusal n = (1 ≤ n) × (n ≤ 21) × (n ≡ 2 → ⊥)
 
 -- an answer's refusal is one of them
 record Numbered {A : Type 0} (a : Answer A) : Type 0 where
@@ -63,10 +67,13 @@ found-numbered (some a) n h = done-numbered a
 
 file-refusal : (n : ℕ) → fileRefusal? n ≡ true → refusal? n ≡ true
 unfolding fileRefusal?
-file-refusal n h = go (leb 1 n && leb n 14) refl h
+file-refusal n h = go (not (eqb n 2) && (leb 1 n && leb n 14)) refl h
   where
-    go : (b : Bool) → (leb 1 n && leb n 14) ≡ b → (b || eqb n 21) ≡ true → refusal? n ≡ true
-    go true e h = let (x, y) = and-split (leb 1 n) _ e in and-join x (le-leb n 21 (omega (arith, leb-true n 14 y)))
+    go : (b : Bool) → (not (eqb n 2) && (leb 1 n && leb n 14)) ≡ b → (b || eqb n 21) ≡ true → refusal? n ≡ true
+    go true e h =
+        let (z, w) = and-split (not (eqb n 2)) _ e in
+        let (x, y) = and-split (leb 1 n) _ w in
+        and-join z (and-join x (le-leb n 21 (omega (arith, leb-true n 14 y))))
     go false e h = rw (eqb-true n 21 h)
 
 read-numbered : (table : ℕ) (f : List ℕ) → Numbered (read table f)
@@ -80,22 +87,25 @@ read-numbered table f = then-numbered (need-numbered _ 15 refl) (go (file f) ref
 ruleset numbered = (bind-numbered, then-numbered, done-numbered, need-numbered, found-numbered, read-numbered)
 
 module _ {A : Type 0} {a : Answer A} (N : Numbered a) where
-  one-of : (n : ℕ) → a ≡ refused n → (1 ≤ n) × (n ≤ 21)
-  one-of n q = let (x, y) = and-split (leb 1 n) _ (N .is n q) in (leb-true 1 n x, leb-true n 21 y)
+  one-of : (n : ℕ) → a ≡ refused n → Refusal n
+  one-of n q =
+      let (z, w) = and-split (not (eqb n 2)) _ (N .is n q) in
+      let (x, y) = and-split (leb 1 n) _ w in
+      (leb-true 1 n x, leb-true n 21 y, λ e. let u : false ≡ true = rw e at z in not-so u)
 
-pub check-refusals : (table : ℕ) (f : List ℕ) (n : ℕ) → check table f ≡ refused n → (1 ≤ n) × (n ≤ 21)
+pub check-refusals : (table : ℕ) (f : List ℕ) (n : ℕ) → check table f ≡ refused n → Refusal n
 unfolding check
 check-refusals table f = one-of (search numbered)
 
-pub objects-refusals : (type : List ℕ) (table : ℕ) (f : List ℕ) (n : ℕ) → objects type table f ≡ refused n → (1 ≤ n) × (n ≤ 21)
+pub objects-refusals : (type : List ℕ) (table : ℕ) (f : List ℕ) (n : ℕ) → objects type table f ≡ refused n → Refusal n
 unfolding objects
 objects-refusals type table f = one-of (search numbered)
 
-pub column-refusals : (type field : List ℕ) (k room table : ℕ) (f : List ℕ) (n : ℕ) → column type field k room table f ≡ refused n → (1 ≤ n) × (n ≤ 21)
+pub column-refusals : (type field : List ℕ) (k room table : ℕ) (f : List ℕ) (n : ℕ) → column type field k room table f ≡ refused n → Refusal n
 unfolding column ask
 column-refusals type field k room table f = one-of (search numbered depth 9)
 
-pub listing-refusals : (room table : ℕ) (f : List ℕ) (n : ℕ) → listing room table f ≡ refused n → (1 ≤ n) × (n ≤ 21)
+pub listing-refusals : (room table : ℕ) (f : List ℕ) (n : ℕ) → listing room table f ≡ refused n → Refusal n
 unfolding listing fitted
 listing-refusals room table f = one-of (search numbered)
 
@@ -113,13 +123,13 @@ build-refusal room table t n q = go (leb tableLength table) (fileOf t) q
     go true none q = inr (inl (cc q))
     go true (some f) q = inr (inr (room-only (leb (length f) room) f q))
 
-pub build-refusals : (room table : ℕ) (t : List ℕ) (n : ℕ) → build room table t ≡ refused n → (1 ≤ n) × (n ≤ 21)
+pub build-refusals : (room table : ℕ) (t : List ℕ) (n : ℕ) → build room table t ≡ refused n → Refusal n
 build-refusals room table t n q = go (build-refusal room table t n q)
   where
-    go : (n ≡ 15) ⊎ ((n ≡ 20) ⊎ (n ≡ 19)) → (1 ≤ n) × (n ≤ 21)
-    go (inl is) = (omega arith, omega arith)
-    go (inr (inl is)) = (omega arith, omega arith)
-    go (inr (inr is)) = (omega arith, omega arith)
+    go : (n ≡ 15) ⊎ ((n ≡ 20) ⊎ (n ≡ 19)) → Refusal n
+    go (inl is) = (omega arith, omega arith, λ e. omega arith)
+    go (inr (inl is)) = (omega arith, omega arith, λ e. omega arith)
+    go (inr (inr is)) = (omega arith, omega arith, λ e. omega arith)
 
 -- ── and an answer is at most 65,535 ──
 

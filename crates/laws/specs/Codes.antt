@@ -1,4 +1,4 @@
--- A number that is written is read. Assumes nothing.
+-- A number that is written is read, and so is every coding of it. Assumes nothing.
 use mathlib.Core.Path.{_≡_, refl, sym, _∙_, ap, subst}
 use mathlib.Core.Bool.{Bool, true, false, _&&_}
 use mathlib.Core.List.{List, [], _∷_, _++_, append-assoc, append-nil}
@@ -9,9 +9,12 @@ use lib.Dec.{leb, ltb, eqb}
 use lib.ListN.{length, getD, take, drop}
 use borrow.Author.Tests.{leb-true, le-leb, lt-leb, eq-eqb, ltb-true, ltb-false, lt-ltb, le-ltb}
 use Rattle.paper.specs.Reader.{if_then_else_, Reader, Out, got, no, _>>=_, give, must, started, Rule, _orNo_, bytes}
-use Rattle.paper.specs.Numbers.{highFirst, fixed, putFixed, coding, lowFirst, lastIsNot0, shortest, v64, putV64, number}
+use Rattle.paper.specs.Numbers.{highFirst, fixed, putFixed, coding, lowFirst, v64, putV64, number}
+use Rattle.paper.specs.Pieces.{free}
+use Rattle.paper.specs.Spell.{Coding, ninth, last, more}
 use Rattle.laws.specs.Says.{Bytes, Held}
 use Rattle.laws.specs.Takes.{Takes, takes-as, takes-is, give-takes, bind-takes, must-takes, started-takes, if-takes-true, if-takes-false, bytes-takes}
+use Rattle.laws.specs.Spelling.{more′, free-is, Reads, must-reads}
 
 pub fixed-length : (w n : ℕ) → length (putFixed w n) ≡ w
 unfolding putFixed
@@ -57,11 +60,7 @@ low-more : (b : ℕ) (cs : List ℕ) {c : ℕ} {ds : List ℕ} → cs ≡ c ∷ 
 unfolding lowFirst
 low-more b cs q = rw q refl
 
-last-more : (b : ℕ) (cs : List ℕ) {c : ℕ} {ds : List ℕ} → cs ≡ c ∷ ds → lastIsNot0 (b ∷ cs) ≡ lastIsNot0 cs
-unfolding lastIsNot0
-last-more b cs q = rw q refl
-
-put-low : (k n : ℕ) → lowFirst (putV64 k n) ≡ n
+pub put-low : (k n : ℕ) → lowFirst (putV64 k n) ≡ n
 unfolding putV64 if_then_else_ lowFirst
 put-low zero n = refl
 put-low (suc k) n = go (put-low k (n / 128)) (ltb n 128) refl
@@ -70,48 +69,48 @@ put-low (suc k) n = go (put-low k (n / 128)) (ltb n 128) refl
     go ih true t = refl
     go ih false t = rw (low-more (128 + n % 128) (putV64 k (n / 128)) (v64-cons k (n / 128) .2), ih) (omega arith)
 
-put-last : (k n : ℕ) → 0 < n → lastIsNot0 (putV64 k n) ≡ true
-unfolding putV64 if_then_else_ lastIsNot0
-put-last zero n h = lt-ltb 0 n h
-put-last (suc k) n h = go (put-last k (n / 128)) (ltb n 128) refl
+-- what is written is a coding
+pub put-coding : (k n : ℕ) → Coding k (putV64 k n)
+unfolding putV64 if_then_else_
+put-coding zero n = ninth
+put-coding (suc k) n = go (put-coding k (n / 128)) (ltb n 128) refl
   where
-    go : (0 < n / 128 → lastIsNot0 (putV64 k (n / 128)) ≡ true) → (t : Bool) → ltb n 128 ≡ t → lastIsNot0 (if t then n ∷ [] else (128 + n % 128) ∷ putV64 k (n / 128)) ≡ true
-    go ih true t = lt-ltb 0 n h
-    go ih false t =
-        let ge = ltb-false n 128 t in
-        last-more (128 + n % 128) (putV64 k (n / 128)) (v64-cons k (n / 128) .2) ∙ ih (omega arith)
+    go : Coding k (putV64 k (n / 128)) → (t : Bool) → ltb n 128 ≡ t → Coding (suc k) (if t then n ∷ [] else (128 + n % 128) ∷ putV64 k (n / 128))
+    go ih true t = last (ltb-true n 128 t)
+    go ih false t = more′ (putV64 k (n / 128)) (omega arith) (omega arith) ih
 
-put-shortest : (k n : ℕ) → shortest (putV64 k n) ≡ true
-unfolding putV64 if_then_else_ shortest lastIsNot0
-put-shortest zero n = refl
-put-shortest (suc k) n = go (ltb n 128) refl
-  where
-    go : (t : Bool) → ltb n 128 ≡ t → shortest (if t then n ∷ [] else (128 + n % 128) ∷ putV64 k (n / 128)) ≡ true
-    go true t = refl
-    go false t = let ge = ltb-false n 128 t in put-last k (n / 128) (omega arith)
+-- every coding of a number of 64 bits is taken
+coding-takes : {k : ℕ} (bs : List ℕ) → Coding k bs → lowFirst bs < 256 * 128 ^ k → Takes (coding k) bs bs
+unfolding coding lowFirst
+coding-takes (b ∷ []) ninth h = bind-takes _ (byte-takes b h) (give-takes (b ∷ []))
+coding-takes (b ∷ []) (last l) h = bind-takes _ (byte-takes b (omega arith)) (if-takes-false _ (lt-leb 128 b l) (give-takes (b ∷ [])))
+coding-takes (b ∷ c ∷ bs) (more {k = k} l l′ r) h =
+    let p : 128 ^ suc k ≡ 128 * 128 ^ k = pow-succ' 128 k in
+    let small : lowFirst (c ∷ bs) < 256 * 128 ^ k = omega (arith, h) in
+    bind-takes _ (byte-takes b l′)
+    (if-takes-true _ (le-leb 128 b l) (takes-as (append-nil (c ∷ bs)) (bind-takes _ (coding-takes (c ∷ bs) r small) (give-takes (b ∷ c ∷ bs)))))
 
-coding-takes : (k n : ℕ) → n < 256 * 128 ^ k → Takes (coding k) (putV64 k n) (putV64 k n)
-unfolding coding putV64 if_then_else_
-coding-takes zero n h = bind-takes _ (byte-takes n h) (give-takes (n ∷ []))
-coding-takes (suc k) n h = go (coding-takes k (n / 128)) (ltb n 128) refl
-  where
-    go :
-        (n / 128 < 256 * 128 ^ k → Takes (coding k) (putV64 k (n / 128)) (putV64 k (n / 128))) → (t : Bool) → ltb n 128 ≡ t
-        → Takes (coding (suc k)) (if t then n ∷ [] else (128 + n % 128) ∷ putV64 k (n / 128)) (if t then n ∷ [] else (128 + n % 128) ∷ putV64 k (n / 128))
-    go ih true t = let lt = ltb-true n 128 t in bind-takes _ (byte-takes n (omega arith)) (if-takes-false _ (lt-leb 128 n lt) (give-takes (n ∷ [])))
-    go ih false t =
-        let p : 128 ^ suc k ≡ 128 * 128 ^ k = pow-succ' 128 k in
-        let small : n / 128 < 256 * 128 ^ k = omega (arith, h) in
-        bind-takes _ (byte-takes (128 + n % 128) (omega arith))
-        (if-takes-true _ (le-leb 128 (128 + n % 128) (omega arith))
-        (takes-as (append-nil (putV64 k (n / 128))) (bind-takes _ (ih small) (give-takes ((128 + n % 128) ∷ putV64 k (n / 128))))))
-
-pub v64-takes : (n : ℕ) → n < 256 ^ 8 → Takes v64 (putV64 8 n) n
+pub v64-reads : (n : ℕ) → n < 256 ^ 8 → Reads v64 (free n) n
 unfolding v64
-v64-takes n h =
-    takes-is (put-low 8 n)
-    (takes-as (append-nil (putV64 8 n)) (bind-takes _ (must-takes _ (put-shortest 8 n, tt) (started-takes (coding-takes 8 n h))) (give-takes (lowFirst (putV64 8 n)))))
+v64-reads n h =
+    record {
+      at = λ cs t. let (c, e) = free-is t in
+          takes-is e (takes-as (append-nil cs) (bind-takes _ (started-takes (coding-takes cs c (rw e h))) (give-takes (lowFirst cs))));
+    }
 
-pub number-takes : (rules : ℕ → List Rule) (n : ℕ) → n < 256 ^ 8 → Held (rules n) → Takes (number rules) (putV64 8 n) n
+pub number-reads : (rules : ℕ → List Rule) (n : ℕ) → n < 256 ^ 8 → Held (rules n) → Reads (number rules) (free n) n
 unfolding number
-number-takes rules n lt h = must-takes rules h (v64-takes n lt)
+number-reads rules n lt h = must-reads rules h (v64-reads n lt)
+
+-- ── the shortest coding ──
+
+-- no coding of a number is shorter than what is written of it, or of one below it
+pub put-short : {k : ℕ} (n : ℕ) (bs : List ℕ) → Coding k bs → n ≤ lowFirst bs → length (putV64 k n) ≤ length bs
+unfolding putV64 lowFirst if_then_else_
+put-short n (b ∷ []) ninth h = omega arith
+put-short n (b ∷ []) (last l) h = rw (lt-ltb n 128 (omega arith)) (omega arith)
+put-short n (b ∷ c ∷ bs) (more {k = k} l l′ r) h = go (put-short (n / 128) (c ∷ bs) r (omega arith)) (ltb n 128)
+  where
+    go : length (putV64 k (n / 128)) ≤ length (c ∷ bs) → (t : Bool) → length (if t then n ∷ [] else (128 + n % 128) ∷ putV64 k (n / 128)) ≤ length (b ∷ c ∷ bs)
+    go ih true = omega arith
+    go ih false = omega arith

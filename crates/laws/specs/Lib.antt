@@ -1,8 +1,11 @@
 pub mod Laws
 pub mod Faithful
 pub mod Longer
+pub mod Put
 pub mod Says
+pub mod Spelling
 pub mod Spelt
+pub mod Shortest
 pub mod Packed
 pub mod Takes
 pub mod Kept

@@ -172,12 +172,19 @@ size-says = then-says _ (byteIs-says tab (omega arith)) λ u cs p. weaker _ (λ 
 word-behind : (k : ℕ) → Says (byteIs tab >> readElement k) (λ e cs. (tab ∷ elementWord e ≡ cs) × (_≡_ {A = Bool} true true))
 word-behind k = then-says _ (byteIs-says tab (omega arith)) λ u cs p. weaker _ (λ e ds q. (rw (← p, q), refl)) (element-says k)
 
+-- a line stands as it is written
+abbrev same : List ℕ → List ℕ → Type 0
+same ps cs = ps ≡ cs
+
+join : (ps qs cs ds : List ℕ) → same ps cs → same qs ds → same (ps ++ qs) (cs ++ ds)
+join ps qs cs ds p q = rw (p, q)
+
 map-words :
-    {ks : List ℕ} {es : List Element} {cs : List ℕ} → Stand (λ k e. tab ∷ elementWord e) (λ e. tab ∷ elementWord e) (λ k e. true) size? (ks ∷ []) es cs
+    {ks : List ℕ} {es : List Element} {cs : List ℕ} → Stand same refl join (λ k e. tab ∷ elementWord e) (λ e. tab ∷ elementWord e) (λ k e. true) size? (ks ∷ []) es cs
     → tabs elementWord es ≡ cs
 unfolding tabs
 map-words {ks} {es} p =
-    let q = stand-alone (λ k e. tab ∷ elementWord e) (λ e. tab ∷ elementWord e) (λ k e. true) size? p in
+    let q = stand-alone same refl join (λ k e. tab ∷ elementWord e) (λ e. tab ∷ elementWord e) (λ k e. true) size? p in
     sym (through-same (λ e. tab ∷ elementWord e) (λ k e. true) size? es (ks ∷ []) (q .1)) ∙ q .0
 
 pub map-line-says : (ks : List ℕ) → Says (readMap ks) (λ es cs. valueLine es ≡ cs)
@@ -185,7 +192,7 @@ unfolding readMap mapWords valueLine ascii bytes? all
 map-line-says ks =
     then-says _ (literal-says (ascii "val") refl) λ u cs p.
     ended-says newline (omega arith) _ (λ es ds q. rw (line-tabs elementWord, ← p, q)) (weaker (λ es ds. tabs elementWord es ≡ ds) (λ es ds q. map-words q)
-    (map-says (λ k e. tab ∷ elementWord e) (λ e. tab ∷ elementWord e) (λ k e. true) size? bad-says size-says word-behind ks))
+    (map-says same refl join (λ k e. tab ∷ elementWord e) (λ e. tab ∷ elementWord e) (λ k e. true) size? bad-says size-says word-behind ks))
 
 size-before : (n : ℕ) → sized? (keys n) ≡ true → TakesBefore Stops (byteIs tab >> natural) (tab ∷ elementWord (keys n)) n
 unfolding elementWord sized? sizeOf size?
@@ -195,8 +202,9 @@ map-words-before : (s : State) (ks : List ℕ) (es : List Element) → value? s 
 unfolding mapWords value? tabs
 map-words-before s ks es h =
     before-as (through-same (λ e. tab ∷ elementWord e) (element? s) sized? es (ks ∷ []) h)
-    (map-before (λ k e. tab ∷ elementWord e) (λ e. tab ∷ elementWord e) (element? s) sized? Stops bad size-before
-    (λ k e t. then-before (byteIs-takes tab (omega arith)) (element-before s k e t)) sized-size (λ k e rest. omega arith) (λ e rest. omega arith) ks es h)
+    (map-before (λ k e. tab ∷ elementWord e) (λ e. tab ∷ elementWord e) (element? s) sized? (λ A r cs v. TakesBefore Stops r cs v) (λ bs. (rest : List ℕ) → Stops rest → Stops (bs ++ rest))
+    (λ A a. takes-before Stops (give-takes a)) (λ A C r k ps qs a b R K st. bind-before {r = r} k R K st) (λ rest t. t) (λ ps qs x y rest t. rw (append-assoc ps qs rest) (x (qs ++ rest) (y rest t))) bad size-before
+    (λ k e t. then-before (byteIs-takes tab (omega arith)) (element-before s k e t)) sized-size (λ k e rest t. omega arith) (λ e rest t. omega arith) ks es h)
 
 pub map-line-takes : (s : State) (ks : List ℕ) (es : List Element) → value? s (mapping ks) es ≡ true → Takes (readMap ks) (valueLine es) es
 unfolding readMap valueLine ascii bytes? all

@@ -1,9 +1,10 @@
 -- A refusal of a file is one of the paper's numbers. Assumes nothing.
 use mathlib.Core.Path.{_≡_, refl}
-use mathlib.Core.Bool.{Bool, true, false, _&&_, _||_}
+use mathlib.Core.Bool.{Bool, true, false, _&&_, _||_, not}
 use mathlib.Core.List.{List, [], _∷_, map}
 use mathlib.Core.Option.{Option, none, some}
 use Prim.Native.Nat.{ℕ, zero, suc, _+_}
+use native.Mathlib.Omega.{arith}
 use lib.Dec.{leb, eqb}
 use lib.ListN.{length, take, drop, replicate}
 use Rattle.paper.specs.Reader.{if_then_else_, Reader, Out, got, no, andThen, _>>=_, _>>_, give, refuse, Rule, _orNo_, hold, must, fromStart, started, within, bytes, filled, part, each, times, repeat, only, unlessEnd, toEnd}
@@ -15,9 +16,9 @@ use Rattle.paper.specs.Maps.{keyAndRest, mapOf}
 use Rattle.paper.specs.File.{twoNumbers, Upto, Front, small, stringEnd, stringBlock, restrictions, head, wholeOf, kind, endOffset, newField, fields, entry, front, element, value, chunk, dataRegion, refusalOf, kindsNamed, pairFrom, pair, pairs, file}
 use Rattle.laws.specs.Bools.{and-split}
 
--- the numbers that reading a file can give: 1 to 14, and 21
+-- the numbers that reading a file can give: 1, 3 to 14, and 21
 unfoldable pub fileRefusal? : ℕ → Bool
-fileRefusal? n = leb 1 n && leb n 14 || eqb n 21
+fileRefusal? n = not (eqb n 2) && (leb 1 n && leb n 14) || eqb n 21
 
 -- every rule's number is one of them
 abbrev listed? : List Rule → Bool
@@ -269,3 +270,8 @@ file-known f = if-known (leb (length f) mostBytes) _ (no 3 0) (toEnd-refuses mos
 -- a refusal of a file is one of the paper's numbers
 pub file-refusals : (f : List ℕ) (n p : ℕ) → file f ≡ no n p → fileRefusal? n ≡ true
 file-refusals f n p q = rw q at (file-known f)
+
+-- 2 is never given
+pub never-padded : (f : List ℕ) (p : ℕ) → file f ≡ no 2 p → ⊥
+unfolding fileRefusal?
+never-padded f p q = let z : _≡_ {A = ℕ} 0 1 = cc (file-refusals f 2 p q) in omega arith

@@ -19,7 +19,9 @@ use Rattle.paper.specs.Numbers.{unsigned, putFixed, putV64, put}
 use Rattle.paper.specs.Lists.{any, all, places, total, fold, flat, given?, or}
 use Rattle.paper.specs.Ledger.{Kind, constant, plain, array, many, mapping, Element, flag, whole, float, link, annotation, keys, New, Head, Entry, Chunk, Pair, Ledger, Field, Due, State, nothing, noField, fieldAt, owns?, fieldsOf, objectsOf}
 use Rattle.paper.specs.Rules.{noted, typesRules, smallRules, stringsRules, withStrings, new?, typeOf, typeNameRules, superNameRules, superOf, countRules, afterHead, knownDue, fieldCountRules, fieldNameRules, afterNew, afterEntry, valuesDue, oldDue, newDues, entryDues, dues, elementKindRules, anyType, linkRules, closed, afterFront, afterPair}
-use Rattle.paper.specs.Encode.{endsFrom, putStrings, putOption, putHead, putWhole, putKind, putNew, zip, putFields, putEntry, putEntries, putElement, putSize, putValue, putChunk, putChunks, putFront, putPair, putPairs, encode}
+use Rattle.paper.specs.Pieces.{endsFrom, zip}
+use Rattle.paper.specs.Encode.{putChunk, putChunks, putFront, putPair, putPairs, encode}
+use Rattle.laws.specs.Put.{putStrings, putOption, putHead, putWhole, putKind, putNew, putFields, putEntry, putEntries, putElement, putSize, putValue, put-chunk, put-front}
 use Rattle.paper.specs.Maps.{sizeOf, size?, opened, throughMaps, allThrough, atFirst}
 use Rattle.paper.specs.Keeps.{sized?, inTurn, number?, only?, head?, signed?, whole?, kindKept?, new-field?, entry?, element?, value?, chunk?, chunks?, pair?, keeps?}
 use Rattle.paper.specs.Listing.{ascii, decimal, decimalℤ, hexDigits, hex, joined, line, pairLine, stringLine, orDash, typeLine, oldLine, kindWord, newLine, elementWord, valueLine, printEntry, printEntries, printChunk, printPair, printPairs, print}
@@ -33,6 +35,7 @@ use Rattle.laws.specs.Columns.{total-append, fold-grows, entry-grows}
 use Rattle.laws.specs.Count.{once, made, fold-fields, fold-objects, head-objects}
 use Rattle.laws.specs.Heads.{ends-length}
 use Rattle.laws.specs.Entries.{dues-more}
+use Rattle.laws.specs.Shortest.{chunks-spelt}
 use Rattle.laws.specs.Exact.{chunks-length, chunksOf}
 use Rattle.laws.specs.Bounds.{ledger-within}
 use Rattle.laws.specs.Objects.{total-none, ledger-objects}
@@ -317,7 +320,7 @@ bare-append F (d ∷ ds) es = omega (arith, bare-append F ds es)
 chunks-room :
     (s : State) (ds : List Due) (cs : List Chunk) → chunks? s ds cs ≡ true
     → length (flat printChunk cs) ≤ 4 * bareDue (s .fields) ds + 9 * length (flat (λ c. c) (putChunks s ds cs))
-unfolding chunks? chunk? bareDue flat putChunks putChunk printChunk fieldAt
+unfolding chunks? chunk? bareDue flat putChunks printChunk fieldAt
 chunks-room s [] [] h = omega arith
 chunks-room s [] (c ∷ cs) h = not-so h
 chunks-room s (d ∷ ds) [] h = not-so h
@@ -326,7 +329,8 @@ chunks-room s (d ∷ ds) (c ∷ cs) h =
     let (a, b) = and-split (chunk? s d c) _ h in
     let (x, y) = and-split (eqb (length c) (d .values)) _ a in
     let mine : length (flat valueLine c) ≤ 4 * once (d .values) (bare? k) + 9 * length (flat (putValue k) c) = rw (eqb-true (length c) (d .values) x) at (values-room s k c y) in
-    rw (length-append (flat valueLine c), length-append (flat (putValue k) c)) (omega (arith, mine, chunks-room s ds cs b))
+    let bytes : length (putChunk s d c) ≡ length (flat (putValue k) c) = ap length (put-chunk s d c) in
+    rw (length-append (flat valueLine c), length-append (putChunk s d c)) (omega (arith, mine, bytes, chunks-room s ds cs b))
 
 -- ── the values of all fields ──
 
@@ -579,8 +583,8 @@ printed-length s p = rw (length-append, length-append, length-append)
 put-length :
     (s : State) (p : Pair)
     → length (putPair s p) ≡ length (put (length (p .strings))) + length (flat (putFixed 4) (endsFrom 0 (p .strings))) + length (flat (λ s. s) (p .strings)) + length (put (length (p .entries))) + length (putEntries (withStrings s (p .strings)) (p .entries) (endsFrom 0 (chunksOf s p))) + length (flat (λ c. c) (chunksOf s p))
-unfolding putPair putFront putStrings
-put-length s p = rw (length-append, length-append, length-append, length-append, length-append)
+unfolding putPair putStrings
+put-length s p = rw (put-front s (p .strings) (p .entries), length-append, length-append, length-append, length-append, length-append)
 
 pair-room : (s : State) (p : Pair) → pair? s p ≡ true → length (printPair s p) + 4 * emptyOf s ≤ 9 * length (putPair s p) + 4 * emptyOf (afterPair s p)
 unfolding pair? afterPair afterFront
@@ -592,7 +596,7 @@ pair-room s p h =
     let s₂ = afterFront s (p .strings) (p .entries) in
     let ds = dues s₁ (p .entries) in
     let first = line-room n m (number-room (stringsRules s) n a) (number-room smallRules m b) in
-    let entries = entries-room (p .entries) s₁ (endsFrom 0 (chunksOf s p)) c (ends-length 0 (chunksOf s p) ∙ chunks-length s₂ ds (p .chunks) d) in
+    let entries = entries-room (p .entries) s₁ (endsFrom 0 (chunksOf s p)) c (ends-length 0 (chunksOf s p) ∙ chunks-length s₂ ds (p .chunks) (chunksOf s p) (chunks-spelt s₂ ds (p .chunks)) d) in
     let chunks = chunks-room s₂ ds (p .chunks) d in
     rw (printed-length s p, put-length s p, closed-empty) (omega (arith, first, strings-room (p .strings) 0, entries, chunks, strings-empty s (p .strings)))
 

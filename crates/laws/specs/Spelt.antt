@@ -1,4 +1,4 @@
--- A number has one spelling: what is read is what is written. Assumes nothing.
+-- What is read of a number: bytes of a fixed width are what is written, and a v64 is a coding of it. Assumes nothing.
 use mathlib.Core.Path.{_≡_, refl, sym, _∙_, ap, subst}
 use mathlib.Core.Bool.{Bool, true, false}
 use mathlib.Core.List.{List, [], _∷_, _++_, append-assoc, append-nil}
@@ -10,8 +10,11 @@ use lib.Dec.{leb, ltb, eqb}
 use lib.ListN.{length, getD, take, drop}
 use borrow.Author.Tests.{leb-true, leb-false, le-leb, lt-leb, eqb-true, ltb-true, le-ltb, lt-ltb}
 use Rattle.paper.specs.Reader.{if_then_else_, Reader, Out, got, no, _>>=_, give, must, Rule, _orNo_, bytes}
-use Rattle.paper.specs.Numbers.{highFirst, fixed, putFixed, coding, lowFirst, lastIsNot0, shortest, v64, putV64, number}
-use Rattle.laws.specs.Says.{Bytes, Says, weaker, give-says, bind-says, must-says, started-says, if-says, bytes-says, Held}
+use Rattle.paper.specs.Numbers.{highFirst, fixed, putFixed, coding, lowFirst, v64}
+use Rattle.paper.specs.Pieces.{free}
+use Rattle.paper.specs.Spell.{Coding, ninth, last, more, Spelt}
+use Rattle.laws.specs.Says.{Bytes, Says, weaker, give-says, bind-says, must-says, started-says, if-says, bytes-says}
+use Rattle.laws.specs.Spelling.{more′, spelt-as, free-spelt}
 
 pub high-bound : (bs : List ℕ) → Bytes bs → highFirst bs < 256 ^ length bs
 unfolding highFirst
@@ -42,57 +45,31 @@ byte-says = weaker _ (λ n cs p. (sym (p .0) ∙ ap (λ (x : ℕ). x ∷ []) (di
 
 -- ── v64 ──
 
-data Coding : ℕ → List ℕ → Type 0 where
-  ninth : {b : ℕ} → b < 256 → Coding zero (b ∷ [])
-  last : {k b : ℕ} → b < 128 → Coding (suc k) (b ∷ [])
-  more : {k b c : ℕ} {bs : List ℕ} → 128 ≤ b → b < 256 → Coding k (c ∷ bs) → Coding (suc k) (b ∷ c ∷ bs)
+low-last : (b : ℕ) → b < 256 → lowFirst (b ∷ []) < 256 * 128 ^ 0
+unfolding lowFirst
+low-last b h = h
 
-more′ : {k b : ℕ} (bs : List ℕ) → 128 ≤ b → b < 256 → Coding k bs → Coding (suc k) (b ∷ bs)
-more′ [] h h′ c = elim c [ ]
-more′ (x ∷ xs) h h′ c = more h h′ c
+low-short : (k b : ℕ) → b < 256 → lowFirst (b ∷ []) < 256 * 128 ^ suc k
+unfolding lowFirst
+low-short k b h = let p : 0 < 128 ^ suc k = one-le-pow (suc k) 128 (omega arith) in omega arith
 
-coding-says : (k : ℕ) → Says (coding k) (λ bs cs. (bs ≡ cs) × Coding k bs)
+low-bound : (k b : ℕ) (bs : List ℕ) → b < 256 → Coding k bs → lowFirst bs < 256 * 128 ^ k → lowFirst (b ∷ bs) < 256 * 128 ^ suc k
+unfolding lowFirst
+low-bound k b [] l c h = elim c [ ]
+low-bound k b (c ∷ bs) l r h = rw pow-succ' (omega arith)
+
+-- the bytes, which are a coding, and their value's bound
+coding-says : (k : ℕ) → Says (coding k) (λ bs cs. (bs ≡ cs) × Coding k bs × (lowFirst bs < 256 * 128 ^ k))
 unfolding coding
-coding-says zero = bind-says _ byte-says λ b cs p. give-says (b ∷ []) _ (rw append-nil (sym (p .0)), ninth (p .1))
+coding-says zero = bind-says _ byte-says λ b cs p. give-says (b ∷ []) _ (rw append-nil (sym (p .0)), ninth, low-last b (p .1))
 coding-says (suc k) =
     bind-says _ byte-says λ b cs p. if-says _
-    (λ t. bind-says _ (coding-says k) λ bs ds q. give-says (b ∷ bs) _ (rw (p .0, append-nil, q .0), more′ bs (leb-true 128 b t) (p .1) (q .1)))
-    (λ t. give-says (b ∷ []) _ (rw append-nil (sym (p .0)), last (leb-false 128 b t)))
+    (λ t. bind-says _ (coding-says k) λ bs ds q. give-says (b ∷ bs) _
+    (rw (p .0, append-nil, q .0), more′ bs (leb-true 128 b t) (p .1) (q .1), low-bound k b bs (p .1) (q .1) (q .2)))
+    (λ t. give-says (b ∷ []) _ (rw append-nil (sym (p .0)), last (leb-false 128 b t), low-short k b (p .1)))
 
-low-positive : {k : ℕ} (b : ℕ) (bs : List ℕ) → Coding k (b ∷ bs) → lastIsNot0 (b ∷ bs) ≡ true → 0 < lowFirst (b ∷ bs)
-unfolding lowFirst lastIsNot0
-low-positive b [] c h = ltb-true 0 b h
-low-positive b (x ∷ xs) (more l l′ c) h = omega (arith, low-positive x xs c h)
-
-rest-shortest : (b : ℕ) (bs : List ℕ) → lastIsNot0 (b ∷ bs) ≡ true → shortest (b ∷ bs) ≡ true
-unfolding shortest lastIsNot0
-rest-shortest b [] h = refl
-rest-shortest b (x ∷ xs) h = h
-
-put-low : {k : ℕ} (bs : List ℕ) → Coding k bs → shortest bs ≡ true → putV64 k (lowFirst bs) ≡ bs
-unfolding lowFirst shortest putV64 if_then_else_
-put-low (b ∷ []) (ninth l) h = refl
-put-low (b ∷ []) (last l) h = rw (lt-ltb b 128 l)
-put-low (b ∷ c ∷ bs) (more l l′ r) h =
-    let p = low-positive c bs r h in
-    let d : (b - 128 + 128 * lowFirst (c ∷ bs)) / 128 ≡ lowFirst (c ∷ bs) = omega arith in
-    let m : 128 + (b - 128 + 128 * lowFirst (c ∷ bs)) % 128 ≡ b = omega arith in
-    rw (le-ltb (b - 128 + 128 * lowFirst (c ∷ bs)) 128 (omega arith), d, m) (ap (λ (z : List ℕ). b ∷ z) (put-low (c ∷ bs) r (rest-shortest c bs h)))
-
-low-bound : {k : ℕ} (bs : List ℕ) → Coding k bs → lowFirst bs < 256 * 128 ^ k
-unfolding lowFirst
-low-bound (b ∷ []) (ninth l) = l
-low-bound (b ∷ []) (last {k = k} l) =
-    let p : 0 < 128 ^ k = one-le-pow k 128 (omega arith) in
-    rw pow-succ' (omega arith)
-low-bound (b ∷ c ∷ bs) (more l l′ r) = let ih = low-bound (c ∷ bs) r in rw pow-succ' (omega arith)
-
-pub v64-says : Says v64 (λ n cs. (putV64 8 n ≡ cs) × (n < 256 ^ 8))
+pub v64-says : Says v64 (λ n cs. Spelt (free n) cs × (n < 256 ^ 8))
 unfolding v64
 v64-says =
-    bind-says _ (must-says _ (started-says (coding-says 8))) λ bs cs p. give-says (lowFirst bs) _
-    (rw (append-nil, ← p .0 .0) (put-low bs (p .0 .1) (p .1 .0)), low-bound bs (p .0 .1))
-
-pub number-says : (rules : ℕ → List Rule) → Says (number rules) (λ n cs. (putV64 8 n ≡ cs) × Held (rules n))
-unfolding number
-number-says rules = weaker _ (λ n cs p. (p .0 .0, p .1)) (must-says rules v64-says)
+    bind-says _ (started-says (coding-says 8)) λ bs cs p. give-says (lowFirst bs) _
+    (spelt-as (free (lowFirst bs)) (p .0 ∙ sym (append-nil cs)) (free-spelt bs (p .1) refl), p .2)

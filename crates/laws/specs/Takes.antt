@@ -121,7 +121,7 @@ part-takes n {r} {cs} {v} e R =
     }
 
 -- one after the other: `w` writes each, in the state before it
-unfoldable pub written : {S A : Type 0} → (S → A → List ℕ) → (S → A → S) → S → List A → List ℕ
+unfoldable pub written : {S A B : Type 0} → (S → A → List B) → (S → A → S) → S → List A → List B
 written w after s [] = []
 written w after s (a ∷ l) = w s a ++ written w after (after s a) l
 
@@ -157,7 +157,7 @@ unfolding times
 times-takes {S} {A} read after w n s l e h =
     rw (← e) (each-takes (λ s x. read s) after w (replicate (length l) (tt {0})) s l (all-replicate (λ s a. Takes (read s) (w s a) a) after s l h))
 
-pub written-flat : {S A : Type 0} (w : A → List ℕ) (after : S → A → S) (s : S) (l : List A) → written (λ s. w) after s l ≡ flat w l
+pub written-flat : {S A B : Type 0} (w : A → List B) (after : S → A → S) (s : S) (l : List A) → written (λ s. w) after s l ≡ flat w l
 unfolding written flat
 written-flat w after s [] = refl
-written-flat w after s (a ∷ l) = ap (λ (z : List ℕ). w a ++ z) (written-flat w after (after s a) l)
+written-flat {B} w after s (a ∷ l) = ap (λ (z : List B). w a ++ z) (written-flat w after (after s a) l)

@@ -14,7 +14,7 @@ use Rattle.paper.specs.Keeps.{inTurn}
 use Rattle.laws.specs.Laws.{not-got, bind-inv, Bound}
 use Rattle.laws.specs.Longer.{unlessEnd-inv, AtEnd, Before, unlessEnd-before, unlessEnd-end}
 use Rattle.laws.specs.Says.{Bytes, Says, Said, weaker, give-says, bind-says}
-use Rattle.laws.specs.Takes.{Takes, written, after-length, after-drop, bytes-append}
+use Rattle.laws.specs.Takes.{Takes, takes-as, written, after-length, after-drop, bytes-append}
 use Rattle.laws.specs.Bools.{not-so, and-split, and-join}
 use Rattle.laws.specs.Kept.{Kept}
 
@@ -42,15 +42,20 @@ give-end : {A : Type 0} (a v : A) (f : List ℕ) (at e : ℕ) → give a f at �
 unfolding give
 give-end a v f at e q = cc q
 
-module _ {S A : Type 0} (stop : Reader (List A)) (never : Never stop) (read : S → Reader A) (after : S → A → S) (w : S → A → List ℕ) (ok : S → A → Bool) where
-  module _ (K : (s : S) → Kept (read s) (w s) (ok s)) where
-    end-says : (n : ℕ) (s : S) → Says (toEnd n stop read after s) (λ l cs. (written w after s l ≡ cs) × (inTurn ok after s l ≡ true) × (length l ≤ n))
-    unfolding toEnd written inTurn
+-- one after the other, each in the state before it: W says which bytes each stands in
+abbrev pub Chain : {S A : Type 0} → (S → A → List ℕ → Type 0) → (S → A → S) → S → List A → List ℕ → Type 0
+Chain W after s [] cs = cs ≡ []
+Chain W after s (a ∷ l) cs = (c : List ℕ) × (d : List ℕ) × (cs ≡ c ++ d) × W s a c × Chain W after (after s a) l d
+
+module _ {S A : Type 0} (stop : Reader (List A)) (never : Never stop) (read : S → Reader A) (after : S → A → S) (W : S → A → List ℕ → Type 0) (ok : S → A → Bool) where
+  module _ (K : (s : S) → Says (read s) (λ a cs. W s a cs × (ok s a ≡ true))) where
+    end-says : (n : ℕ) (s : S) → Says (toEnd n stop read after s) (λ l cs. Chain W after s l cs × (inTurn ok after s l ≡ true) × (length l ≤ n))
+    unfolding toEnd inTurn
     end-says zero s = unlessEnd-says [] _ (refl, refl, omega arith) (never-says _ never)
     end-says (suc n) s =
         unlessEnd-says [] _ (refl, refl, omega arith)
         (bind-says _ (K s) λ a cs q. bind-says _ (end-says n (after s a)) λ l ds r. give-says (a ∷ l) _
-        (rw (q .0, r .0, append-nil), and-join (q .1) (r .1), omega (arith, r .2)))
+        ((cs, ds, ap (λ (z : List ℕ). cs ++ z) (append-nil ds), q .0, r .0), and-join (q .1) (r .1), omega (arith, r .2)))
 
     end-there : (n : ℕ) (s : S) (f : List ℕ) (at : ℕ) (l : List A) (e : ℕ) → Bytes f → at ≤ length f → toEnd n stop read after s f at ≡ got l e → e ≡ length f
     unfolding toEnd
@@ -74,17 +79,19 @@ module _ {S A : Type 0} (stop : Reader (List A)) (never : Never stop) (read : S 
             let F = bind-inv (toEnd n stop read after (after s (P .value))) (λ l. give (P .value ∷ l)) f (P .next) l e (P .rest) in
             give-end _ _ _ _ _ (F .rest) ∙ ih (after s (P .value)) (P .next) (F .value) (F .next) (S₁ .inside) (F .first)
 
-    -- a file that is read to its end is what is written of what was read, and that keeps the rules
-    pub whole-kept :
+    -- a file that is read to its end stands in bytes as what was read does, and that keeps the rules
+    pub chain-kept :
         (n : ℕ) (s : S) (f : List ℕ) (l : List A) (e : ℕ) → Bytes f → toEnd n stop read after s f 0 ≡ got l e
-        → (written w after s l ≡ f) × (inTurn ok after s l ≡ true) × (length l ≤ n) × (e ≡ length f)
-    whole-kept n s f l e b q =
+        → Chain W after s l f × (inTurn ok after s l ≡ true) × (length l ≤ n) × (e ≡ length f)
+    chain-kept n s f l e b q =
         let T = end-says n s .at f 0 l e b (omega arith) q in
         let z = end-there n s f 0 l e b (omega arith) q in
-        (T .said .0 ∙ rw (z, sub-zero) (take-all (length f) f (omega arith)), T .said .1, T .said .2, z)
+        let all : take (e - 0) f ≡ f = rw (z, sub-zero) (take-all (length f) f (omega arith)) in
+        (subst (λ (x : List ℕ). Chain W after s l x) all (T .said .0), T .said .1, T .said .2, z)
 
   -- each takes at most `most` bytes, and some
-  module _ (most : ℕ) (T : (s : S) (a : A) → length (w s a) ≤ most → ok s a ≡ true → Takes (read s) (w s a) a) (some : (s : S) (a : A) → 0 < length (w s a)) where
+  module _
+      (most : ℕ) (T : (s : S) (a : A) (c : List ℕ) → W s a c → length c ≤ most → ok s a ≡ true → Takes (read s) c a) (some : (s : S) (a : A) (c : List ℕ) → W s a c → 0 < length c) where
     both :
         (n : ℕ) (s : S) (x : A) (l : List A) (f : List ℕ) (at : ℕ) {m e : ℕ} → read s f at ≡ got x m → toEnd n stop read after (after s x) f m ≡ got l e
         → (read s >>= λ a. toEnd n stop read after (after s a) >>= λ l. give (a ∷ l)) f at ≡ got (x ∷ l) e
@@ -92,39 +99,74 @@ module _ {S A : Type 0} (stop : Reader (List A)) (never : Never stop) (read : S 
     both n s x l f at u v = rw (u, v)
 
     end-taken :
-        (n : ℕ) (s : S) (l : List A) (f : List ℕ) (at : ℕ) → length l ≤ n → inTurn ok after s l ≡ true → length (written w after s l) ≤ most → at ≤ length f
-        → drop at f ≡ written w after s l → toEnd n stop read after s f at ≡ got l (length f)
-    unfolding toEnd written inTurn
-    end-taken n s [] f at le h short p q = nothing-left n
+        (n : ℕ) (s : S) (l : List A) (bs f : List ℕ) (at : ℕ) → Chain W after s l bs → length l ≤ n → inTurn ok after s l ≡ true → length bs ≤ most → at ≤ length f
+        → drop at f ≡ bs → toEnd n stop read after s f at ≡ got l (length f)
+    unfolding toEnd inTurn
+    end-taken n s [] bs f at w le h short p q = nothing-left n
       where
         there : at ≡ length f
-        there = let z = ap length q in omega (arith, length-drop at f)
+        there = let z = ap length (q ∙ w) in omega (arith, length-drop at f)
 
         nothing-left : (n : ℕ) → toEnd n stop read after s f at ≡ got [] (length f)
         nothing-left zero = unlessEnd-end [] _ f at there
         nothing-left (suc n) = unlessEnd-end [] _ f at there
-    end-taken zero s (x ∷ l) f at le h short p q = absurd (omega arith)
-    end-taken (suc n) s (x ∷ l) f at le h short p q =
+    end-taken zero s (x ∷ l) bs f at w le h short p q = absurd (omega arith)
+    end-taken (suc n) s (x ∷ l) bs f at (c, d, e, w, v) le h short p q =
         let (a, b) = and-split (ok s x) _ h in
-        let cs = w s x in
-        let rest = written w after (after s x) l in
-        let len = length-append cs rest in
-        let here : read s f at ≡ got x (at + length cs) = T s x (omega arith) a .at f at rest p q in
-        let next = after-length f at cs rest p q in
-        let before : at < length f = omega (arith, some s x) in
-        let ih = end-taken n (after s x) l f (at + length cs) (omega arith) b (omega arith) next (after-drop f at cs rest q) in
+        let q′ : drop at f ≡ c ++ d = q ∙ e in
+        let len : length bs ≡ length c + length d = ap length e ∙ length-append c d in
+        let here : read s f at ≡ got x (at + length c) = T s x c w (omega arith) a .at f at d p q′ in
+        let next = after-length f at c d p q′ in
+        let before : at < length f = omega (arith, some s x c w) in
+        let ih = end-taken n (after s x) l d f (at + length c) v (omega arith) b (omega arith) next (after-drop f at c d q′) in
         unlessEnd-before [] _ f at before ∙ both n s x l f at here ih
+
+    -- bytes in which what keeps the rules stands are read
+    pub chain-taken :
+        (n : ℕ) (s : S) (l : List A) (f : List ℕ) → Chain W after s l f → length l ≤ n → inTurn ok after s l ≡ true → length f ≤ most
+        → toEnd n stop read after s f 0 ≡ got l (length f)
+    chain-taken n s l f w le h short = end-taken n s l f f 0 w le h short (omega arith) refl
+
+    pub chain-bytes : (l : List A) (s : S) (f : List ℕ) → Chain W after s l f → inTurn ok after s l ≡ true → length f ≤ most → Bytes f
+    unfolding inTurn
+    chain-bytes [] s f w h short = rw w tt
+    chain-bytes (x ∷ l) s f (c, d, e, w, v) h short =
+        let (a, b) = and-split (ok s x) _ h in
+        let n : length f ≡ length c + length d = ap length e ∙ length-append c d in
+        rw e (bytes-append c d (T s x c w (omega arith) a .bytes) (chain-bytes l (after s x) d v b (omega arith)))
+
+-- ── where each is written in one way ──
+
+module _ {S A : Type 0} (stop : Reader (List A)) (never : Never stop) (read : S → Reader A) (after : S → A → S) (w : S → A → List ℕ) (ok : S → A → Bool) where
+  chain-is : (s : S) (l : List A) (cs : List ℕ) → Chain (λ s a c. w s a ≡ c) after s l cs → written w after s l ≡ cs
+  unfolding written
+  chain-is s [] cs h = sym h
+  chain-is s (a ∷ l) cs (c, d, e, p, q) = rw (p, chain-is (after s a) l d q) (sym e)
+
+  is-chain : (s : S) (l : List A) → Chain (λ s a c. w s a ≡ c) after s l (written w after s l)
+  unfolding written
+  is-chain s [] = refl
+  is-chain s (a ∷ l) = (w s a, written w after (after s a) l, refl, refl, is-chain (after s a) l)
+
+  -- a file that is read to its end is what is written of what was read, and that keeps the rules
+  pub whole-kept :
+      ((s : S) → Kept (read s) (w s) (ok s)) → (n : ℕ) (s : S) (f : List ℕ) (l : List A) (e : ℕ) → Bytes f → toEnd n stop read after s f 0 ≡ got l e
+      → (written w after s l ≡ f) × (inTurn ok after s l ≡ true) × (length l ≤ n) × (e ≡ length f)
+  whole-kept K n s f l e b q =
+      let k = chain-kept stop never read after (λ s a c. w s a ≡ c) ok K n s f l e b q in
+      (chain-is s l f (k .0), k .1, k .2, k .3)
+
+  module _ (most : ℕ) (T : (s : S) (a : A) → length (w s a) ≤ most → ok s a ≡ true → Takes (read s) (w s a) a) (some : (s : S) (a : A) → 0 < length (w s a)) where
+    taken-as : (s : S) (a : A) (c : List ℕ) → w s a ≡ c → length c ≤ most → ok s a ≡ true → Takes (read s) c a
+    taken-as s a c e n h = takes-as e (T s a (rw e n) h)
 
     -- what is written of what keeps the rules is read
     pub whole-taken :
         (n : ℕ) (s : S) (l : List A) → length l ≤ n → inTurn ok after s l ≡ true → length (written w after s l) ≤ most
         → toEnd n stop read after s (written w after s l) 0 ≡ got l (length (written w after s l))
-    whole-taken n s l le h short = end-taken n s l (written w after s l) 0 le h short (omega arith) refl
+    whole-taken n s l le h short =
+        chain-taken stop never read after (λ s a c. w s a ≡ c) ok most taken-as (λ s a c e. rw (← e) (some s a)) n s l (written w after s l) (is-chain s l) le h short
 
     pub whole-bytes : (l : List A) (s : S) → inTurn ok after s l ≡ true → length (written w after s l) ≤ most → Bytes (written w after s l)
-    unfolding inTurn written
-    whole-bytes [] s h short = tt
-    whole-bytes (x ∷ l) s h short =
-        let (a, b) = and-split (ok s x) _ h in
-        let n = length-append (w s x) (written w after (after s x) l) in
-        bytes-append (w s x) (written w after (after s x) l) (T s x (omega arith) a .bytes) (whole-bytes l (after s x) b (omega arith))
+    whole-bytes l s h short =
+        chain-bytes stop never read after (λ s a c. w s a ≡ c) ok most taken-as (λ s a c e. rw (← e) (some s a)) l s (written w after s l) (is-chain s l) h short

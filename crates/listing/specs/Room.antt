@@ -18,6 +18,7 @@ use Rattle.paper.specs.Listing.{print}
 use Rattle.paper.specs.Calls.{known}
 use Rattle.laws.specs.Bools.{not-so}
 use Rattle.laws.specs.Says.{Bytes}
+use Rattle.laws.specs.Shortest.{encode-short}
 use Rattle.laws.specs.Exact.{file-kept}
 use Rattle.laws.specs.Room.{empty?, emptyField?, emptyValues, print-room, empty-none}
 use Rattle.table.specs.View.{kindFrom, fldsOf, view}
@@ -81,6 +82,6 @@ pub roomy-fits :
     {f l : List ℕ} {room : ℕ} {r : Bool} → Roomy f l room r → r ≡ true → (ledger : Ledger) (e : ℕ) → Bytes f → file f ≡ got ledger e → view f l ≡ known ledger
     → length (print ledger) ≤ room
 roomy-fits {f} {l} {room} R is ledger e b q says =
-    let (bytes, keeps, _) = file-kept f ledger e b q in
+    let (spells, keeps, _) = file-kept f ledger e b q in
     let none : emptyValues ledger ≡ 0 = empty-none ledger (subst (λ (s : State). any emptyField? (s .fields) ≡ false) says (R .some is)) in
-    omega (arith, print-room ledger keeps, ap length bytes, R .nine is)
+    omega (arith, print-room ledger keeps, encode-short f ledger spells, R .nine is)

@@ -9,12 +9,13 @@ use native.Mathlib.Decide.{decLe}
 use lib.Dec.{lit<}
 use lib.ListN.{length, getD}
 use lib.Seq.{drop-cons}
-use borrow.Author.Tests.{le-leb, lt-leb, lt-ltb, le-ltb}
-use Rattle.paper.specs.Reader.{Out, got, no, andThen, if_then_else_, _>>=_, give, hold, must, fromStart, started, bytes, _orNo_}
-use Rattle.paper.specs.Numbers.{highFirst, fixed, coding, lowFirst, lastIsNot0, shortest, v64}
-use Rattle.numbers.specs.Begun.{Begun}
-use Rattle.numbers.specs.Cursors.{Read, answer-got, answer-no}
+use borrow.Author.Tests.{le-leb, lt-leb}
+use Rattle.paper.specs.Reader.{Out, got, no, andThen, if_then_else_, _>>=_, give, fromStart, started, bytes}
+use Rattle.paper.specs.Numbers.{highFirst, fixed, coding, lowFirst, v64}
+use Rattle.numbers.specs.Begun.{Begun, Ongoing, Ended}
+use Rattle.numbers.specs.Cursors.{Read, Past, answer-got, answer-no}
 use Rattle.numbers.specs.declared.Number.the-variants.{Got, No}
+use Rattle.numbers.specs.declared.Step.the-variants as step
 
 -- ── one byte ──
 
@@ -70,14 +71,14 @@ module _ (f : List ℕ) (p : ℕ) where
 
 -- what the rest of a coding makes of the bytes before it: x is their value, and w what the rest counts for
 unfoldable pub finish : ℕ → ℕ → ℕ → Out (List ℕ) → Out ℕ
-finish at x w (got bs e) = if lastIsNot0 bs then got (x + w * lowFirst bs) e else no 2 at
+finish at x w (got bs e) = got (x + w * lowFirst bs) e
 finish at x w (no n p) = no n at
 
 -- a byte more before the rest
 with-next :
     (at x w b : ℕ) (o : Out (List ℕ)) → ((e : ℕ) → o ≡ got [] e → ⊥)
     → finish at x w (andThen o (λ bs e. got (b ∷ bs) e)) ≡ finish at (x + w * (b - 128)) (w * 128) o
-unfolding finish lastIsNot0 lowFirst
+unfolding finish lowFirst
 with-next at x w b (got [] e) h = absurd (h e refl)
 with-next at x w b (got (c ∷ bs) e) h =
     let v : x + w * (b - 128 + 128 * lowFirst (c ∷ bs)) ≡ x + w * (b - 128) + w * 128 * lowFirst (c ∷ bs) =
@@ -85,27 +86,20 @@ with-next at x w b (got (c ∷ bs) e) h =
     rw v
 with-next at x w b (no n p) h = refl
 
--- the whole coding, held to the rule
+-- the whole coding, read from its start
 abbrev held : ℕ → Out (List ℕ) → Out ℕ
-held at o = andThen (andThen (fromStart at o) (λ bs e. hold ((shortest bs orNo 2) ∷ []) at (got bs e))) (λ bs e. got (lowFirst bs) e)
+held at o = andThen (fromStart at o) (λ bs e. got (lowFirst bs) e)
 
 v64-held : (f : List ℕ) (at : ℕ) → v64 f at ≡ held at (coding 8 f at)
-unfolding v64 must started _>>=_ give
+unfolding v64 started _>>=_ give
 v64-held f at = refl
 
 with-first :
     (at b : ℕ) (o : Out (List ℕ)) → ((e : ℕ) → o ≡ got [] e → ⊥)
     → held at (andThen o (λ bs e. got (b ∷ bs) e)) ≡ finish at (b - 128) 128 o
-unfolding finish shortest lowFirst if_then_else_
+unfolding finish lowFirst
 with-first at b (got [] e) h = absurd (h e refl)
-with-first at b (got (c ∷ bs) e) h = by-rule (lastIsNot0 (c ∷ bs))
-  where
-    by-rule :
-        (t : Bool)
-        → andThen (hold ((t orNo 2) ∷ []) at (got (b ∷ c ∷ bs) e)) (λ a m. got (lowFirst a) m)
-        ≡ (if t then got (b - 128 + 128 * lowFirst (c ∷ bs)) e else no 2 at)
-    by-rule true = refl
-    by-rule false = refl
+with-first at b (got (c ∷ bs) e) h = refl
 with-first at b (no n p) h = refl
 
 -- ── the first byte ──
@@ -116,7 +110,7 @@ none-there f at h = answer-no (v64-held f at ∙ rw (cut f at 8 h)) (lit< tt)
 pub one-there :
     (f : List ℕ) (at b : ℕ) → at < length f → b ≡ getD f at 0 → b < 128
     → Read v64 (2 ^ 64) f at (Got b (record { at = at + 1 }))
-unfolding shortest lastIsNot0 lowFirst
+unfolding lowFirst
 one-there f at b room is h =
     answer-got (v64-held f at ∙ rw (last f at 8 room (λ i. rw (sym is) h), sym is)) (omega arith) (omega arith)
 
@@ -162,17 +156,11 @@ module _ {f : List ℕ} {at x w p left : ℕ} (R : Reading f at x w p left) wher
     stops : (0 < left → b < 128) → v64 f at ≡ finish at x w (got (b ∷ []) (p + 1))
     stops h = R .means ∙ rw (last f p left room (λ i. rw (sym is) (h i)), sym is)
 
-    pub reading-padded : (q : ℕ) → q ≡ at → b ≡ 0 → Read v64 (2 ^ 64) f at (No (record { number = 2; place = q }))
-    unfolding finish lastIsNot0 if_then_else_
-    reading-padded q here z =
-        rw here (answer-no (stops (λ i. omega arith) ∙ rw (le-ltb 0 b (omega arith))) (lit< tt))
-
     pub reading-last :
-        (y : ℕ) → y ≡ x + w * b → 0 < b → (0 < left → b < 128) → b < 256
+        (y : ℕ) → y ≡ x + w * b → (0 < left → b < 128) → b < 256
         → Read v64 (2 ^ 64) f at (Got y (record { at = p + 1 }))
-    unfolding finish lastIsNot0 lowFirst if_then_else_
-    reading-last y sum z h small =
-        rw sum (answer-got (stops h ∙ rw (lt-ltb 0 b z)) (omega arith) (fits b small .1))
+    unfolding finish lowFirst
+    reading-last y sum h small = rw sum (answer-got (stops h) (omega arith) (fits b small .1))
 
     pub reading-next :
         (y : ℕ) → y ≡ x + w * (b - 128) → 0 < left → 128 ≤ b → b < 256 → Reading f at y (w * 128) (p + 1) (left - 1)
@@ -191,3 +179,84 @@ module _ {f : List ℕ} {at x w p left : ℕ} (R : Reading f at x w p left) wher
               below = omega arith;
               power = rw one-less (weight-next w k (S .power));
             }
+
+-- ── where a coding ends ──
+
+abbrev goes : {A : Type 0} → Out A → Out (Unit {0})
+goes o = andThen o (λ a e. got tt e)
+
+-- of two bytes
+pub two-there :
+    (f : List ℕ) (at : ℕ) → at + 1 < length f → 128 ≤ getD f at 0 → getD f (at + 1) 0 < 128 → Past v64 f at (step.Got (record { at = at + 2 }))
+two-there f at room first second =
+    let end : at + 1 + 1 ≡ at + 2 = omega arith in
+    record {
+      says = sym (ap goes (v64-held f at) ∙ rw (more f at 7 (omega arith) first, last f (at + 1) 7 room (λ i. second), end) refl);
+      inside = λ h. omega arith;
+    }
+
+-- from its byte i on, up to the ninth: it has n bytes
+pub record Ending (f : List ℕ) (at i n : ℕ) : Type 0 where
+  pub means : goes (coding (8 - i) f (at + i)) ≡ got tt (at + n)
+  pub inside : at + n ≤ length f
+  pub low : 2 ≤ i
+  pub high : i ≤ 8
+
+pub ending-ninth : (f : List ℕ) (at : ℕ) → at + 9 ≤ length f → Ending f at 8 9
+ending-ninth f at room =
+    let end : at + 8 + 1 ≡ at + 9 = omega arith in
+    record {
+      means = rw (last f (at + 8) 0 (omega arith) (λ i. absurd (omega arith)), end) refl;
+      inside = room;
+      low = omega arith;
+      high = omega arith;
+    }
+
+module _ {f : List ℕ} {at i n : ℕ} (room : at + 9 ≤ length f) (E : Ending f at i n) (due : 2 < i) where
+  one-more : 8 - (i - 1) ≡ suc (8 - i)
+  one-more = omega (arith, E .high)
+
+  -- the byte before ends it, whatever comes behind
+  pub ending-here : getD f (at + (i - 1)) 0 < 128 → Ending f at (i - 1) (i - 1 + 1)
+  ending-here h =
+      let high = E .high in
+      let end : at + (i - 1) + 1 ≡ at + (i - 1 + 1) = omega arith in
+      record {
+        means = rw (one-more, last f (at + (i - 1)) (suc (8 - i)) (omega arith) (λ z. h), end) refl;
+        inside = omega arith;
+        low = omega arith;
+        high = omega arith;
+      }
+
+  -- it does not
+  pub ending-on : 128 ≤ getD f (at + (i - 1)) 0 → Ending f at (i - 1) n
+  ending-on h =
+      let high = E .high in
+      let next : at + (i - 1) + 1 ≡ at + i = omega arith in
+      record {
+        means = rw (one-more, more f (at + (i - 1)) (8 - i) (omega arith) h, next) (go (coding (8 - i) f (at + i)) (E .means));
+        inside = E .inside;
+        low = omega arith;
+        high = omega arith;
+      }
+    where
+      go : (o : Out (List ℕ)) → goes o ≡ got tt (at + n) → goes (andThen o (λ bs e. got (getD f (at + (i - 1)) 0 ∷ bs) e)) ≡ got tt (at + n)
+      go (got bs e) q = q
+      go (no k m) q = q
+
+pub ending-all : {f : List ℕ} {at i n : ℕ} → Ongoing f at → Ending f at i n → i ≤ 2 → Ended f at (at + n)
+ending-all {f} {at} {i} {n} G E h =
+    let room = G .room in
+    let two : i ≡ 2 = omega (arith, E .low) in
+    let here : at + 2 ≡ at + 1 + 1 = omega arith in
+    let rest : goes (coding 6 f (at + 1 + 1)) ≡ got tt (at + n) = rw (two, here) at (E .means) in
+    record {
+      says = ap goes (v64-held f at) ∙ rw (more f at 7 (omega arith) (G .first), more f (at + 1) 6 (omega arith) (G .second)) (go (coding 6 f (at + 1 + 1)) rest);
+      inside = E .inside;
+    }
+  where
+    go :
+        (o : Out (List ℕ)) → goes o ≡ got tt (at + n)
+        → goes (held at (andThen (andThen o (λ bs e. got (getD f (at + 1) 0 ∷ bs) e)) (λ bs e. got (getD f at 0 ∷ bs) e))) ≡ got tt (at + n)
+    go (got bs e) q = q
+    go (no k m) q = clash (cc q)

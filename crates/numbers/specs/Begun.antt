@@ -1,11 +1,24 @@
 -- A v64 of two bytes or more, whose first byte was read. Assumes nothing.
 use mathlib.Core.Path.{_≡_}
 use mathlib.Core.List.{List}
-use Prim.Native.Nat.{ℕ, _+_, _<_}
+use Prim.Native.Nat.{ℕ, _+_, _≤_, _<_}
 use lib.ListN.{length, getD}
+use Rattle.paper.specs.Reader.{got, andThen}
+use Rattle.paper.specs.Numbers.{v64}
 
 -- it stands at `at`, with `low` in its low seven bits, and the top bit set
 pub record Begun (f : List ℕ) (at low : ℕ) : Type 0 where
   pub room : at < length f
   pub byte : getD f at 0 ≡ 128 + low
   pub small : low < 128
+
+-- it stands at `at`, of its first two bytes each is followed by another, and the nine bytes that it may have are there
+pub record Ongoing (f : List ℕ) (at : ℕ) : Type 0 where
+  pub room : at + 9 ≤ length f
+  pub first : 128 ≤ getD f at 0
+  pub second : 128 ≤ getD f (at + 1) 0
+
+-- the one that stands at `at` ends at e
+pub record Ended (f : List ℕ) (at e : ℕ) : Type 0 where
+  pub says : andThen (v64 f at) (λ n e. got (tt {0}) e) ≡ got tt e
+  pub inside : e ≤ length f

@@ -110,15 +110,17 @@ abbrev pub noStep : Step → Refusal
 noStep (step.Got c) = record { number = 0; place = c .at }
 noStep (step.No e) = e
 
+-- a number passed over
+abbrev pub stepOf : Number → Step
+stepOf (Got x c) = step.Got c
+stepOf (No e) = step.No e
+
 -- the step goes where the reader `r` goes, and refuses as it does
 pub record Past (r : Reader ℕ) (f : List ℕ) (at : ℕ) (s : Step) : Type 0 where
   pub says : outStep s (tt {0}) ≡ andThen (r f at) (λ n e. got tt e)
   pub inside : at ≤ length f → stepPlace s ≤ length f
 
 -- a number that was read, passed over
-module _ {r : Reader ℕ} {b : ℕ} {f : List ℕ} {at : ℕ} {n : Number} (R : Read r b f at n) where
-  pub past-got : {x : ℕ} {c : Cursor} → n ≡ Got x c → Past r f at (step.Got c)
-  past-got h = let S = was-got R h in record { says = rw (S .says) refl; inside = S .inside }
-
-  pub past-no : {e u : Refusal} → n ≡ No e → u ≡ refusalOf n → Past r f at (step.No u)
-  past-no h q = let S = its-refusal R h q in record { says = rw (S .says) refl; inside = S .inside }
+pub read-past : {r : Reader ℕ} {b : ℕ} {f : List ℕ} {at : ℕ} (n : Number) → Read r b f at n → Past r f at (stepOf n)
+read-past (Got x c) R = record { says = ap (λ (o : Out ℕ). andThen o (λ m e. got (tt {0}) e)) (R .says); inside = R .inside }
+read-past (No u) R = record { says = ap (λ (o : Out ℕ). andThen o (λ m e. got (tt {0}) e)) (R .says); inside = R .inside }

@@ -3,11 +3,11 @@ pub mod sign;
 pub mod write;
 
 ghost use mathlib.Core.Path.{_≡_};
-ghost use Prim.Native.Nat.{_^_, _≤_, _<_};
+ghost use Prim.Native.Nat.{_+_, _^_, _≤_, _<_};
 ghost use Rattle.paper.specs.Numbers.{fixed, v64};
 ghost use Rattle.paper.specs.File.{small};
-ghost use Rattle.numbers.specs.Cursors.{Read, Past, refusalOf, noStep};
-ghost use Rattle.numbers.specs.Begun.{Begun};
+ghost use Rattle.numbers.specs.Cursors.{Read, Past, refusalOf, noStep, stepOf};
+ghost use Rattle.numbers.specs.Begun.{Begun, Ongoing, Ended};
 use paper::Ledger;
 
 // A place in the bytes, handed on by value.
@@ -24,9 +24,6 @@ pub struct Refusal {
 impl Refusal {
     // The bytes end within a number.
     pub const SHORT: u64 = 1;
-
-    // A v64 has more bytes than it needs.
-    pub const PADDED: u64 = 2;
 }
 
 // A number that was read, with the cursor behind it, or the refusal.
@@ -101,7 +98,7 @@ fn fixed_at(s: &[u8], at: usize, width: usize) -> Number
 }
 
 // The v64 that begins at `at` with a byte that another follows, and whose low seven bits are `low`: its other bytes. Each
-// but the ninth has seven bits, and none of them may be 00 where it is the last.
+// but the ninth has seven bits; a coding may be longer than its number needs.
 fn v64_on(s: &[u8], at: usize, low: u64) -> Number
     requires { ⌜ Begun (now s) at low ⌝ }
     ensures { λ r. ⌜ Read v64 (2 ^ 64) (now (s .entry)) at r ⌝ }
@@ -115,9 +112,6 @@ fn v64_on(s: &[u8], at: usize, low: u64) -> Number
             return refuse(Refusal::SHORT, at);
         }
         let b = wide(s[p]);
-        if b == 0 {
-            return refuse(Refusal::PADDED, at);
-        }
         p += 1;
         if b < 128 {
             let high = weight * b;
@@ -133,13 +127,37 @@ fn v64_on(s: &[u8], at: usize, low: u64) -> Number
         return refuse(Refusal::SHORT, at);
     }
     let b = wide(s[p]);
-    if b == 0 {
-        return refuse(Refusal::PADDED, at);
-    }
     let next = p + 1;
     let top = weight * b;
     let sum = x + top;
     Number::Got(sum, Cursor { at: next })
+}
+
+// A number passed over.
+fn passed(n: Number) -> Step
+    ensures { λ r. ⌜ r ≡ stepOf n ⌝ }
+{
+    match n {
+        Number::Got(_, next) => Step::Got(next),
+        Number::No(r) => Step::No(r),
+    }
+}
+
+// How many bytes the v64 has that begins at `at`, where each of its first two is followed by another and all nine that it may have are
+// there. They are looked at from the ninth back: of those that end it the first counts, and no jump depends on which it is.
+fn long_length(s: &[u8], at: usize) -> usize
+    requires { ⌜ Ongoing (now s) at ⌝ }
+    ensures { λ r. ⌜ Ended (now (s .entry)) at (at + r) ⌝ }
+{
+    let mut length: usize = 9;
+    let mut i: usize = 8;
+    while 2 < i {
+        i -= 1;
+        if wide(s[at + i]) < 128 {
+            length = i + 1;
+        }
+    }
+    length
 }
 
 impl Cursor {
@@ -158,7 +176,8 @@ impl Cursor {
         v64_on(s, at, b - 128)
     }
 
-    // Past a v64 of which nobody asks the value.
+    // Past a v64 of which nobody asks the value: no number is made of it. Of one byte or two, which most have, a look at each tells;
+    // near the end of the bytes the number is read after all.
     pub fn past_v64(self, s: &[u8]) -> Step
         ensures { λ r. ⌜ Past v64 (now (s .entry)) (self .at) r ⌝ }
     {
@@ -173,11 +192,15 @@ impl Cursor {
         if b < 128 {
             return Step::Got(Cursor { at: at + 1 });
         }
-        let a = v64_on(s, at, b - 128);
-        let Number::Got(_, next) = a else {
-            return Step::No(refused(a));
-        };
-        Step::Got(next)
+        if s.len() - at < 9 {
+            return passed(v64_on(s, at, b - 128));
+        }
+        if wide(s[at + 1]) < 128 {
+            return Step::Got(Cursor { at: at + 2 });
+        }
+        Step::Got(Cursor {
+            at: at + long_length(s, at),
+        })
     }
 
     // A count, local start or length, which is held to the bound of objects.

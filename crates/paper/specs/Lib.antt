@@ -9,7 +9,9 @@ pub mod Rules
 pub mod Maps
 pub mod File
 pub mod Places
+pub mod Pieces
 pub mod Encode
+pub mod Spell
 pub mod Listing
 pub mod Keeps
 pub mod Scan

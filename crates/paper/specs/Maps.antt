@@ -62,7 +62,7 @@ atFirst none one size (k ∷ []) e = one k e
 atFirst none one size (k ∷ l ∷ ks) e = size e
 
 -- what is written of the maps that are due, one after the other
-unfoldable pub throughMaps : (ℕ → Element → List ℕ) → (Element → List ℕ) → List Element → List (List ℕ) → List ℕ
+unfoldable pub throughMaps : {B : Type 0} → (ℕ → Element → List B) → (Element → List B) → List Element → List (List ℕ) → List B
 throughMaps one size [] due = []
 throughMaps one size (e ∷ es) [] = []
 throughMaps one size (e ∷ es) (ks ∷ due) = atFirst [] one size ks e ++ throughMaps one size es (opened ks e ++ due)

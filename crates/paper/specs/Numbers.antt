@@ -1,11 +1,10 @@
--- "Numbers": v64 in shortest coding, and fixed widths, highest byte first; read and written. Assumes nothing.
-use mathlib.Core.Bool.{Bool, true, false}
+-- "Numbers": v64, read in every coding and written in the shortest; fixed widths, highest byte first. Assumes nothing.
 use mathlib.Core.List.{List, [], _∷_, _++_}
 use Prim.Native.Nat.{ℕ, zero, suc, _+_, _-_, _*_, _^_, _/_, _%_}
-use lib.Dec.{leb, ltb, eqb}
+use lib.Dec.{leb, ltb}
 use lib.IntN.{ℤ, pos, negsuc}
 use lib.ListN.{length}
-use Rattle.paper.specs.Reader.{if_then_else_, Reader, _>>=_, give, must, started, Rule, _orNo_, bytes}
+use Rattle.paper.specs.Reader.{if_then_else_, Reader, _>>=_, give, must, started, Rule, bytes}
 
 -- ── fixed widths: two's complement, and the bits of floats ──
 
@@ -53,21 +52,12 @@ lowFirst [] = 0
 lowFirst (b ∷ []) = b
 lowFirst (b ∷ c ∷ bs) = b - 128 + 128 * lowFirst (c ∷ bs)
 
-unfoldable pub lastIsNot0 : List ℕ → Bool
-lastIsNot0 [] = true
-lastIsNot0 (b ∷ []) = ltb 0 b
-lastIsNot0 (b ∷ c ∷ bs) = lastIsNot0 (c ∷ bs)
-
--- in a coding of two or more bytes the last byte is not 00
-unfoldable pub shortest : List ℕ → Bool
-shortest [] = true
-shortest (b ∷ bs) = lastIsNot0 bs
-
 unfoldable pub v64 : Reader ℕ
 v64 = do
-  bs ← must (started (coding 8)) λ bs. (shortest bs orNo 2) ∷ []
+  bs ← started (coding 8)
   give (lowFirst bs)
 
+-- the shortest coding
 unfoldable pub putV64 : ℕ → ℕ → List ℕ
 putV64 zero n = n ∷ []
 putV64 (suc k) n = if ltb n 128 then n ∷ [] else (128 + n % 128) ∷ putV64 k (n / 128)

@@ -4,7 +4,7 @@ use mathlib.Core.List.{List, [], _∷_, _++_}
 use Prim.Native.Nat.{ℕ, _-_, _^_}
 use lib.IntN.{ℤ, pos, negsuc}
 use lib.ListN.{replicate, length}
-use Rattle.paper.specs.Reader.{Out, got, no}
+use Rattle.paper.specs.Reader.{Out, got}
 use Rattle.paper.specs.Numbers.{v64, signed, put, unsigned}
 use Rattle.paper.specs.File.{file}
 use Rattle.paper.specs.Encode.{encode}
@@ -46,8 +46,8 @@ pub table :
     Codes (replicate 8 0x80 ++ 0x01 ∷ []) (pos (2 ^ 56)) ×
     Codes (replicate 9 0x80) (negsuc (2 ^ 63 - 1)) ×
     Codes (replicate 9 0xFF) (negsuc 0) ×
-    (v64 (0x80 ∷ 0x00 ∷ []) 0 ≡ no 2 0) ×
-    (v64 (replicate 8 0x80 ++ 0x00 ∷ []) 0 ≡ no 2 0) ×
+    (v64 (0x80 ∷ 0x00 ∷ []) 0 ≡ got 0 2) ×
+    (v64 (replicate 8 0x80 ++ 0x00 ∷ []) 0 ≡ got 0 9) ×
     (signed 1 0x7F ≡ pos 127) ×
     (signed 1 0x80 ≡ negsuc 127) ×
     (length D ≡ 29) ×

@@ -10,7 +10,7 @@ use lib.IntN.{ℤ}
 use borrow.Author.Tests.{le-leb, lt-ltb, le-ltb}
 use Rattle.paper.specs.Reader.{if_then_else_}
 use Rattle.paper.specs.Numbers.{signed, putFixed, put}
-use Rattle.paper.specs.Encode.{putWhole, putKind}
+use Rattle.laws.specs.Put.{putWhole, putKind}
 use Rattle.laws.specs.Values.{unsigned-signed, pow-more, two-pow}
 use Rattle.table.specs.View.{kindFrom}
 use Rattle.values.specs.Constants.{Capped, signed-capped}

@@ -15,7 +15,8 @@ use Rattle.paper.specs.Lists.{flat, all}
 use Rattle.paper.specs.Listing.{ascii, newline, hexDigits, hex, line, stringLine}
 use Rattle.paper.specs.Keeps.{bytes?}
 use Rattle.paper.specs.Scan.{hexBytes}
-use Rattle.paper.specs.Encode.{endsFrom, putStrings}
+use Rattle.paper.specs.Pieces.{endsFrom}
+use Rattle.laws.specs.Put.{putStrings}
 use Rattle.laws.specs.Bools.{and-split}
 use Rattle.laws.specs.Hexes.{hexBytes-whole}
 use Rattle.lay.specs.Laid.{Laid, laid-then, laid-as}

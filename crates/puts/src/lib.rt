@@ -7,7 +7,7 @@ ghost use Prim.Native.Nat.{_≤_};
 ghost use Rattle.paper.specs.Reader.{if_then_else_};
 ghost use Rattle.paper.specs.Numbers.{put};
 ghost use Rattle.paper.specs.Lists.{given?};
-ghost use Rattle.paper.specs.Encode.{putOption, putHead, putWhole, putKind, putNew};
+ghost use Rattle.laws.specs.Put.{putOption, putHead, putWhole, putKind, putNew};
 ghost use Rattle.lay.specs.Laid.{Laid};
 ghost use Rattle.table.specs.View.{kindFrom};
 ghost use Rattle.words.specs.Answers.{option};

@@ -9,7 +9,7 @@ ghost use Rattle.paper.specs.Numbers.{putFixed};
 ghost use Rattle.paper.specs.Lists.{flat, all};
 ghost use Rattle.paper.specs.Listing.{hex};
 ghost use Rattle.paper.specs.Keeps.{bytes?};
-ghost use Rattle.paper.specs.Encode.{putStrings};
+ghost use Rattle.laws.specs.Put.{putStrings};
 ghost use Rattle.lay.specs.Laid.{Laid};
 ghost use Rattle.table.specs.View.{strsOf, Ok, Holds, stringsIn};
 ghost use Rattle.puts.specs.Strings.{endBehind, endsBehind, bytesIn};

@@ -12,7 +12,8 @@ use Rattle.paper.specs.Lists.{total}
 use Rattle.paper.specs.File.{what}
 use Rattle.paper.specs.Ledger.{Due, State, fieldAt}
 use Rattle.paper.specs.Rules.{entered?}
-use Rattle.paper.specs.Encode.{zip, putChunks}
+use Rattle.paper.specs.Pieces.{zip}
+use Rattle.paper.specs.Encode.{putChunks}
 use Rattle.laws.specs.Pools.{Pooled}
 use Rattle.lay.specs.Laid.{most}
 use Rattle.table.specs.View.{duesOf, view, said, Said}

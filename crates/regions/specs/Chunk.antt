@@ -1,5 +1,5 @@
 -- One chunk that is due: the lines of its values, by what the table says of its field. Assumes nothing.
-use mathlib.Core.Path.{_≡_, refl, sym, ap, _∙_, subst}
+use mathlib.Core.Path.{_≡_, refl, sym, ap, _∙_, subst, fun-ext}
 use mathlib.Core.Bool.{false}
 use mathlib.Core.List.{List}
 use Prim.Native.Nat.{ℕ, _≤_, _<_}
@@ -12,9 +12,10 @@ use borrow.Author.Tests.{le-leb}
 use Rattle.paper.specs.Reader.{if_then_else_, repeat}
 use Rattle.paper.specs.Numbers.{putFixed}
 use Rattle.paper.specs.Lists.{flat}
-use Rattle.paper.specs.Ledger.{Kind, mapping, Field, State, noField, fieldAt}
+use Rattle.paper.specs.Ledger.{Kind, mapping, Field, State, noField, fieldAt, Chunk}
 use Rattle.paper.specs.Rules.{annotation?}
-use Rattle.paper.specs.Encode.{putValue, putChunk}
+use Rattle.paper.specs.Encode.{putChunk}
+use Rattle.laws.specs.Put.{putValue, put-chunk}
 use Rattle.paper.specs.Scan.{valueText, chunkText}
 use Rattle.table.specs.View.{kindFrom, fldsOf, logOf, view, Holds, stringsIn}
 use Rattle.table.specs.Answers.{fieldIn, dueIn}
@@ -108,6 +109,7 @@ row-told n row l is these T = rw is (rw these at T)
 pub chunk-told :
     (d : DueRow) (row : FieldRow) (l : List ℕ) {t : List ℕ} {from : ℕ} {out : List ℕ} {at : ℕ} {m : List ℕ} {r : TextRead} → fieldIn row ≡ getD (fldsOf l) (d .field) noField
     → KindTaken (d .values) row l t from out at m r → Told (chunkText (view t l) (dueIn d .0)) (putChunk (view t l) (dueIn d .0)) t from out at m r
-unfolding chunkText putChunk fieldAt
+unfolding chunkText fieldAt
 chunk-told d row l {t} {from} {out} {at} {m} {r} is T =
-    subst (λ (k : Kind). Told (repeat (d .values) (valueText (view t l) k)) (flat (putValue k)) t from out at m r) (ap (λ (x : Field). x .kind) is) T
+    subst (λ (w : Chunk → List ℕ). Told (repeat (d .values) (valueText (view t l) (fieldAt (view t l) (d .field) .kind))) w t from out at m r) (sym (fun-ext (put-chunk (view t l) (dueIn d .0))))
+    (subst (λ (k : Kind). Told (repeat (d .values) (valueText (view t l) k)) (flat (putValue k)) t from out at m r) (ap (λ (x : Field). x .kind) is) T)

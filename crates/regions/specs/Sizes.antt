@@ -6,7 +6,8 @@ use native.Mathlib.Omega.{arith}
 use lib.ListN.{length, getD}
 use Rattle.paper.specs.File.{what}
 use Rattle.paper.specs.Ledger.{Chunk, Due, State}
-use Rattle.paper.specs.Encode.{zip, putChunk, putChunks}
+use Rattle.paper.specs.Pieces.{zip}
+use Rattle.paper.specs.Encode.{putChunk, putChunks}
 use Rattle.lay.specs.Laid.{most}
 use Rattle.table.specs.Answers.{noDue}
 use Rattle.table.specs.Sizes.{resized}

@@ -8,7 +8,7 @@ use lib.ListN.{length, getD, drop, length-append, drop-of-length-le}
 use lib.Seq.{drop-cons}
 use Rattle.paper.specs.Lists.{flat}
 use Rattle.paper.specs.Ledger.{Due}
-use Rattle.paper.specs.Encode.{zip}
+use Rattle.paper.specs.Pieces.{zip}
 use Rattle.lay.specs.Laid.{most}
 use Rattle.table.specs.Answers.{dueIn, noDue}
 use Rattle.table.specs.declared.rows.DueRow.{DueRow}

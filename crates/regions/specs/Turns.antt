@@ -8,7 +8,8 @@ use Rattle.paper.specs.Reader.{got, no}
 use Rattle.paper.specs.Lists.{flat}
 use Rattle.paper.specs.File.{what}
 use Rattle.paper.specs.Ledger.{Chunk, Due, State}
-use Rattle.paper.specs.Encode.{zip, putChunk, putChunks}
+use Rattle.paper.specs.Pieces.{zip}
+use Rattle.paper.specs.Encode.{putChunk, putChunks}
 use Rattle.paper.specs.Scan.{chunkText}
 use Rattle.laws.specs.Pools.{Pooled}
 use Rattle.lay.specs.Laid.{most}

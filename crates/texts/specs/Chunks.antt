@@ -16,7 +16,7 @@ use Rattle.paper.specs.Numbers.{signed, put}
 use Rattle.paper.specs.Ledger.{constant, Element, annotation, State}
 use Rattle.paper.specs.Rules.{smallRules, elementKind?}
 use Rattle.paper.specs.Keeps.{number?, element?, value?}
-use Rattle.paper.specs.Encode.{putElement, putValue}
+use Rattle.laws.specs.Put.{putElement, putValue}
 use Rattle.paper.specs.Listing.{ascii, tab, newline}
 use Rattle.paper.specs.Scan.{heed, byteIs, literal, ended, natural, readElement, readValue, readLine, valueText}
 use Rattle.lay.specs.Laid.{Laid, laid-then, laid-as}

@@ -15,7 +15,7 @@ use Rattle.paper.specs.Reader.{if_then_else_, Reader, Out, got, no as bad, andT
 use Rattle.paper.specs.Numbers.{signed, unsigned, putFixed, put}
 use Rattle.paper.specs.Ledger.{Element, flag, whole, float, link, annotation, keys, State}
 use Rattle.paper.specs.Rules.{singleKind?, elementKind?, link?, linkRules, annotation?}
-use Rattle.paper.specs.Encode.{putWhole, putElement}
+use Rattle.laws.specs.Put.{putWhole, putElement}
 use Rattle.paper.specs.Keeps.{hold?, number?, signed?, whole?, element?}
 use Rattle.paper.specs.Listing.{tab}
 use Rattle.paper.specs.Scan.{heed, ended, natural, integer, hexOn, readFlag, readElement}

@@ -8,7 +8,7 @@ use Rattle.paper.specs.Lists.{flat, all}
 use Rattle.paper.specs.Ledger.{mapping, Element, State}
 use Rattle.paper.specs.Rules.{elementKind?}
 use Rattle.paper.specs.Keeps.{element?, value?}
-use Rattle.paper.specs.Encode.{putValue}
+use Rattle.laws.specs.Put.{putValue}
 use Rattle.paper.specs.Listing.{ascii, newline}
 use Rattle.paper.specs.Scan.{heed, byteIs, literal, ended, readMap, readLine, valueText}
 use Rattle.laws.specs.Bools.{and-split}

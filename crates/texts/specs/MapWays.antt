@@ -13,7 +13,7 @@ use Rattle.paper.specs.Ledger.{Element, keys}
 use Rattle.paper.specs.Maps.{keyAndRest, mapOf, sizeOf, keysDue, opened, atFirst, throughMaps}
 use Rattle.paper.specs.Rules.{smallRules}
 use Rattle.paper.specs.Keeps.{hold?, number?}
-use Rattle.paper.specs.Encode.{putElement, putSize}
+use Rattle.laws.specs.Put.{putElement, putSize}
 use Rattle.paper.specs.Numbers.{put}
 use Rattle.paper.specs.Listing.{ascii, tab, newline}
 use Rattle.paper.specs.Scan.{bad as stop, heed, byteIs, literal, ended, natural}

@@ -10,7 +10,7 @@ use Rattle.paper.specs.Ledger.{Element, keys}
 use Rattle.paper.specs.Maps.{keyAndRest, mapOf, sizeOf, size?, keysDue, opened, atFirst, throughMaps, allThrough}
 use Rattle.paper.specs.Rules.{smallRules}
 use Rattle.paper.specs.Keeps.{number?, sized?}
-use Rattle.paper.specs.Encode.{putElement, putSize}
+use Rattle.laws.specs.Put.{putElement, putSize}
 use Rattle.paper.specs.Listing.{tab}
 use Rattle.paper.specs.Scan.{bad as stop, heed, byteIs, natural, readElement, mapWords}
 use Rattle.laws.specs.Laws.{not-got}

@@ -11,7 +11,7 @@ ghost use Rattle.paper.specs.Reader.{repeat};
 ghost use Rattle.paper.specs.Lists.{flat};
 ghost use Rattle.paper.specs.Rules.{elementKind?};
 ghost use Rattle.paper.specs.Listing.{newline};
-ghost use Rattle.paper.specs.Encode.{putElement};
+ghost use Rattle.laws.specs.Put.{putElement};
 ghost use Rattle.paper.specs.Scan.{ended};
 ghost use Rattle.values.specs.Chunks.{Kinds};
 ghost use Rattle.texts.specs.Elements.{kept, noted};

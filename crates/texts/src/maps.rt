@@ -6,7 +6,7 @@ ghost use Prim.Native.Nat.{_≤_};
 ghost use lib.ListN.{length};
 ghost use Rattle.paper.specs.Lists.{all};
 ghost use Rattle.paper.specs.Rules.{elementKind?};
-ghost use Rattle.paper.specs.Encode.{putElement};
+ghost use Rattle.laws.specs.Put.{putElement};
 ghost use Rattle.words.specs.Answers.{outNumber};
 ghost use Rattle.values.specs.Spans.{Grouped};
 ghost use Rattle.texts.specs.Told.{Told};

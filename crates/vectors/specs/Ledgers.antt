@@ -11,7 +11,8 @@ use Rattle.paper.specs.Reader.{Out, got, no, Rule, _orNo_}
 use Rattle.paper.specs.Ledger.{Kind, constant, plain, array, many, Element, flag, whole, float, link, New, Head, Entry, Chunk, Pair, Ledger, Typ, Field, Range, State, nothing, Due}
 use Rattle.paper.specs.Rules.{smallRules, withStrings}
 use Rattle.paper.specs.File.{file}
-use Rattle.paper.specs.Encode.{endsFrom, putStrings, putOption, putHead, putWhole, putKind, putNew, zip, putFields, putElement, putValue, putChunks, encode}
+use Rattle.paper.specs.Pieces.{endsFrom, stringPieces, optionPieces, headPieces, wholePieces, kindPieces, newPieces, zip, fieldPieces, elementPieces, valuePieces}
+use Rattle.paper.specs.Encode.{write, putChunks, encode}
 use Rattle.paper.specs.Listing.{ascii, print}
 use Rattle.paper.specs.Keeps.{every, hold?, number?, only?, bytes?, head?, signed?, whole?, kindKept?, new-field?, entry?, element?, value?, chunk?, chunks?, pair?, keeps?}
 use Rattle.paper.specs.Calls.{done, check}
@@ -373,49 +374,49 @@ papers-written = (refl, refl, refl, refl, refl, refl)
 pieces-written :
     (endsFrom 3 [] ≡ []) ×
     (endsFrom 3 ((7 ∷ 7 ∷ []) ∷ [] ∷ (7 ∷ []) ∷ []) ≡ 5 ∷ 5 ∷ 6 ∷ []) ×
-    (putStrings [] ≡ 0x00 ∷ []) ×
-    (putStrings (a ∷ [] ∷ (98 ∷ 99 ∷ []) ∷ []) ≡ 0x03 ∷ 0x00 ∷ 0x00 ∷ 0x00 ∷ 0x01 ∷ 0x00 ∷ 0x00 ∷ 0x00 ∷ 0x01 ∷ 0x00 ∷ 0x00 ∷ 0x00 ∷ 0x03 ∷ 97 ∷ 98 ∷ 99 ∷ []) ×
-    (putOption none ≡ []) ×
-    (putOption (some 300) ≡ 0xAC ∷ 0x02 ∷ []) ×
-    (putHead (record { name = 1; super = some 0; start = none; count = 3 }) ≡ 0x01 ∷ 0x00 ∷ 0x03 ∷ 0x00 ∷ []) ×
-    (putHead (record { name = 1; super = some 4; start = some 5; count = 3 }) ≡ 0x01 ∷ 0x04 ∷ 0x05 ∷ 0x03 ∷ 0x00 ∷ []) ×
-    (putHead (record { name = 1; super = none; start = some 5; count = 3 }) ≡ 0x01 ∷ 0x05 ∷ 0x03 ∷ []) ×
-    (putHead (record { name = 1; super = none; start = none; count = 3 }) ≡ 0x01 ∷ 0x03 ∷ []) ×
-    (putWhole 0 (negsuc 0) ≡ 0xFF ∷ []) ×
-    (putWhole 1 (negsuc 255) ≡ 0xFF ∷ 0x00 ∷ []) ×
-    (putWhole 2 (pos 0x01020304) ≡ 0x01 ∷ 0x02 ∷ 0x03 ∷ 0x04 ∷ []) ×
-    (putWhole 3 (pos 0x0102030405060708) ≡ 0x01 ∷ 0x02 ∷ 0x03 ∷ 0x04 ∷ 0x05 ∷ 0x06 ∷ 0x07 ∷ 0x08 ∷ []) ×
-    (putWhole 4 (pos 300) ≡ 0xAC ∷ 0x02 ∷ []) ×
-    (putWhole 4 (negsuc 0) ≡ replicate 9 0xFF) ×
-    (putKind (constant 1 (pos 2)) ≡ 0x01 ∷ 0x00 ∷ 0x02 ∷ []) ×
-    (putKind (constant 4 (pos 2)) ≡ 0x04 ∷ 0x02 ∷ []) ×
-    (putKind (plain 300) ≡ 0xAC ∷ 0x02 ∷ []) ×
-    (putKind (array 300 7) ≡ 0x0F ∷ 0xAC ∷ 0x02 ∷ 0x07 ∷ []) ×
-    (putKind (many 18 300) ≡ 0x12 ∷ 0xAC ∷ 0x02 ∷ []) ×
-    (putNew (field (plain 7) 3, 300) ≡ 0x00 ∷ 0x07 ∷ 0x03 ∷ 0xAC ∷ 0x02 ∷ [])
+    (write (stringPieces []) ≡ 0x00 ∷ []) ×
+    (write (stringPieces (a ∷ [] ∷ (98 ∷ 99 ∷ []) ∷ [])) ≡ 0x03 ∷ 0x00 ∷ 0x00 ∷ 0x00 ∷ 0x01 ∷ 0x00 ∷ 0x00 ∷ 0x00 ∷ 0x01 ∷ 0x00 ∷ 0x00 ∷ 0x00 ∷ 0x03 ∷ 97 ∷ 98 ∷ 99 ∷ []) ×
+    (write (optionPieces none) ≡ []) ×
+    (write (optionPieces (some 300)) ≡ 0xAC ∷ 0x02 ∷ []) ×
+    (write (headPieces (record { name = 1; super = some 0; start = none; count = 3 })) ≡ 0x01 ∷ 0x00 ∷ 0x03 ∷ 0x00 ∷ []) ×
+    (write (headPieces (record { name = 1; super = some 4; start = some 5; count = 3 })) ≡ 0x01 ∷ 0x04 ∷ 0x05 ∷ 0x03 ∷ 0x00 ∷ []) ×
+    (write (headPieces (record { name = 1; super = none; start = some 5; count = 3 })) ≡ 0x01 ∷ 0x05 ∷ 0x03 ∷ []) ×
+    (write (headPieces (record { name = 1; super = none; start = none; count = 3 })) ≡ 0x01 ∷ 0x03 ∷ []) ×
+    (write (wholePieces 0 (negsuc 0)) ≡ 0xFF ∷ []) ×
+    (write (wholePieces 1 (negsuc 255)) ≡ 0xFF ∷ 0x00 ∷ []) ×
+    (write (wholePieces 2 (pos 0x01020304)) ≡ 0x01 ∷ 0x02 ∷ 0x03 ∷ 0x04 ∷ []) ×
+    (write (wholePieces 3 (pos 0x0102030405060708)) ≡ 0x01 ∷ 0x02 ∷ 0x03 ∷ 0x04 ∷ 0x05 ∷ 0x06 ∷ 0x07 ∷ 0x08 ∷ []) ×
+    (write (wholePieces 4 (pos 300)) ≡ 0xAC ∷ 0x02 ∷ []) ×
+    (write (wholePieces 4 (negsuc 0)) ≡ replicate 9 0xFF) ×
+    (write (kindPieces (constant 1 (pos 2))) ≡ 0x01 ∷ 0x00 ∷ 0x02 ∷ []) ×
+    (write (kindPieces (constant 4 (pos 2))) ≡ 0x04 ∷ 0x02 ∷ []) ×
+    (write (kindPieces (plain 300)) ≡ 0xAC ∷ 0x02 ∷ []) ×
+    (write (kindPieces (array 300 7)) ≡ 0x0F ∷ 0xAC ∷ 0x02 ∷ 0x07 ∷ []) ×
+    (write (kindPieces (many 18 300)) ≡ 0x12 ∷ 0xAC ∷ 0x02 ∷ []) ×
+    (write (newPieces (field (plain 7) 3, 300)) ≡ 0x00 ∷ 0x07 ∷ 0x03 ∷ 0xAC ∷ 0x02 ∷ [])
 unfolding all
 pieces-written = (refl, refl, refl, refl, refl, refl, refl, refl, refl, refl, refl, refl, refl, refl, refl, refl, refl, refl, refl, refl, refl, refl)
 
 values-written :
-    (putFields 0 [] [] ≡ 0x00 ∷ []) ×
-    (putFields 2 (field (plain 7) 3 ∷ []) (4 ∷ 5 ∷ 6 ∷ []) ≡ 0x03 ∷ 0x04 ∷ 0x05 ∷ 0x00 ∷ 0x07 ∷ 0x03 ∷ 0x06 ∷ []) ×
+    (write (fieldPieces 0 [] []) ≡ 0x00 ∷ []) ×
+    (write (fieldPieces 2 (field (plain 7) 3 ∷ []) (4 ∷ 5 ∷ 6 ∷ [])) ≡ 0x03 ∷ 0x04 ∷ 0x05 ∷ 0x00 ∷ 0x07 ∷ 0x03 ∷ 0x06 ∷ []) ×
     (zip {A = ℕ} {B = ℕ} [] (1 ∷ []) ≡ []) ×
     (zip {A = ℕ} {B = ℕ} (1 ∷ []) [] ≡ []) ×
     (zip {A = ℕ} {B = ℕ} (1 ∷ 2 ∷ []) (3 ∷ 4 ∷ 5 ∷ []) ≡ (1, 3) ∷ (2, 4) ∷ []) ×
-    (putElement 6 (flag true) ≡ 0xFF ∷ []) ×
-    (putElement 6 (flag false) ≡ 0x00 ∷ []) ×
-    (putElement 7 (whole (negsuc 1)) ≡ 0xFE ∷ []) ×
-    (putElement 8 (whole (negsuc 1)) ≡ 0xFF ∷ 0xFE ∷ []) ×
-    (putElement 11 (whole (pos 128)) ≡ 0x80 ∷ 0x01 ∷ []) ×
-    (putElement 12 (float 4 0xFF800001) ≡ 0xFF ∷ 0x80 ∷ 0x00 ∷ 0x01 ∷ []) ×
-    (putElement 13 (float 8 1) ≡ replicate 7 0x00 ++ 0x01 ∷ []) ×
-    (putElement 14 (link 300) ≡ 0xAC ∷ 0x02 ∷ []) ×
-    (putValue (constant 0 (pos 5)) [] ≡ []) ×
-    (putValue (constant 0 (pos 5)) (whole (pos 5) ∷ []) ≡ []) ×
-    (putValue (plain 8) (whole (pos 5) ∷ []) ≡ 0x00 ∷ 0x05 ∷ []) ×
-    (putValue (array 2 8) (whole (pos 5) ∷ whole (pos 6) ∷ []) ≡ 0x00 ∷ 0x05 ∷ 0x00 ∷ 0x06 ∷ []) ×
-    (putValue (many 17 8) (whole (pos 5) ∷ whole (pos 6) ∷ []) ≡ 0x02 ∷ 0x00 ∷ 0x05 ∷ 0x00 ∷ 0x06 ∷ []) ×
-    (putValue (many 17 8) [] ≡ 0x00 ∷ []) ×
+    (write (elementPieces 6 (flag true)) ≡ 0xFF ∷ []) ×
+    (write (elementPieces 6 (flag false)) ≡ 0x00 ∷ []) ×
+    (write (elementPieces 7 (whole (negsuc 1))) ≡ 0xFE ∷ []) ×
+    (write (elementPieces 8 (whole (negsuc 1))) ≡ 0xFF ∷ 0xFE ∷ []) ×
+    (write (elementPieces 11 (whole (pos 128))) ≡ 0x80 ∷ 0x01 ∷ []) ×
+    (write (elementPieces 12 (float 4 0xFF800001)) ≡ 0xFF ∷ 0x80 ∷ 0x00 ∷ 0x01 ∷ []) ×
+    (write (elementPieces 13 (float 8 1)) ≡ replicate 7 0x00 ++ 0x01 ∷ []) ×
+    (write (elementPieces 14 (link 300)) ≡ 0xAC ∷ 0x02 ∷ []) ×
+    (write (valuePieces (constant 0 (pos 5)) []) ≡ []) ×
+    (write (valuePieces (constant 0 (pos 5)) (whole (pos 5) ∷ [])) ≡ []) ×
+    (write (valuePieces (plain 8) (whole (pos 5) ∷ [])) ≡ 0x00 ∷ 0x05 ∷ []) ×
+    (write (valuePieces (array 2 8) (whole (pos 5) ∷ whole (pos 6) ∷ [])) ≡ 0x00 ∷ 0x05 ∷ 0x00 ∷ 0x06 ∷ []) ×
+    (write (valuePieces (many 17 8) (whole (pos 5) ∷ whole (pos 6) ∷ [])) ≡ 0x02 ∷ 0x00 ∷ 0x05 ∷ 0x00 ∷ 0x06 ∷ []) ×
+    (write (valuePieces (many 17 8) []) ≡ 0x00 ∷ []) ×
     (putChunks (fielded 1) [] ((i8 5 ∷ []) ∷ []) ≡ []) ×
     (putChunks (fielded 1) (record { field = 0; values = 1 } ∷ []) [] ≡ []) ×
     (putChunks (fielded 1) (record { field = 0; values = 1 } ∷ []) ((i8 5 ∷ i8 6 ∷ []) ∷ []) ≡ (0x05 ∷ 0x06 ∷ []) ∷ [])
@@ -428,7 +429,7 @@ twice = pairOf (a ∷ b ∷ []) (base 1 1 (field (plain 7) 1 ∷ []) ∷ more 1 
 
 twice-said :
     (keeps? twice ≡ false) ×
-    (encode twice ≡ putStrings (a ∷ b ∷ []) ++ 0x02 ∷ 0x01 ∷ 0x00 ∷ 0x01 ∷ 0x00 ∷ 0x01 ∷ 0x00 ∷ 0x07 ∷ 0x01 ∷ 0x01 ∷ 0x01 ∷ 0x01 ∷ 0x02 ∷ 0x02 ∷ 0x00 ∷ 0x07 ∷ 0x02 ∷ 0x04 ∷ 0x05 ∷ 0x06 ∷ 0x07 ∷ 0x08 ∷ []) ×
+    (encode twice ≡ write (stringPieces (a ∷ b ∷ [])) ++ 0x02 ∷ 0x01 ∷ 0x00 ∷ 0x01 ∷ 0x00 ∷ 0x01 ∷ 0x00 ∷ 0x07 ∷ 0x01 ∷ 0x01 ∷ 0x01 ∷ 0x01 ∷ 0x02 ∷ 0x02 ∷ 0x00 ∷ 0x07 ∷ 0x02 ∷ 0x04 ∷ 0x05 ∷ 0x06 ∷ 0x07 ∷ 0x08 ∷ []) ×
     (print twice ≡ ascii "pair\t2\t2\nstr\t61\nstr\t62\ntype\t1\t0\t-\t1\t1\nnew\t7\t1\ntype\t1\t-\t-\t1\t2\nold\nnew\t7\t2\nval\t5\nval\t6\nval\t7\nval\t8\n")
 unfolding all
 twice-said = (refl, refl, refl)

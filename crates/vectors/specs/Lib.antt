@@ -10,6 +10,7 @@ pub mod Values
 pub mod References
 pub mod Annotations
 pub mod Maps
+pub mod Padded
 pub mod LongFile
 pub mod Questions
 pub mod Ledgers

@@ -24,14 +24,14 @@ use Rattle.paper.specs.Whole.{whole}
 abbrev oneString : ℕ → Ledger
 oneString n = record { strings = replicate n 0 ∷ []; entries = []; chunks = [] } ∷ []
 
-tail-length : (xs : List ℕ) → length (xs ++ [] ++ 0 ∷ [] ++ [] ++ [] ++ []) ≡ length xs + 1
+tail-length : (xs : List ℕ) → length (xs ++ [] ++ 0 ∷ [] ++ [] ++ []) ≡ length xs + 1
 tail-length [] = refl
 tail-length (x ∷ xs) = omega (arith, tail-length xs)
 
 encoded-length : (n : ℕ) → length (encode (oneString n)) ≡ n + 6
 unfolding whole
 encoded-length n =
-    let laid : length (encode (oneString n)) ≡ suc (suc (suc (suc (suc (length {A = ℕ} (replicate n 0 ++ [] ++ 0 ∷ [] ++ [] ++ [] ++ [])))))) = refl in
+    let laid : length (encode (oneString n)) ≡ suc (suc (suc (suc (suc (length {A = ℕ} (replicate n 0 ++ [] ++ 0 ∷ [] ++ [] ++ [])))))) = refl in
     omega (arith, laid, tail-length (replicate n 0), length-replicate {A = ℕ} n 0)
 
 low : (n : ℕ) → all (λ b. ltb b 256) (replicate n 0) ≡ true

@@ -11,7 +11,8 @@ use Rattle.paper.specs.Reader.{got, no}
 use Rattle.paper.specs.Ledger.{plain, array, many, mapping, Element, flag, whole, link, annotation, keys, State, nothing}
 use Rattle.paper.specs.Rules.{elementKind?, singleKind?, noted, kindStands?, annotation?}
 use Rattle.paper.specs.Maps.{keysDue, opened}
-use Rattle.paper.specs.Encode.{putKind, putValue}
+use Rattle.paper.specs.Pieces.{kindPieces, valuePieces}
+use Rattle.paper.specs.Encode.{write}
 use Rattle.paper.specs.Keeps.{kindKept?, element?, value?}
 use Rattle.paper.specs.Listing.{ascii, kindWord, elementWord, valueLine}
 use Rattle.paper.specs.Scan.{readKind, readElement, readLine}
@@ -54,7 +55,7 @@ kinds-of-maps :
     (noted (mapping (254 ∷ 255 ∷ 256 ∷ [])) ≡ mapping (254 ∷ 255 ∷ 255 ∷ [])) ×
     (asked (plain 5) ≡ 33) ×
     (asked (mapping (14 ∷ 11 ∷ [])) ≡ 33) ×
-    (putKind (mapping (14 ∷ 11 ∷ 7 ∷ [])) ≡ 0x14 ∷ 0x03 ∷ 0x0E ∷ 0x0B ∷ 0x07 ∷ []) ×
+    (write (kindPieces (mapping (14 ∷ 11 ∷ 7 ∷ []))) ≡ 0x14 ∷ 0x03 ∷ 0x0E ∷ 0x0B ∷ 0x07 ∷ []) ×
     (kindWord (mapping (14 ∷ 11 ∷ 7 ∷ [])) ≡ ascii "20,3,14,11,7") ×
     (readKind (ascii "20,3,14,11,7\t") 0 ≡ got (mapping (14 ∷ 11 ∷ 7 ∷ [])) 12) ×
     (readKind (ascii "20,2,14\t") 0 ≡ no 20 0) ×
@@ -88,7 +89,7 @@ annotations-kept :
     (element s 5 (0x07 ∷ 0x09 ∷ []) 1 ≡ no 1 2) ×
     (readElement 5 (ascii "1\t2\n") 0 ≡ got (annotation 1 2) 3) ×
     (readElement 5 (ascii "1\n") 0 ≡ no 20 0) ×
-    (putValue (many 18 5) (annotation 1 2 ∷ []) ≡ 0x01 ∷ 0x01 ∷ 0x02 ∷ [])
+    (write (valuePieces (many 18 5) (annotation 1 2 ∷ [])) ≡ 0x01 ∷ 0x01 ∷ 0x02 ∷ [])
 unfolding all
 annotations-kept = (refl, refl, refl, refl, refl, refl, refl, refl, refl, refl, refl, refl, refl, refl, refl, refl, refl, refl, refl, refl, refl, refl, refl)
 
@@ -119,7 +120,7 @@ maps-kept :
     (readLine (mapping (14 ∷ 11 ∷ [])) (ascii "val\t0\n") 0 ≡ got (keys 0 ∷ []) 6) ×
     (readLine (mapping (14 ∷ 11 ∷ [])) (ascii "val\t1\t1\n") 0 ≡ no 20 0) ×
     (readLine (mapping (14 ∷ 11 ∷ [])) (ascii "val\n") 0 ≡ no 20 0) ×
-    (putValue (mapping (14 ∷ 11 ∷ 6 ∷ [])) two ≡ 0x02 ∷ 0x01 ∷ 0x02 ∷ 0x05 ∷ 0xFF ∷ 0xFF ∷ 0xFF ∷ 0xFF ∷ 0xFF ∷ 0xFF ∷ 0xFF ∷ 0xFF ∷ 0xFF ∷ 0xFF ∷ 0x00 ∷ 0x02 ∷ 0x00 ∷ []) ×
+    (write (valuePieces (mapping (14 ∷ 11 ∷ 6 ∷ [])) two) ≡ 0x02 ∷ 0x01 ∷ 0x02 ∷ 0x05 ∷ 0xFF ∷ 0xFF ∷ 0xFF ∷ 0xFF ∷ 0xFF ∷ 0xFF ∷ 0xFF ∷ 0xFF ∷ 0xFF ∷ 0xFF ∷ 0x00 ∷ 0x02 ∷ 0x00 ∷ []) ×
     (value s (mapping (14 ∷ 11 ∷ 6 ∷ [])) (0x02 ∷ 0x01 ∷ 0x02 ∷ 0x05 ∷ 0xFF ∷ 0xFF ∷ 0xFF ∷ 0xFF ∷ 0xFF ∷ 0xFF ∷ 0xFF ∷ 0xFF ∷ 0xFF ∷ 0xFF ∷ 0x00 ∷ 0x02 ∷ 0x00 ∷ []) 0 ≡ got two 17) ×
     (value s (mapping (14 ∷ 14 ∷ [])) (0x01 ∷ 0x01 ∷ 0x04 ∷ []) 0 ≡ no 14 2) ×
     (value s (mapping (14 ∷ 14 ∷ [])) (0x80 ∷ 0x80 ∷ 0x04 ∷ []) 0 ≡ no 3 0) ×

@@ -32,43 +32,43 @@ numbers1 :
 unfolding whole
 numbers1 = refl
 
--- v64: the last byte of two is not 00
+-- v64: 127 in two bytes
 numbers2 :
-    (file (0xFF ∷ 0x00 ∷ []) ≡ no 2 0)
+    (file (0xFF ∷ 0x00 ∷ []) ≡ no 1 2)
 unfolding whole
 numbers2 = refl
 
--- v64: the last byte of three is not 00
+-- v64: 0 in three bytes
 numbers3 :
-    (file (0x80 ∷ 0x80 ∷ 0x00 ∷ []) ≡ no 2 0)
+    (file (0x80 ∷ 0x80 ∷ 0x00 ∷ []) ≡ no 1 3)
 unfolding whole
 numbers3 = refl
 
--- v64: the last byte of four is not 00
+-- v64: 49409 in four bytes
 numbers4 :
-    (file (0x81 ∷ 0x82 ∷ 0x83 ∷ 0x00 ∷ []) ≡ no 2 0)
+    (file (0x81 ∷ 0x82 ∷ 0x83 ∷ 0x00 ∷ []) ≡ no 3 0)
 unfolding whole
 numbers4 = refl
 
--- v64: the last byte of seven is not 00
+-- v64: 2^42 - 1 in seven bytes
 numbers5 :
-    (file (replicate 6 0xFF ++ 0x00 ∷ []) ≡ no 2 0)
+    (file (replicate 6 0xFF ++ 0x00 ∷ []) ≡ no 3 0)
 unfolding whole
 numbers5 = refl
 
--- v64: the last byte of eight is not 00
+-- v64: 0 in eight bytes
 numbers6 :
-    (file (replicate 7 0x80 ++ 0x00 ∷ []) ≡ no 2 0)
+    (file (replicate 7 0x80 ++ 0x00 ∷ []) ≡ no 1 8)
 unfolding whole
 numbers6 = refl
 
--- v64: the last byte of nine is not 00
+-- v64: 2^56 - 1 in nine bytes
 numbers7 :
-    (file (replicate 8 0xFF ++ 0x00 ∷ []) ≡ no 2 0)
+    (file (replicate 8 0xFF ++ 0x00 ∷ []) ≡ no 3 0)
 unfolding whole
 numbers7 = refl
 
--- v64: 00 alone is the shortest coding
+-- v64: 00 alone is a coding
 numbers8 :
     (file (0x00 ∷ 0x01 ∷ []) ≡ no 1 2)
 unfolding whole
@@ -110,9 +110,9 @@ numbers14 :
 unfolding whole
 numbers14 = refl
 
--- v64: padded further on, at its first byte
+-- v64: 0 in three bytes, further on
 numbers15 :
-    (file (0x00 ∷ 0x80 ∷ 0x80 ∷ 0x00 ∷ []) ≡ no 2 1)
+    (listing 9 16384 (0x00 ∷ 0x80 ∷ 0x80 ∷ 0x00 ∷ []) ≡ done (ascii "pair\t0\t0\n"))
 unfolding whole
 numbers15 = refl
 
@@ -272,159 +272,159 @@ numbers41 :
 unfolding whole
 numbers41 = refl
 
--- padded number of strings: 2 before the bound
+-- padded number of strings: 16383 is above the bound
 numbers42 :
-    (file (0xFF ∷ 0xFF ∷ 0x80 ∷ 0x00 ∷ []) ≡ no 2 0)
+    (file (0xFF ∷ 0xFF ∷ 0x80 ∷ 0x00 ∷ []) ≡ no 3 0)
 unfolding whole
 numbers42 = refl
 
--- padded number of entries: 2 before the bound
+-- padded number of entries: 2097151 is above the bound
 numbers43 :
-    (file (P ++ 0xFF ∷ 0xFF ∷ 0xFF ∷ 0x00 ∷ []) ≡ no 2 26)
+    (file (P ++ 0xFF ∷ 0xFF ∷ 0xFF ∷ 0x00 ∷ []) ≡ no 3 26)
 unfolding whole
 numbers43 = refl
 
--- padded name: 2 before 5, of 0
+-- padded name: 0 is none
 numbers44 :
-    (file (P ++ 0x01 ∷ 0x80 ∷ 0x00 ∷ []) ≡ no 2 27)
+    (file (P ++ 0x01 ∷ 0x80 ∷ 0x00 ∷ []) ≡ no 5 27)
 unfolding whole
 numbers44 = refl
 
--- padded name: 2 before 5, too large
+-- padded name: 127 is too large
 numbers45 :
-    (file (P ++ 0x01 ∷ 0xFF ∷ 0x00 ∷ []) ≡ no 2 27)
+    (file (P ++ 0x01 ∷ 0xFF ∷ 0x00 ∷ []) ≡ no 5 27)
 unfolding whole
 numbers45 = refl
 
--- padded name: 2 before 6
+-- padded name: 1 has an entry
 numbers46 :
-    (file (P ++ 0x02 ∷ 0x01 ∷ 0x00 ∷ 0x00 ∷ 0x00 ∷ 0x00 ∷ 0x81 ∷ 0x00 ∷ []) ≡ no 2 32)
+    (file (P ++ 0x02 ∷ 0x01 ∷ 0x00 ∷ 0x00 ∷ 0x00 ∷ 0x00 ∷ 0x81 ∷ 0x00 ∷ []) ≡ no 6 32)
 unfolding whole
 numbers46 = refl
 
--- padded super name: 2 before 5
+-- padded super name: 127 is too large
 numbers47 :
-    (file (P ++ 0x01 ∷ 0x01 ∷ 0xFF ∷ 0x00 ∷ []) ≡ no 2 28)
+    (file (P ++ 0x01 ∷ 0x01 ∷ 0xFF ∷ 0x00 ∷ []) ≡ no 5 28)
 unfolding whole
 numbers47 = refl
 
--- padded super name: 2 before 7
+-- padded super name: 2 is no type
 numbers48 :
-    (file (P ++ 0x01 ∷ 0x01 ∷ 0x82 ∷ 0x00 ∷ []) ≡ no 2 28)
+    (file (P ++ 0x01 ∷ 0x01 ∷ 0x82 ∷ 0x00 ∷ []) ≡ no 7 28)
 unfolding whole
 numbers48 = refl
 
--- padded super name that would be 0
+-- padded super name: 0 is for none, and the count is due
 numbers49 :
-    (file (P ++ 0x01 ∷ 0x01 ∷ 0x80 ∷ 0x00 ∷ []) ≡ no 2 28)
+    (file (P ++ 0x01 ∷ 0x01 ∷ 0x80 ∷ 0x00 ∷ []) ≡ no 1 30)
 unfolding whole
 numbers49 = refl
 
--- padded local start: 2 before 3
+-- padded local start: 2097151 is above the bound
 numbers50 :
-    (file (P ++ 0x02 ∷ 0x01 ∷ 0x00 ∷ 0x01 ∷ 0x00 ∷ 0x00 ∷ 0x02 ∷ 0x01 ∷ 0xFF ∷ 0xFF ∷ 0xFF ∷ 0x00 ∷ []) ≡ no 2 34)
+    (file (P ++ 0x02 ∷ 0x01 ∷ 0x00 ∷ 0x01 ∷ 0x00 ∷ 0x00 ∷ 0x02 ∷ 0x01 ∷ 0xFF ∷ 0xFF ∷ 0xFF ∷ 0x00 ∷ []) ≡ no 3 34)
 unfolding whole
 numbers50 = refl
 
--- padded count: 2 before 3
+-- padded count: 2097151 is above the bound
 numbers51 :
-    (file (P ++ 0x01 ∷ 0x01 ∷ 0x00 ∷ 0xFF ∷ 0xFF ∷ 0xFF ∷ 0x00 ∷ []) ≡ no 2 29)
+    (file (P ++ 0x01 ∷ 0x01 ∷ 0x00 ∷ 0xFF ∷ 0xFF ∷ 0xFF ∷ 0x00 ∷ []) ≡ no 3 29)
 unfolding whole
 numbers51 = refl
 
--- padded count: 2 before 21
+-- padded count: 5 is past the range above
 numbers52 :
-    (file (P ++ 0x02 ∷ 0x01 ∷ 0x00 ∷ 0x01 ∷ 0x00 ∷ 0x00 ∷ 0x02 ∷ 0x01 ∷ 0x00 ∷ 0x85 ∷ 0x00 ∷ []) ≡ no 2 35)
+    (file (P ++ 0x02 ∷ 0x01 ∷ 0x00 ∷ 0x01 ∷ 0x00 ∷ 0x00 ∷ 0x02 ∷ 0x01 ∷ 0x00 ∷ 0x85 ∷ 0x00 ∷ []) ≡ no 21 35)
 unfolding whole
 numbers52 = refl
 
--- padded restrictions of a type that would be 0
+-- padded restrictions of a type: 0, and the number of fields is due
 numbers53 :
-    (file (P ++ 0x01 ∷ 0x01 ∷ 0x00 ∷ 0x01 ∷ 0x80 ∷ 0x00 ∷ []) ≡ no 2 30)
+    (file (P ++ 0x01 ∷ 0x01 ∷ 0x00 ∷ 0x01 ∷ 0x80 ∷ 0x00 ∷ []) ≡ no 1 32)
 unfolding whole
 numbers53 = refl
 
--- padded restrictions of a type: 2 before 9
+-- padded restrictions of a type: 1
 numbers54 :
-    (file (P ++ 0x01 ∷ 0x01 ∷ 0x00 ∷ 0x01 ∷ 0x81 ∷ 0x00 ∷ []) ≡ no 2 30)
+    (file (P ++ 0x01 ∷ 0x01 ∷ 0x00 ∷ 0x01 ∷ 0x81 ∷ 0x00 ∷ []) ≡ no 9 30)
 unfolding whole
 numbers54 = refl
 
--- padded number of fields: 2 before 3
+-- padded number of fields: 16383 is above the bound
 numbers55 :
-    (file (P ++ 0x01 ∷ 0x01 ∷ 0x00 ∷ 0x01 ∷ 0x00 ∷ 0xFF ∷ 0xFF ∷ 0x00 ∷ []) ≡ no 2 31)
+    (file (P ++ 0x01 ∷ 0x01 ∷ 0x00 ∷ 0x01 ∷ 0x00 ∷ 0xFF ∷ 0xFF ∷ 0x00 ∷ []) ≡ no 3 31)
 unfolding whole
 numbers55 = refl
 
--- padded number of fields: 2 before 11
+-- padded number of fields: 0 of one known field
 numbers56 :
-    (file (D ++ 0x00 ∷ 0x01 ∷ 0x01 ∷ 0x01 ∷ 0x80 ∷ 0x00 ∷ []) ≡ no 2 33)
+    (file (D ++ 0x00 ∷ 0x01 ∷ 0x01 ∷ 0x01 ∷ 0x80 ∷ 0x00 ∷ []) ≡ no 11 33)
 unfolding whole
 numbers56 = refl
 
--- padded end of a known field: 2 before 1
+-- padded end of a known field: 1 is past the file
 numbers57 :
-    (file (D ++ 0x00 ∷ 0x01 ∷ 0x01 ∷ 0x01 ∷ 0x01 ∷ 0x81 ∷ 0x00 ∷ []) ≡ no 2 34)
+    (file (D ++ 0x00 ∷ 0x01 ∷ 0x01 ∷ 0x01 ∷ 0x01 ∷ 0x81 ∷ 0x00 ∷ []) ≡ no 1 36)
 unfolding whole
 numbers57 = refl
 
--- padded restrictions of a field: 2 before 9
+-- padded restrictions of a field: 1
 numbers58 :
-    (file (P ++ 0x01 ∷ 0x01 ∷ 0x00 ∷ 0x01 ∷ 0x00 ∷ 0x01 ∷ 0x81 ∷ 0x00 ∷ []) ≡ no 2 32)
+    (file (P ++ 0x01 ∷ 0x01 ∷ 0x00 ∷ 0x01 ∷ 0x00 ∷ 0x01 ∷ 0x81 ∷ 0x00 ∷ []) ≡ no 9 32)
 unfolding whole
 numbers58 = refl
 
--- padded kind: 2 before 10
+-- padded kind: 16 is not listed
 numbers59 :
-    (file (P ++ 0x01 ∷ 0x01 ∷ 0x00 ∷ 0x01 ∷ 0x00 ∷ 0x01 ∷ 0x00 ∷ 0x90 ∷ 0x00 ∷ []) ≡ no 2 33)
+    (file (P ++ 0x01 ∷ 0x01 ∷ 0x00 ∷ 0x01 ∷ 0x00 ∷ 0x01 ∷ 0x00 ∷ 0x90 ∷ 0x00 ∷ []) ≡ no 10 33)
 unfolding whole
 numbers59 = refl
 
--- padded kind that is listed
+-- padded kind: 11 is listed
 numbers60 :
-    (file (P ++ 0x01 ∷ 0x01 ∷ 0x00 ∷ 0x01 ∷ 0x00 ∷ 0x01 ∷ 0x00 ∷ 0x8B ∷ 0x00 ∷ 0x01 ∷ 0x01 ∷ 0x00 ∷ []) ≡ no 2 33)
+    (listing 74 16384 (P ++ 0x01 ∷ 0x01 ∷ 0x00 ∷ 0x01 ∷ 0x00 ∷ 0x01 ∷ 0x00 ∷ 0x8B ∷ 0x00 ∷ 0x01 ∷ 0x01 ∷ 0x00 ∷ []) ≡ done (ascii "pair\t5\t1\nstr\t61\nstr\t62\nstr\t63\nstr\t64\nstr\t65\ntype\t1\t0\t-\t1\t1\nnew\t11\t1\nval\t0\n"))
 unfolding whole
 numbers60 = refl
 
--- padded constant
+-- padded constant: 0
 numbers61 :
-    (file (P ++ 0x01 ∷ 0x01 ∷ 0x00 ∷ 0x01 ∷ 0x00 ∷ 0x01 ∷ 0x00 ∷ 0x04 ∷ 0x80 ∷ 0x00 ∷ 0x01 ∷ 0x00 ∷ []) ≡ no 2 34)
+    (listing 69 16384 (P ++ 0x01 ∷ 0x01 ∷ 0x00 ∷ 0x01 ∷ 0x00 ∷ 0x01 ∷ 0x00 ∷ 0x04 ∷ 0x80 ∷ 0x00 ∷ 0x01 ∷ 0x00 ∷ []) ≡ done (ascii "pair\t5\t1\nstr\t61\nstr\t62\nstr\t63\nstr\t64\nstr\t65\ntype\t1\t0\t-\t1\t1\nnew\t4,0\t1\n"))
 unfolding whole
 numbers61 = refl
 
--- padded length in a kind: 2 before 3
+-- padded length in a kind: 2097151 is above the bound
 numbers62 :
-    (file (P ++ 0x01 ∷ 0x01 ∷ 0x00 ∷ 0x01 ∷ 0x00 ∷ 0x01 ∷ 0x00 ∷ 0x0F ∷ 0xFF ∷ 0xFF ∷ 0xFF ∷ 0x00 ∷ []) ≡ no 2 34)
+    (file (P ++ 0x01 ∷ 0x01 ∷ 0x00 ∷ 0x01 ∷ 0x00 ∷ 0x01 ∷ 0x00 ∷ 0x0F ∷ 0xFF ∷ 0xFF ∷ 0xFF ∷ 0x00 ∷ []) ≡ no 3 34)
 unfolding whole
 numbers62 = refl
 
--- padded element kind: 2 before 10
+-- padded element kind: 16 is not listed
 numbers63 :
-    (file (P ++ 0x01 ∷ 0x01 ∷ 0x00 ∷ 0x01 ∷ 0x00 ∷ 0x01 ∷ 0x00 ∷ 0x11 ∷ 0x90 ∷ 0x00 ∷ []) ≡ no 2 34)
+    (file (P ++ 0x01 ∷ 0x01 ∷ 0x00 ∷ 0x01 ∷ 0x00 ∷ 0x01 ∷ 0x00 ∷ 0x11 ∷ 0x90 ∷ 0x00 ∷ []) ≡ no 10 34)
 unfolding whole
 numbers63 = refl
 
--- padded element kind of a fixed array: 2 before 10
+-- padded element kind of a fixed array: 16 is not listed
 numbers64 :
-    (file (P ++ 0x01 ∷ 0x01 ∷ 0x00 ∷ 0x01 ∷ 0x00 ∷ 0x01 ∷ 0x00 ∷ 0x0F ∷ 0x02 ∷ 0x90 ∷ 0x00 ∷ []) ≡ no 2 35)
+    (file (P ++ 0x01 ∷ 0x01 ∷ 0x00 ∷ 0x01 ∷ 0x00 ∷ 0x01 ∷ 0x00 ∷ 0x0F ∷ 0x02 ∷ 0x90 ∷ 0x00 ∷ []) ≡ no 10 35)
 unfolding whole
 numbers64 = refl
 
--- padded field name: 2 before 5
+-- padded field name: 0 is none
 numbers65 :
-    (file (P ++ 0x01 ∷ 0x01 ∷ 0x00 ∷ 0x01 ∷ 0x00 ∷ 0x01 ∷ 0x00 ∷ 0x0B ∷ 0x80 ∷ 0x00 ∷ []) ≡ no 2 34)
+    (file (P ++ 0x01 ∷ 0x01 ∷ 0x00 ∷ 0x01 ∷ 0x00 ∷ 0x01 ∷ 0x00 ∷ 0x0B ∷ 0x80 ∷ 0x00 ∷ []) ≡ no 5 34)
 unfolding whole
 numbers65 = refl
 
--- padded field name: 2 before 6
+-- padded field name: 1 is used
 numbers66 :
-    (file (P ++ 0x01 ∷ 0x01 ∷ 0x00 ∷ 0x01 ∷ 0x00 ∷ 0x02 ∷ 0x00 ∷ 0x0B ∷ 0x01 ∷ 0x01 ∷ 0x00 ∷ 0x0B ∷ 0x81 ∷ 0x00 ∷ []) ≡ no 2 38)
+    (file (P ++ 0x01 ∷ 0x01 ∷ 0x00 ∷ 0x01 ∷ 0x00 ∷ 0x02 ∷ 0x00 ∷ 0x0B ∷ 0x01 ∷ 0x01 ∷ 0x00 ∷ 0x0B ∷ 0x81 ∷ 0x00 ∷ []) ≡ no 6 38)
 unfolding whole
 numbers66 = refl
 
--- padded end: 2 before 4
+-- padded end: 0 falls
 numbers67 :
-    (file (P ++ 0x01 ∷ 0x01 ∷ 0x00 ∷ 0x01 ∷ 0x00 ∷ 0x02 ∷ 0x00 ∷ 0x0B ∷ 0x01 ∷ 0x01 ∷ 0x00 ∷ 0x0B ∷ 0x02 ∷ 0x80 ∷ 0x00 ∷ []) ≡ no 2 39)
+    (file (P ++ 0x01 ∷ 0x01 ∷ 0x00 ∷ 0x01 ∷ 0x00 ∷ 0x02 ∷ 0x00 ∷ 0x0B ∷ 0x01 ∷ 0x01 ∷ 0x00 ∷ 0x0B ∷ 0x02 ∷ 0x80 ∷ 0x00 ∷ []) ≡ no 4 39)
 unfolding whole
 numbers67 = refl
 

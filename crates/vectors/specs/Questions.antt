@@ -19,10 +19,10 @@ abbrev two : List ℕ
 two =
     0x02 ∷ 0x00 ∷ 0x00 ∷ 0x00 ∷ 0x01 ∷ 0x00 ∷ 0x00 ∷ 0x00 ∷ 0x02 ∷ 0x61 ∷ 0x62 ∷ 0x01 ∷ 0x01 ∷ 0x00 ∷ 0x02 ∷ 0x00 ∷ 0x01 ∷ 0x00 ∷ 0x07 ∷ 0x02 ∷ 0x02 ∷ 0x05 ∷ 0xFF ∷ []
 
--- the same and a padded number behind it
-abbrev padded : List ℕ
-padded =
-    0x02 ∷ 0x00 ∷ 0x00 ∷ 0x00 ∷ 0x01 ∷ 0x00 ∷ 0x00 ∷ 0x00 ∷ 0x02 ∷ 0x61 ∷ 0x62 ∷ 0x01 ∷ 0x01 ∷ 0x00 ∷ 0x02 ∷ 0x00 ∷ 0x01 ∷ 0x00 ∷ 0x07 ∷ 0x02 ∷ 0x02 ∷ 0x05 ∷ 0xFF ∷ 0x80 ∷ 0x00 ∷ []
+-- the same and a number behind it that is cut in its padding
+abbrev cut : List ℕ
+cut =
+    0x02 ∷ 0x00 ∷ 0x00 ∷ 0x00 ∷ 0x01 ∷ 0x00 ∷ 0x00 ∷ 0x00 ∷ 0x02 ∷ 0x61 ∷ 0x62 ∷ 0x01 ∷ 0x01 ∷ 0x00 ∷ 0x02 ∷ 0x00 ∷ 0x01 ∷ 0x00 ∷ 0x07 ∷ 0x02 ∷ 0x02 ∷ 0x05 ∷ 0xFF ∷ 0x80 ∷ 0x80 ∷ []
 
 -- the empty file
 abbrev empty : List ℕ
@@ -39,18 +39,18 @@ table-short :
     (check 0 two ≡ refused 15) ×
     (objects (ascii "a") 0 two ≡ refused 15) ×
     (objects (ascii "z") 0 two ≡ refused 15) ×
-    (check 0 padded ≡ refused 15) ×
-    (objects (ascii "a") 0 padded ≡ refused 15) ×
-    (objects (ascii "z") 0 padded ≡ refused 15) ×
+    (check 0 cut ≡ refused 15) ×
+    (objects (ascii "a") 0 cut ≡ refused 15) ×
+    (objects (ascii "z") 0 cut ≡ refused 15) ×
     (check 0 empty ≡ refused 15) ×
     (objects (ascii "a") 0 empty ≡ refused 15) ×
     (objects (ascii "z") 0 empty ≡ refused 15) ×
     (check 16383 two ≡ refused 15) ×
     (objects (ascii "a") 16383 two ≡ refused 15) ×
     (objects (ascii "z") 16383 two ≡ refused 15) ×
-    (check 16383 padded ≡ refused 15) ×
-    (objects (ascii "a") 16383 padded ≡ refused 15) ×
-    (objects (ascii "z") 16383 padded ≡ refused 15) ×
+    (check 16383 cut ≡ refused 15) ×
+    (objects (ascii "a") 16383 cut ≡ refused 15) ×
+    (objects (ascii "z") 16383 cut ≡ refused 15) ×
     (check 16383 empty ≡ refused 15) ×
     (objects (ascii "a") 16383 empty ≡ refused 15) ×
     (objects (ascii "z") 16383 empty ≡ refused 15)
@@ -62,9 +62,9 @@ table-enough :
     (check 16384 two ≡ done 0) ×
     (objects (ascii "a") 16384 two ≡ done 2) ×
     (objects (ascii "z") 16384 two ≡ refused 16) ×
-    (check 16384 padded ≡ refused 2) ×
-    (objects (ascii "a") 16384 padded ≡ refused 2) ×
-    (objects (ascii "z") 16384 padded ≡ refused 2) ×
+    (check 16384 cut ≡ refused 1) ×
+    (objects (ascii "a") 16384 cut ≡ refused 1) ×
+    (objects (ascii "z") 16384 cut ≡ refused 1) ×
     (check 16384 empty ≡ done 0) ×
     (objects (ascii "a") 16384 empty ≡ refused 16) ×
     (objects (ascii "z") 16384 empty ≡ refused 16) ×
@@ -74,9 +74,9 @@ table-enough :
     (check 16385 two ≡ done 0) ×
     (objects (ascii "a") 16385 two ≡ done 2) ×
     (objects (ascii "z") 16385 two ≡ refused 16) ×
-    (check 16385 padded ≡ refused 2) ×
-    (objects (ascii "a") 16385 padded ≡ refused 2) ×
-    (objects (ascii "z") 16385 padded ≡ refused 2) ×
+    (check 16385 cut ≡ refused 1) ×
+    (objects (ascii "a") 16385 cut ≡ refused 1) ×
+    (objects (ascii "z") 16385 cut ≡ refused 1) ×
     (check 16385 empty ≡ done 0) ×
     (objects (ascii "a") 16385 empty ≡ refused 16) ×
     (objects (ascii "z") 16385 empty ≡ refused 16) ×
@@ -86,9 +86,9 @@ table-enough :
     (check 49152 two ≡ done 0) ×
     (objects (ascii "a") 49152 two ≡ done 2) ×
     (objects (ascii "z") 49152 two ≡ refused 16) ×
-    (check 49152 padded ≡ refused 2) ×
-    (objects (ascii "a") 49152 padded ≡ refused 2) ×
-    (objects (ascii "z") 49152 padded ≡ refused 2) ×
+    (check 49152 cut ≡ refused 1) ×
+    (objects (ascii "a") 49152 cut ≡ refused 1) ×
+    (objects (ascii "z") 49152 cut ≡ refused 1) ×
     (check 49152 empty ≡ done 0) ×
     (objects (ascii "a") 49152 empty ≡ refused 16) ×
     (objects (ascii "z") 49152 empty ≡ refused 16) ×
@@ -100,69 +100,69 @@ table-enough = (refl, refl, refl, refl, refl, refl, refl, refl, refl, refl, refl
 
 -- 15, the file's own refusal, 16, 17, 18, 19: every choice of what is wrong
 column-order :
-    (column (ascii "z") (ascii "z") 33 1 16383 padded ≡ refused 15) ×
+    (column (ascii "z") (ascii "z") 33 1 16383 cut ≡ refused 15) ×
     (column (ascii "z") (ascii "z") 33 1 16383 two ≡ refused 15) ×
-    (column (ascii "z") (ascii "z") 33 1 16384 padded ≡ refused 2) ×
+    (column (ascii "z") (ascii "z") 33 1 16384 cut ≡ refused 1) ×
     (column (ascii "z") (ascii "z") 33 1 16384 two ≡ refused 16) ×
-    (column (ascii "z") (ascii "z") 33 2 16383 padded ≡ refused 15) ×
+    (column (ascii "z") (ascii "z") 33 2 16383 cut ≡ refused 15) ×
     (column (ascii "z") (ascii "z") 33 2 16383 two ≡ refused 15) ×
-    (column (ascii "z") (ascii "z") 33 2 16384 padded ≡ refused 2) ×
+    (column (ascii "z") (ascii "z") 33 2 16384 cut ≡ refused 1) ×
     (column (ascii "z") (ascii "z") 33 2 16384 two ≡ refused 16) ×
-    (column (ascii "z") (ascii "z") 7 1 16383 padded ≡ refused 15) ×
+    (column (ascii "z") (ascii "z") 7 1 16383 cut ≡ refused 15) ×
     (column (ascii "z") (ascii "z") 7 1 16383 two ≡ refused 15) ×
-    (column (ascii "z") (ascii "z") 7 1 16384 padded ≡ refused 2) ×
+    (column (ascii "z") (ascii "z") 7 1 16384 cut ≡ refused 1) ×
     (column (ascii "z") (ascii "z") 7 1 16384 two ≡ refused 16) ×
-    (column (ascii "z") (ascii "z") 7 2 16383 padded ≡ refused 15) ×
+    (column (ascii "z") (ascii "z") 7 2 16383 cut ≡ refused 15) ×
     (column (ascii "z") (ascii "z") 7 2 16383 two ≡ refused 15) ×
-    (column (ascii "z") (ascii "z") 7 2 16384 padded ≡ refused 2) ×
+    (column (ascii "z") (ascii "z") 7 2 16384 cut ≡ refused 1) ×
     (column (ascii "z") (ascii "z") 7 2 16384 two ≡ refused 16) ×
-    (column (ascii "z") (ascii "b") 33 1 16383 padded ≡ refused 15) ×
+    (column (ascii "z") (ascii "b") 33 1 16383 cut ≡ refused 15) ×
     (column (ascii "z") (ascii "b") 33 1 16383 two ≡ refused 15) ×
-    (column (ascii "z") (ascii "b") 33 1 16384 padded ≡ refused 2) ×
+    (column (ascii "z") (ascii "b") 33 1 16384 cut ≡ refused 1) ×
     (column (ascii "z") (ascii "b") 33 1 16384 two ≡ refused 16) ×
-    (column (ascii "z") (ascii "b") 33 2 16383 padded ≡ refused 15) ×
+    (column (ascii "z") (ascii "b") 33 2 16383 cut ≡ refused 15) ×
     (column (ascii "z") (ascii "b") 33 2 16383 two ≡ refused 15) ×
-    (column (ascii "z") (ascii "b") 33 2 16384 padded ≡ refused 2) ×
+    (column (ascii "z") (ascii "b") 33 2 16384 cut ≡ refused 1) ×
     (column (ascii "z") (ascii "b") 33 2 16384 two ≡ refused 16) ×
-    (column (ascii "z") (ascii "b") 7 1 16383 padded ≡ refused 15) ×
+    (column (ascii "z") (ascii "b") 7 1 16383 cut ≡ refused 15) ×
     (column (ascii "z") (ascii "b") 7 1 16383 two ≡ refused 15) ×
-    (column (ascii "z") (ascii "b") 7 1 16384 padded ≡ refused 2) ×
+    (column (ascii "z") (ascii "b") 7 1 16384 cut ≡ refused 1) ×
     (column (ascii "z") (ascii "b") 7 1 16384 two ≡ refused 16) ×
-    (column (ascii "z") (ascii "b") 7 2 16383 padded ≡ refused 15) ×
+    (column (ascii "z") (ascii "b") 7 2 16383 cut ≡ refused 15) ×
     (column (ascii "z") (ascii "b") 7 2 16383 two ≡ refused 15) ×
-    (column (ascii "z") (ascii "b") 7 2 16384 padded ≡ refused 2) ×
+    (column (ascii "z") (ascii "b") 7 2 16384 cut ≡ refused 1) ×
     (column (ascii "z") (ascii "b") 7 2 16384 two ≡ refused 16) ×
-    (column (ascii "a") (ascii "z") 33 1 16383 padded ≡ refused 15) ×
+    (column (ascii "a") (ascii "z") 33 1 16383 cut ≡ refused 15) ×
     (column (ascii "a") (ascii "z") 33 1 16383 two ≡ refused 15) ×
-    (column (ascii "a") (ascii "z") 33 1 16384 padded ≡ refused 2) ×
+    (column (ascii "a") (ascii "z") 33 1 16384 cut ≡ refused 1) ×
     (column (ascii "a") (ascii "z") 33 1 16384 two ≡ refused 17) ×
-    (column (ascii "a") (ascii "z") 33 2 16383 padded ≡ refused 15) ×
+    (column (ascii "a") (ascii "z") 33 2 16383 cut ≡ refused 15) ×
     (column (ascii "a") (ascii "z") 33 2 16383 two ≡ refused 15) ×
-    (column (ascii "a") (ascii "z") 33 2 16384 padded ≡ refused 2) ×
+    (column (ascii "a") (ascii "z") 33 2 16384 cut ≡ refused 1) ×
     (column (ascii "a") (ascii "z") 33 2 16384 two ≡ refused 17) ×
-    (column (ascii "a") (ascii "z") 7 1 16383 padded ≡ refused 15) ×
+    (column (ascii "a") (ascii "z") 7 1 16383 cut ≡ refused 15) ×
     (column (ascii "a") (ascii "z") 7 1 16383 two ≡ refused 15) ×
-    (column (ascii "a") (ascii "z") 7 1 16384 padded ≡ refused 2) ×
+    (column (ascii "a") (ascii "z") 7 1 16384 cut ≡ refused 1) ×
     (column (ascii "a") (ascii "z") 7 1 16384 two ≡ refused 17) ×
-    (column (ascii "a") (ascii "z") 7 2 16383 padded ≡ refused 15) ×
+    (column (ascii "a") (ascii "z") 7 2 16383 cut ≡ refused 15) ×
     (column (ascii "a") (ascii "z") 7 2 16383 two ≡ refused 15) ×
-    (column (ascii "a") (ascii "z") 7 2 16384 padded ≡ refused 2) ×
+    (column (ascii "a") (ascii "z") 7 2 16384 cut ≡ refused 1) ×
     (column (ascii "a") (ascii "z") 7 2 16384 two ≡ refused 17) ×
-    (column (ascii "a") (ascii "b") 33 1 16383 padded ≡ refused 15) ×
+    (column (ascii "a") (ascii "b") 33 1 16383 cut ≡ refused 15) ×
     (column (ascii "a") (ascii "b") 33 1 16383 two ≡ refused 15) ×
-    (column (ascii "a") (ascii "b") 33 1 16384 padded ≡ refused 2) ×
+    (column (ascii "a") (ascii "b") 33 1 16384 cut ≡ refused 1) ×
     (column (ascii "a") (ascii "b") 33 1 16384 two ≡ refused 18) ×
-    (column (ascii "a") (ascii "b") 33 2 16383 padded ≡ refused 15) ×
+    (column (ascii "a") (ascii "b") 33 2 16383 cut ≡ refused 15) ×
     (column (ascii "a") (ascii "b") 33 2 16383 two ≡ refused 15) ×
-    (column (ascii "a") (ascii "b") 33 2 16384 padded ≡ refused 2) ×
+    (column (ascii "a") (ascii "b") 33 2 16384 cut ≡ refused 1) ×
     (column (ascii "a") (ascii "b") 33 2 16384 two ≡ refused 18) ×
-    (column (ascii "a") (ascii "b") 7 1 16383 padded ≡ refused 15) ×
+    (column (ascii "a") (ascii "b") 7 1 16383 cut ≡ refused 15) ×
     (column (ascii "a") (ascii "b") 7 1 16383 two ≡ refused 15) ×
-    (column (ascii "a") (ascii "b") 7 1 16384 padded ≡ refused 2) ×
+    (column (ascii "a") (ascii "b") 7 1 16384 cut ≡ refused 1) ×
     (column (ascii "a") (ascii "b") 7 1 16384 two ≡ refused 19) ×
-    (column (ascii "a") (ascii "b") 7 2 16383 padded ≡ refused 15) ×
+    (column (ascii "a") (ascii "b") 7 2 16383 cut ≡ refused 15) ×
     (column (ascii "a") (ascii "b") 7 2 16383 two ≡ refused 15) ×
-    (column (ascii "a") (ascii "b") 7 2 16384 padded ≡ refused 2) ×
+    (column (ascii "a") (ascii "b") 7 2 16384 cut ≡ refused 1) ×
     (column (ascii "a") (ascii "b") 7 2 16384 two ≡ done (pos 5 ∷ negsuc 0 ∷ []))
 unfolding whole
 column-order = (refl, refl, refl, refl, refl, refl, refl, refl, refl, refl, refl, refl, refl, refl, refl, refl, refl, refl, refl, refl, refl, refl, refl, refl, refl, refl, refl, refl, refl, refl, refl, refl, refl, refl, refl, refl, refl, refl, refl, refl, refl, refl, refl, refl, refl, refl, refl, refl, refl, refl, refl, refl, refl, refl, refl, refl, refl, refl, refl, refl, refl, refl, refl, refl)
@@ -187,24 +187,24 @@ listing-order :
     (listing 58 16383 two ≡ refused 15) ×
     (listing 59 16383 two ≡ refused 15) ×
     (listing 60 16383 two ≡ refused 15) ×
-    (listing 0 16383 padded ≡ refused 15) ×
-    (listing 1000 16383 padded ≡ refused 15) ×
+    (listing 0 16383 cut ≡ refused 15) ×
+    (listing 1000 16383 cut ≡ refused 15) ×
     (listing 0 16383 empty ≡ refused 15) ×
     (listing 1 16383 empty ≡ refused 15) ×
     (listing 0 16384 two ≡ refused 19) ×
     (listing 58 16384 two ≡ refused 19) ×
     (listing 59 16384 two ≡ done (ascii "pair\t2\t1\nstr\t61\nstr\t62\ntype\t1\t0\t-\t2\t1\nnew\t7\t2\nval\t5\nval\t-1\n")) ×
     (listing 60 16384 two ≡ done (ascii "pair\t2\t1\nstr\t61\nstr\t62\ntype\t1\t0\t-\t2\t1\nnew\t7\t2\nval\t5\nval\t-1\n")) ×
-    (listing 0 16384 padded ≡ refused 2) ×
-    (listing 1000 16384 padded ≡ refused 2) ×
+    (listing 0 16384 cut ≡ refused 1) ×
+    (listing 1000 16384 cut ≡ refused 1) ×
     (listing 0 16384 empty ≡ done []) ×
     (listing 1 16384 empty ≡ done []) ×
     (listing 0 16385 two ≡ refused 19) ×
     (listing 58 16385 two ≡ refused 19) ×
     (listing 59 16385 two ≡ done (ascii "pair\t2\t1\nstr\t61\nstr\t62\ntype\t1\t0\t-\t2\t1\nnew\t7\t2\nval\t5\nval\t-1\n")) ×
     (listing 60 16385 two ≡ done (ascii "pair\t2\t1\nstr\t61\nstr\t62\ntype\t1\t0\t-\t2\t1\nnew\t7\t2\nval\t5\nval\t-1\n")) ×
-    (listing 0 16385 padded ≡ refused 2) ×
-    (listing 1000 16385 padded ≡ refused 2) ×
+    (listing 0 16385 cut ≡ refused 1) ×
+    (listing 1000 16385 cut ≡ refused 1) ×
     (listing 0 16385 empty ≡ done []) ×
     (listing 1 16385 empty ≡ done [])
 unfolding whole
@@ -1527,17 +1527,17 @@ left-out-built :
 unfolding whole
 left-out-built = (refl, refl, refl, refl, refl, refl, refl, refl, refl, refl, refl, refl, refl, refl, refl, refl, refl, refl, refl, refl, refl, refl, refl, refl, refl, refl, refl, refl, refl, refl, refl, refl, refl, refl, refl, refl, refl, refl, refl, refl, refl, refl, refl, refl, refl, refl, refl, refl, refl, refl, refl, refl, refl, refl, refl, refl, refl, refl, refl, refl, refl, refl, refl, refl, refl, refl, refl, refl, refl, refl, refl, refl, refl, refl, refl, refl, refl)
 
--- a padded number
-abbrev lent-padded : List ℕ
-lent-padded =
-    0x80 ∷ 0x00 ∷ []
+-- a number cut in its padding
+abbrev lent-cut : List ℕ
+lent-cut =
+    0x80 ∷ 0x80 ∷ 0x80 ∷ 0x80 ∷ 0x80 ∷ 0x80 ∷ 0x80 ∷ 0x80 ∷ []
 
 -- the table after a check, accepted and refused
 after-check :
     (afterCheck two (replicate 16384 7 ++ 8 ∷ 9 ∷ []) ≡ record { answer = done 0; table = (replicate 16384 0 ++ 8 ∷ 9 ∷ []); output = [] }) ×
     (afterCheck two (5 ∷ replicate 16382 7 ++ []) ≡ record { answer = refused 15; table = (5 ∷ replicate 16382 7 ++ []); output = [] }) ×
     (afterCheck two ([]) ≡ record { answer = refused 15; table = ([]); output = [] }) ×
-    (afterCheck lent-padded (5 ∷ replicate 16382 7 ++ 6 ∷ []) ≡ record { answer = refused 2; table = (replicate 16384 0 ++ []); output = [] })
+    (afterCheck lent-cut (5 ∷ replicate 16382 7 ++ 6 ∷ []) ≡ record { answer = refused 1; table = (replicate 16384 0 ++ []); output = [] })
 unfolding whole
 after-check = (refl, refl, refl, refl)
 
@@ -1555,7 +1555,7 @@ after-column :
     (afterColumn two (ascii "a") (ascii "b") 7 (replicate 16384 7 ++ 8 ∷ 9 ∷ []) (negsuc 3 ∷ []) ≡ record { answer = refused 19; table = (replicate 16384 0 ++ 8 ∷ 9 ∷ []); output = (negsuc 3 ∷ []) }) ×
     (afterColumn two (ascii "a") (ascii "b") 7 (5 ∷ replicate 16382 7 ++ 6 ∷ []) (negsuc 3 ∷ negsuc 3 ∷ []) ≡ record { answer = done 2; table = (replicate 16384 0 ++ []); output = (pos 5 ∷ negsuc 0 ∷ []) }) ×
     (afterColumn two (ascii "a") (ascii "b") 7 (5 ∷ replicate 16382 7 ++ []) (negsuc 3 ∷ negsuc 3 ∷ negsuc 3 ∷ negsuc 3 ∷ []) ≡ record { answer = refused 15; table = (5 ∷ replicate 16382 7 ++ []); output = (negsuc 3 ∷ negsuc 3 ∷ negsuc 3 ∷ negsuc 3 ∷ []) }) ×
-    (afterColumn lent-padded (ascii "a") (ascii "b") 7 (replicate 16384 7 ++ 8 ∷ 9 ∷ []) (negsuc 3 ∷ negsuc 3 ∷ negsuc 3 ∷ negsuc 3 ∷ []) ≡ record { answer = refused 2; table = (replicate 16384 0 ++ 8 ∷ 9 ∷ []); output = (negsuc 3 ∷ negsuc 3 ∷ negsuc 3 ∷ negsuc 3 ∷ []) })
+    (afterColumn lent-cut (ascii "a") (ascii "b") 7 (replicate 16384 7 ++ 8 ∷ 9 ∷ []) (negsuc 3 ∷ negsuc 3 ∷ negsuc 3 ∷ negsuc 3 ∷ []) ≡ record { answer = refused 1; table = (replicate 16384 0 ++ 8 ∷ 9 ∷ []); output = (negsuc 3 ∷ negsuc 3 ∷ negsuc 3 ∷ negsuc 3 ∷ []) })
 unfolding whole
 after-column = (refl, refl, refl, refl, refl)
 
@@ -1564,7 +1564,7 @@ after-listing :
     (afterListing two (replicate 16384 7 ++ 8 ∷ 9 ∷ []) (replicate 61 1 ++ []) ≡ record { answer = done 59; table = (replicate 16384 0 ++ 8 ∷ 9 ∷ []); output = (112 ∷ 97 ∷ 105 ∷ 114 ∷ 9 ∷ 50 ∷ 9 ∷ 49 ∷ 10 ∷ 115 ∷ 116 ∷ 114 ∷ 9 ∷ 54 ∷ 49 ∷ 10 ∷ 115 ∷ 116 ∷ 114 ∷ 9 ∷ 54 ∷ 50 ∷ 10 ∷ 116 ∷ 121 ∷ 112 ∷ 101 ∷ 9 ∷ 49 ∷ 9 ∷ 48 ∷ 9 ∷ 45 ∷ 9 ∷ 50 ∷ 9 ∷ 49 ∷ 10 ∷ 110 ∷ 101 ∷ 119 ∷ 9 ∷ 55 ∷ 9 ∷ 50 ∷ 10 ∷ 118 ∷ 97 ∷ 108 ∷ 9 ∷ 53 ∷ 10 ∷ 118 ∷ 97 ∷ 108 ∷ 9 ∷ 45 ∷ 49 ∷ 10 ∷ 1 ∷ 1 ∷ []) }) ×
     (afterListing two (replicate 16384 7 ++ 8 ∷ 9 ∷ []) (replicate 58 1 ++ []) ≡ record { answer = refused 19; table = (replicate 16384 0 ++ 8 ∷ 9 ∷ []); output = (replicate 58 1 ++ []) }) ×
     (afterListing two (5 ∷ replicate 16382 7 ++ []) (replicate 59 1 ++ []) ≡ record { answer = refused 15; table = (5 ∷ replicate 16382 7 ++ []); output = (replicate 59 1 ++ []) }) ×
-    (afterListing lent-padded (5 ∷ replicate 16382 7 ++ 6 ∷ []) (replicate 61 1 ++ []) ≡ record { answer = refused 2; table = (replicate 16384 0 ++ []); output = (replicate 61 1 ++ []) })
+    (afterListing lent-cut (5 ∷ replicate 16382 7 ++ 6 ∷ []) (replicate 61 1 ++ []) ≡ record { answer = refused 1; table = (replicate 16384 0 ++ []); output = (replicate 61 1 ++ []) })
 unfolding whole
 after-listing = (refl, refl, refl, refl)
 
@@ -1591,3 +1591,70 @@ after-maps :
     (afterBuild (ascii "pair\t1\t1\nstr\t61\ntype\t1\t0\t-\t1\t1\nnew\t20,2,7,5\t1\nval\t1\t-1\t1\t1\n") (5 ∷ replicate 16382 7 ++ 6 ∷ []) (replicate 22 1 ++ []) ≡ record { answer = refused 19; table = (replicate 16384 0 ++ []); output = (replicate 22 1 ++ []) })
 unfolding whole
 after-maps = (refl, refl, refl, refl, refl)
+
+-- the file two with every number in nine bytes
+abbrev nine : List ℕ
+nine =
+    0x82 ∷ 0x80 ∷ 0x80 ∷ 0x80 ∷ 0x80 ∷ 0x80 ∷ 0x80 ∷ 0x80 ∷ 0x00 ∷ 0x00 ∷ 0x00 ∷ 0x00 ∷ 0x01 ∷ 0x00 ∷ 0x00 ∷ 0x00 ∷ 0x02 ∷ 0x61 ∷ 0x62 ∷ 0x81 ∷ 0x80 ∷ 0x80 ∷ 0x80 ∷ 0x80 ∷ 0x80 ∷ 0x80 ∷ 0x80 ∷ 0x00 ∷ 0x81 ∷ 0x80 ∷ 0x80 ∷ 0x80 ∷ 0x80 ∷ 0x80 ∷ 0x80 ∷ 0x80 ∷ 0x00 ∷ 0x80 ∷ 0x80 ∷ 0x80 ∷ 0x80 ∷ 0x80 ∷ 0x80 ∷ 0x80 ∷ 0x80 ∷ 0x00 ∷ 0x82 ∷ 0x80 ∷ 0x80 ∷ 0x80 ∷ 0x80 ∷ 0x80 ∷ 0x80 ∷ 0x80 ∷ 0x00 ∷ 0x80 ∷ 0x80 ∷ 0x80 ∷ 0x80 ∷ 0x80 ∷ 0x80 ∷ 0x80 ∷ 0x80 ∷ 0x00 ∷ 0x81 ∷ 0x80 ∷ 0x80 ∷ 0x80 ∷ 0x80 ∷ 0x80 ∷ 0x80 ∷ 0x80 ∷ 0x00 ∷ 0x80 ∷ 0x80 ∷ 0x80 ∷ 0x80 ∷ 0x80 ∷ 0x80 ∷ 0x80 ∷ 0x80 ∷ 0x00 ∷ 0x87 ∷ 0x80 ∷ 0x80 ∷ 0x80 ∷ 0x80 ∷ 0x80 ∷ 0x80 ∷ 0x80 ∷ 0x00 ∷ 0x82 ∷ 0x80 ∷ 0x80 ∷ 0x80 ∷ 0x80 ∷ 0x80 ∷ 0x80 ∷ 0x80 ∷ 0x00 ∷ 0x82 ∷ 0x80 ∷ 0x80 ∷ 0x80 ∷ 0x80 ∷ 0x80 ∷ 0x80 ∷ 0x80 ∷ 0x00 ∷ 0x05 ∷ 0xFF ∷ []
+
+-- a file and the same with padded numbers have the same answers
+padded-asked :
+    (check 16384 two ≡ done 0) ×
+    (check 16383 two ≡ refused 15) ×
+    (objects (ascii "a") 16384 two ≡ done 2) ×
+    (objects (ascii "b") 16384 two ≡ refused 16) ×
+    (column (ascii "a") (ascii "b") 7 2 16384 two ≡ done (pos 5 ∷ negsuc 0 ∷ [])) ×
+    (column (ascii "a") (ascii "b") 7 1 16384 two ≡ refused 19) ×
+    (column (ascii "a") (ascii "b") 8 2 16384 two ≡ refused 18) ×
+    (column (ascii "a") (ascii "c") 7 2 16384 two ≡ refused 17) ×
+    (check 16384 nine ≡ done 0) ×
+    (check 16383 nine ≡ refused 15) ×
+    (objects (ascii "a") 16384 nine ≡ done 2) ×
+    (objects (ascii "b") 16384 nine ≡ refused 16) ×
+    (column (ascii "a") (ascii "b") 7 2 16384 nine ≡ done (pos 5 ∷ negsuc 0 ∷ [])) ×
+    (column (ascii "a") (ascii "b") 7 1 16384 nine ≡ refused 19) ×
+    (column (ascii "a") (ascii "b") 8 2 16384 nine ≡ refused 18) ×
+    (column (ascii "a") (ascii "c") 7 2 16384 nine ≡ refused 17)
+unfolding whole
+padded-asked = (refl, refl, refl, refl, refl, refl, refl, refl, refl, refl, refl, refl, refl, refl, refl, refl)
+
+-- its listing does not show padding, and the file built from it has none
+nine-listed :
+    (listing 59 16384 nine ≡ done (ascii "pair\t2\t1\nstr\t61\nstr\t62\ntype\t1\t0\t-\t2\t1\nnew\t7\t2\nval\t5\nval\t-1\n")) ×
+    (listing 58 16384 nine ≡ refused 19) ×
+    (build 22 16384 (ascii "pair\t2\t1\nstr\t61\nstr\t62\ntype\t1\t0\t-\t2\t1\nnew\t7\t2\nval\t5\nval\t-1\n") ≡ refused 19) ×
+    (build 23 16384 (ascii "pair\t2\t1\nstr\t61\nstr\t62\ntype\t1\t0\t-\t2\t1\nnew\t7\t2\nval\t5\nval\t-1\n") ≡ done (0x02 ∷ 0x00 ∷ 0x00 ∷ 0x00 ∷ 0x01 ∷ 0x00 ∷ 0x00 ∷ 0x00 ∷ 0x02 ∷ 0x61 ∷ 0x62 ∷ 0x01 ∷ 0x01 ∷ 0x00 ∷ 0x02 ∷ 0x00 ∷ 0x01 ∷ 0x00 ∷ 0x07 ∷ 0x02 ∷ 0x02 ∷ 0x05 ∷ 0xFF ∷ [])) ×
+    (build 111 16384 (ascii "pair\t2\t1\nstr\t61\nstr\t62\ntype\t1\t0\t-\t2\t1\nnew\t7\t2\nval\t5\nval\t-1\n") ≡ done (0x02 ∷ 0x00 ∷ 0x00 ∷ 0x00 ∷ 0x01 ∷ 0x00 ∷ 0x00 ∷ 0x00 ∷ 0x02 ∷ 0x61 ∷ 0x62 ∷ 0x01 ∷ 0x01 ∷ 0x00 ∷ 0x02 ∷ 0x00 ∷ 0x01 ∷ 0x00 ∷ 0x07 ∷ 0x02 ∷ 0x02 ∷ 0x05 ∷ 0xFF ∷ []))
+unfolding whole
+nine-listed = (refl, refl, refl, refl, refl)
+
+-- v64 values with every number in nine bytes
+abbrev nine-values : List ℕ
+nine-values =
+    0x82 ∷ 0x80 ∷ 0x80 ∷ 0x80 ∷ 0x80 ∷ 0x80 ∷ 0x80 ∷ 0x80 ∷ 0x00 ∷ 0x00 ∷ 0x00 ∷ 0x00 ∷ 0x01 ∷ 0x00 ∷ 0x00 ∷ 0x00 ∷ 0x02 ∷ 0x61 ∷ 0x62 ∷ 0x81 ∷ 0x80 ∷ 0x80 ∷ 0x80 ∷ 0x80 ∷ 0x80 ∷ 0x80 ∷ 0x80 ∷ 0x00 ∷ 0x81 ∷ 0x80 ∷ 0x80 ∷ 0x80 ∷ 0x80 ∷ 0x80 ∷ 0x80 ∷ 0x80 ∷ 0x00 ∷ 0x80 ∷ 0x80 ∷ 0x80 ∷ 0x80 ∷ 0x80 ∷ 0x80 ∷ 0x80 ∷ 0x80 ∷ 0x00 ∷ 0x82 ∷ 0x80 ∷ 0x80 ∷ 0x80 ∷ 0x80 ∷ 0x80 ∷ 0x80 ∷ 0x80 ∷ 0x00 ∷ 0x80 ∷ 0x80 ∷ 0x80 ∷ 0x80 ∷ 0x80 ∷ 0x80 ∷ 0x80 ∷ 0x80 ∷ 0x00 ∷ 0x81 ∷ 0x80 ∷ 0x80 ∷ 0x80 ∷ 0x80 ∷ 0x80 ∷ 0x80 ∷ 0x80 ∷ 0x00 ∷ 0x80 ∷ 0x80 ∷ 0x80 ∷ 0x80 ∷ 0x80 ∷ 0x80 ∷ 0x80 ∷ 0x80 ∷ 0x00 ∷ 0x8B ∷ 0x80 ∷ 0x80 ∷ 0x80 ∷ 0x80 ∷ 0x80 ∷ 0x80 ∷ 0x80 ∷ 0x00 ∷ 0x82 ∷ 0x80 ∷ 0x80 ∷ 0x80 ∷ 0x80 ∷ 0x80 ∷ 0x80 ∷ 0x80 ∷ 0x00 ∷ 0x92 ∷ 0x80 ∷ 0x80 ∷ 0x80 ∷ 0x80 ∷ 0x80 ∷ 0x80 ∷ 0x80 ∷ 0x00 ∷ 0x80 ∷ 0x82 ∷ 0x80 ∷ 0x80 ∷ 0x80 ∷ 0x80 ∷ 0x80 ∷ 0x80 ∷ 0x00 ∷ 0xFF ∷ 0xFF ∷ 0xFF ∷ 0xFF ∷ 0xFF ∷ 0xFF ∷ 0xFF ∷ 0xFF ∷ 0xFF ∷ []
+
+-- a column of padded numbers
+padded-values :
+    (column (ascii "a") (ascii "b") 11 2 16384 nine-values ≡ done (pos 256 ∷ negsuc 0 ∷ [])) ×
+    (column (ascii "a") (ascii "b") 11 1 16384 nine-values ≡ refused 19)
+unfolding whole
+padded-values = (refl, refl)
+
+-- its listing does not show padding, and the file built from it has none
+nine-values-listed :
+    (listing 62 16384 nine-values ≡ done (ascii "pair\t2\t1\nstr\t61\nstr\t62\ntype\t1\t0\t-\t2\t1\nnew\t11\t2\nval\t256\nval\t-1\n")) ×
+    (listing 61 16384 nine-values ≡ refused 19) ×
+    (build 31 16384 (ascii "pair\t2\t1\nstr\t61\nstr\t62\ntype\t1\t0\t-\t2\t1\nnew\t11\t2\nval\t256\nval\t-1\n") ≡ refused 19) ×
+    (build 32 16384 (ascii "pair\t2\t1\nstr\t61\nstr\t62\ntype\t1\t0\t-\t2\t1\nnew\t11\t2\nval\t256\nval\t-1\n") ≡ done (0x02 ∷ 0x00 ∷ 0x00 ∷ 0x00 ∷ 0x01 ∷ 0x00 ∷ 0x00 ∷ 0x00 ∷ 0x02 ∷ 0x61 ∷ 0x62 ∷ 0x01 ∷ 0x01 ∷ 0x00 ∷ 0x02 ∷ 0x00 ∷ 0x01 ∷ 0x00 ∷ 0x0B ∷ 0x02 ∷ 0x0B ∷ 0x80 ∷ 0x02 ∷ 0xFF ∷ 0xFF ∷ 0xFF ∷ 0xFF ∷ 0xFF ∷ 0xFF ∷ 0xFF ∷ 0xFF ∷ 0xFF ∷ [])) ×
+    (build 127 16384 (ascii "pair\t2\t1\nstr\t61\nstr\t62\ntype\t1\t0\t-\t2\t1\nnew\t11\t2\nval\t256\nval\t-1\n") ≡ done (0x02 ∷ 0x00 ∷ 0x00 ∷ 0x00 ∷ 0x01 ∷ 0x00 ∷ 0x00 ∷ 0x00 ∷ 0x02 ∷ 0x61 ∷ 0x62 ∷ 0x01 ∷ 0x01 ∷ 0x00 ∷ 0x02 ∷ 0x00 ∷ 0x01 ∷ 0x00 ∷ 0x0B ∷ 0x02 ∷ 0x0B ∷ 0x80 ∷ 0x02 ∷ 0xFF ∷ 0xFF ∷ 0xFF ∷ 0xFF ∷ 0xFF ∷ 0xFF ∷ 0xFF ∷ 0xFF ∷ 0xFF ∷ []))
+unfolding whole
+nine-values-listed = (refl, refl, refl, refl, refl)
+
+-- table and output after questions about padded numbers
+after-padded :
+    (afterCheck nine (replicate 16384 7 ++ 8 ∷ []) ≡ record { answer = done 0; table = (replicate 16384 0 ++ 8 ∷ []); output = [] }) ×
+    (afterColumn nine (ascii "a") (ascii "b") 7 (replicate 16384 7 ++ 8 ∷ []) (negsuc 3 ∷ negsuc 3 ∷ negsuc 3 ∷ []) ≡ record { answer = done 2; table = (replicate 16384 0 ++ 8 ∷ []); output = (pos 5 ∷ negsuc 0 ∷ negsuc 3 ∷ []) }) ×
+    (afterListing nine (replicate 16384 7 ++ 8 ∷ []) (replicate 60 1 ++ []) ≡ record { answer = done 59; table = (replicate 16384 0 ++ 8 ∷ []); output = (112 ∷ 97 ∷ 105 ∷ 114 ∷ 9 ∷ 50 ∷ 9 ∷ 49 ∷ 10 ∷ 115 ∷ 116 ∷ 114 ∷ 9 ∷ 54 ∷ 49 ∷ 10 ∷ 115 ∷ 116 ∷ 114 ∷ 9 ∷ 54 ∷ 50 ∷ 10 ∷ 116 ∷ 121 ∷ 112 ∷ 101 ∷ 9 ∷ 49 ∷ 9 ∷ 48 ∷ 9 ∷ 45 ∷ 9 ∷ 50 ∷ 9 ∷ 49 ∷ 10 ∷ 110 ∷ 101 ∷ 119 ∷ 9 ∷ 55 ∷ 9 ∷ 50 ∷ 10 ∷ 118 ∷ 97 ∷ 108 ∷ 9 ∷ 53 ∷ 10 ∷ 118 ∷ 97 ∷ 108 ∷ 9 ∷ 45 ∷ 49 ∷ 10 ∷ 1 ∷ []) }) ×
+    (afterBuild (ascii "pair\t2\t1\nstr\t61\nstr\t62\ntype\t1\t0\t-\t2\t1\nnew\t7\t2\nval\t5\nval\t-1\n") (replicate 16384 7 ++ 8 ∷ []) (replicate 25 1 ++ []) ≡ record { answer = done 23; table = (replicate 16384 0 ++ 8 ∷ []); output = (2 ∷ 0 ∷ 0 ∷ 0 ∷ 1 ∷ 0 ∷ 0 ∷ 0 ∷ 2 ∷ 97 ∷ 98 ∷ 1 ∷ 1 ∷ 0 ∷ 2 ∷ 0 ∷ 1 ∷ 0 ∷ 7 ∷ 2 ∷ 2 ∷ 5 ∷ 255 ∷ 1 ∷ 1 ∷ []) })
+unfolding whole
+after-padded = (refl, refl, refl, refl)

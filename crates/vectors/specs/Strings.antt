@@ -50,9 +50,9 @@ strings4 :
 unfolding whole
 strings4 = refl
 
--- the 32nd pair is decoded, padded
+-- the 32nd pair is decoded: a padded 0, and the entries are due
 strings5 :
-    (file (replicate 62 0x00 ++ 0x80 ∷ 0x00 ∷ []) ≡ no 2 62)
+    (file (replicate 62 0x00 ++ 0x80 ∷ 0x00 ∷ []) ≡ no 1 64)
 unfolding whole
 strings5 = refl
 

@@ -1,6 +1,7 @@
 //! Files for the print program.
 
 use second::bounds::{FILE, PROGRAM_INPUT, PROGRAM_OUTPUT};
+use second::generate::spelling::Parts;
 use second::generate::Case;
 
 use super::{built, filled};
@@ -13,10 +14,15 @@ pub fn bounds() -> Vec<Case> {
             format!("{length} bytes, accepted by the calls"),
             numbers(length),
         ));
-        // Too much input comes before whatever is wrong with it: a number that is not in shortest coding.
-        let mut padded = vec![0; length];
-        padded[0] = 0x80;
-        cases.push(Case::chance(format!("{length} bytes, refused"), padded));
+        // The bound is on the bytes as they come, padding included.
+        cases.push(Case::chance(
+            format!("{length} bytes, most of them padding"),
+            padding(length),
+        ));
+        // Too much input comes before whatever is wrong with it: a type without a name.
+        let mut unnamed = vec![0; length];
+        unnamed[1] = 1;
+        cases.push(Case::chance(format!("{length} bytes, refused"), unnamed));
     }
     for length in [PROGRAM_OUTPUT - 2, PROGRAM_OUTPUT, PROGRAM_OUTPUT + 2] {
         let label = format!("a listing of {length} bytes");
@@ -37,6 +43,22 @@ fn numbers(length: usize) -> Vec<u8> {
         )
     });
     built(&text)
+}
+
+/// An accepted file of this length, every number of which has nine bytes: some values, and a name that fills it up.
+fn padding(length: usize) -> Vec<u8> {
+    let objects = length / 9 - 20;
+    let spelt = |name: usize| {
+        let values = "7 ".repeat(objects);
+        let name = "x".repeat(name);
+        let text = format!(
+            "1 ={:08X} '{name} 1 1 0 {objects:X} 0 1 0 B 1 ^ [ {values}]",
+            name.len()
+        );
+        Parts::of(&text).nine()
+    };
+    let least = spelt(1).len();
+    spelt(1 + length - least)
 }
 
 /// A file of one string whose listing has this length, an even one: two digits for each byte, and 14 bytes beside them.

@@ -105,12 +105,17 @@ pub fn listing(file: &[u8], work: &mut [u32], out: &mut [u8]) -> Result<usize, R
     refusal::of_answer(library::listing(file, work, out))
 }
 
-/// Builds a file from its listing: writes the one file that has the listing
-/// `text` to the front of `out`; gives its length.
+/// Builds a file from its listing: writes the shortest file that has the
+/// listing `text` to the front of `out`; gives its length.
 ///
 /// The rest of `out` is untouched, and a refusal leaves all of it as it was.
 /// What is built is accepted by the other calls, and [`listing`] gives `text`
 /// for it again.
+///
+/// A listing does not show in how many bytes the file had its numbers. Where
+/// they all were in their shortest coding, as in every file that `build` wrote,
+/// the same bytes come back. Where some were padded, the built file has the
+/// same contents and is shorter, its end offsets worked out again.
 ///
 /// `text` has to be what [`listing`] would write, byte for byte. Whatever else
 /// it is gives [`Refusal::Listing`]: a blank too many, a number with a leading
@@ -127,6 +132,10 @@ pub fn listing(file: &[u8], work: &mut [u32], out: &mut [u8]) -> Result<usize, R
 /// let mut out = vec![0; tidehinge::FILE];
 /// let length = tidehinge::build(b"pair\t0\t0\n", &mut work, &mut out)?;
 /// assert_eq!(out[..length], [0, 0]);
+///
+/// // The same pair, its number of strings in two bytes, has this listing too.
+/// let length = tidehinge::listing(&[0x80, 0x00, 0x00], &mut work, &mut out)?;
+/// assert_eq!(out[..length], *b"pair\t0\t0\n");
 ///
 /// let refusal = tidehinge::build(b"pair\t00\t0\n", &mut work, &mut out);
 /// assert_eq!(refusal, Err(tidehinge::Refusal::Listing));

@@ -12,7 +12,8 @@ use std::fmt;
 pub enum Refusal {
     /// The file ends too early.
     Short = 1,
-    /// A number has filler bytes.
+    /// A number has filler bytes. No longer given: every coding of a number in
+    /// at most nine bytes is taken. No other refusal will get this number.
     Padded = 2,
     /// A bound is passed.
     Limit = 3,

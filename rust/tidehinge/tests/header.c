@@ -22,7 +22,8 @@ int main(void) {
     static const uint8_t file[] = {0};
     static uint32_t work[TH_WORK];
     printf("%s\n", th_words(th_check(file, sizeof file, work, TH_WORK)));
-    static const uint8_t pair[] = {0, 0};
+    /* The number of strings is in two bytes here, and in one when the pair comes back. */
+    static const uint8_t pair[] = {0x80, 0, 0};
     static uint8_t text[9 * sizeof pair];
     int64_t length = th_listing(pair, sizeof pair, work, TH_WORK, text, sizeof text);
     printf("%.*s", (int)length, (const char *)text);

@@ -80,10 +80,9 @@ fn cut_short() {
 /// The most bytes of a file are looked at, one more are not.
 #[test]
 fn too_long() {
-    let mut file = vec![0x80; tidehinge::FILE];
-    file[1] = 0;
-    assert_refused(&file, Refusal::Padded);
-    file.push(0);
+    let mut file = vec![1; tidehinge::FILE];
+    assert_refused(&file, Refusal::Short);
+    file.push(1);
     assert_refused(&file, Refusal::Limit);
 }
 

@@ -126,10 +126,9 @@ fn refusals_in_words() {
 /// The last byte makes the difference: the programs hand on all of a file.
 #[test]
 fn a_file_that_is_too_long() {
-    let mut file = vec![0; FILE];
-    file[0] = 0x80;
-    assert_refused("longest", &file, "2\ta number has filler bytes");
-    file.push(0);
+    let mut file = vec![1; FILE];
+    assert_refused("longest", &file, "1\tthe file ends too early");
+    file.push(1);
     assert_refused("too_long", &file, "3\ta bound is passed");
 }
 
@@ -193,15 +192,13 @@ fn header_in_cpp() {
     }
 }
 
-/// The page of refusals has the same words, but for the one that is never
+/// The page of refusals has the same words, but for the two that are never
 /// given.
 #[test]
 fn page_of_refusals() {
     let page = fs::read_to_string(in_project("docs/REFUSALS.md")).expect("the page is there");
-    for refusal in Refusal::ALL
-        .into_iter()
-        .filter(|&refusal| refusal != Refusal::Loop)
-    {
+    let given = |refusal: &Refusal| !matches!(refusal, Refusal::Padded | Refusal::Loop);
+    for refusal in Refusal::ALL.into_iter().filter(given) {
         let number = refusal.number();
         let line = page
             .lines()

@@ -97,7 +97,7 @@ fn pairs_of_numbers() -> impl Iterator<Item = (String, u8, Vec<u8>)> {
     });
     let padded = PADDED
         .iter()
-        .map(|&text| (text.to_string(), 2, bytes(text)));
+        .map(|&(text, answer)| (text.to_string(), answer, bytes(text)));
     whole.chain(padded)
 }
 
@@ -155,17 +155,17 @@ const NUMBERS: &[(u64, u64, u8)] = &[
     (u64::MAX, u64::MAX, 14),
 ];
 
-/// A padded number has no value, and the first is read before the second.
-const PADDED: &[&str] = &[
-    "80 00 00",
-    "81 00 01",
-    "87 00 01",
-    "01 81 00",
-    "01 83 00",
-    "00 80 00",
-    "07 81 00",
-    "80 00 80 00",
-    "01 80*8 00",
+/// Padded numbers have their values.
+const PADDED: &[(&str, u8)] = &[
+    ("80 00 00", 0),
+    ("81 00 01", 0),
+    ("87 00 01", 14),
+    ("01 81 00", 0),
+    ("01 83 00", 14),
+    ("00 80 00", 0),
+    ("07 81 00", 14),
+    ("80 00 80 00", 0),
+    ("01 80*8 00", 14),
 ];
 
 /// Several pairs and several fields.

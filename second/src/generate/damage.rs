@@ -1,6 +1,7 @@
 //! Damage to good files: of bytes, of numbers, and of the ledger's parts.
 
 use super::random::Random;
+use super::spelling::padded;
 use crate::draft::{EntryDraft, Mark, PairDraft, Role, Written};
 use crate::v64;
 
@@ -84,7 +85,7 @@ fn number(random: &mut Random, role: Role, old: &[u8]) -> Vec<u8> {
         2 => v64::coded(0),
         3 => v64::coded(random.bits()),
         4 => v64::coded(*random.pick(&[31, 32, 33, 64, 127, 128, 65_535, 65_536])),
-        5 => padded(value),
+        5 => padded(value, 1),
         6 => v64::coded(u64::MAX),
         7 => v64::coded(random.below(34)),
         8 if role == Role::Restrictions => v64::coded(1),
@@ -104,17 +105,6 @@ fn starts(coded: &[u8]) -> Vec<usize> {
         starts.push(next);
     }
     starts
-}
-
-/// A coding of the value that is one byte too long, where there is one.
-fn padded(value: u64) -> Vec<u8> {
-    let mut coded = v64::coded(value);
-    if coded.len() < 9 {
-        let last = coded.len() - 1;
-        coded[last] |= 0x80;
-        coded.push(0);
-    }
-    coded
 }
 
 /// Changes the parts of a ledger; lengths and ends are worked out from what

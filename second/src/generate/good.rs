@@ -1,11 +1,9 @@
 //! Good ledgers made by chance.
 
-use crate::bounds;
-use crate::draft::{kind_bytes, wide, EntryDraft, FieldDraft, PairDraft};
-use crate::kind::{Element, Form, Kind, MapTypes};
-use crate::v64;
-
 use super::random::Random;
+use crate::bounds;
+use crate::draft::{spelt_kind, wide, EntryDraft, FieldDraft, PairDraft, Spell};
+use crate::kind::{Element, Form, Kind, MapTypes};
 
 /// How large a ledger may become.
 #[derive(Clone, Copy)]
@@ -48,12 +46,14 @@ pub const LONG: Size = Size {
     strings: 1,
 };
 
-/// A ledger of at least one pair.
-pub fn ledger(random: &mut Random, size: Size) -> Vec<PairDraft> {
+/// A ledger of at least one pair. How numbers are written has no part in what
+/// it holds.
+pub fn ledger(random: &mut Random, size: Size, spell: Spell) -> Vec<PairDraft> {
     let pairs = random.between(1, size.pairs);
     let mut world = World {
         random,
         size,
+        spell,
         strings: Vec::new(),
         types: Vec::new(),
         fields: 0,
@@ -65,6 +65,7 @@ pub fn ledger(random: &mut Random, size: Size) -> Vec<PairDraft> {
 struct World<'r> {
     random: &'r mut Random,
     size: Size,
+    spell: Spell,
     /// All strings so far.
     strings: Vec<Vec<u8>>,
     types: Vec<Sort>,
@@ -109,7 +110,7 @@ impl World<'_> {
         for (entry, fields) in entries.iter_mut().zip(fields) {
             for (name, kind, values) in fields {
                 entry.fields.push(FieldDraft {
-                    new: name.map(|name| (kind_bytes(kind), name)),
+                    new: name.map(|name| (spelt_kind(kind, self.spell), name)),
                     chunk: self.chunk(kind, values),
                 });
             }
@@ -327,7 +328,7 @@ impl World<'_> {
             Form::Fixed(length) => length,
             Form::Sized(_) => {
                 let length = self.array_length(values);
-                v64::write(out, length);
+                (self.spell)(out, length);
                 length
             }
         };
@@ -349,7 +350,7 @@ impl World<'_> {
             1 => self.array_length(values),
             _ => self.random.below(3),
         };
-        v64::write(out, size);
+        (self.spell)(out, size);
         for _ in 0..size {
             self.element(first, out);
             self.map(rest, values, out);
@@ -373,19 +374,19 @@ impl World<'_> {
             Element::I16 => wide(out, self.random.word(), 2),
             Element::I32 | Element::F32 => wide(out, self.random.word(), 4),
             Element::I64 | Element::F64 => wide(out, self.random.word(), 8),
-            Element::V64 => v64::write(out, bits),
+            Element::V64 => (self.spell)(out, bits),
             Element::Text => {
                 let number = self.random.below(self.strings.len() as u64 + 1);
-                v64::write(out, number);
+                (self.spell)(out, number);
             }
             Element::Object(index) => {
                 let number = self.object(index as usize);
-                v64::write(out, number);
+                (self.spell)(out, number);
             }
             Element::Annotation => {
                 let (name, number) = self.annotation();
-                v64::write(out, name);
-                v64::write(out, number);
+                (self.spell)(out, name);
+                (self.spell)(out, number);
             }
         }
     }

@@ -137,7 +137,8 @@ fn late_kinds() -> Vec<Case> {
     cases
 }
 
-/// An element of each kind: its kind, a good one, a wrong one, its answer.
+/// An element of each kind: its kind, a good one, another one, which is wrong
+/// but for v64, and its answer.
 const ELEMENTS: &[(&str, &str, &str, u8)] = &[
     ("05", "0101", "0102", 14),
     ("05", "0000", "0001", 14),
@@ -147,18 +148,18 @@ const ELEMENTS: &[(&str, &str, &str, u8)] = &[
     ("08", "8000", "80", 12),
     ("09", "80000001", "800000", 12),
     ("0A", "8000000000000001", "80000000000000", 12),
-    ("0B", "808080808080808080", "8000", 2),
+    ("0B", "808080808080808080", "8000", 0),
     ("0C", "7FC00001", "7FC000", 12),
     ("0D", "FFF0000000000001", "FFF00000000000", 12),
     ("0E", "05", "06", 14),
     ("20", "01", "02", 14),
 ];
 
-/// Every element kind in every place: good, wrong at the chunk's end, and
-/// missing there.
+/// Every element kind in every place: good, another one at the chunk's end,
+/// and missing there.
 fn elements() -> Vec<Case> {
     let mut cases = Vec::new();
-    for &(kind, good, wrong, answer) in ELEMENTS {
+    for &(kind, good, other, answer) in ELEMENTS {
         for number in LOOKED_AT {
             for place in 0..number {
                 let kinds = kinds(number, place, &bytes(kind));
@@ -171,8 +172,14 @@ fn elements() -> Vec<Case> {
                     let length = sizes + elements[..=place].concat().len();
                     single(&elements)[..length].to_vec()
                 };
-                let wrong = file(&kinds, &ends(wrong));
-                cases.push(Case::ruled(&format!("{label}, wrong"), answer, wrong));
+                let other = file(&kinds, &ends(other));
+                let (what, answer) = match answer {
+                    // The rest of the map is due, if there is any.
+                    0 if place + 1 < number => ("padded", 12),
+                    0 => ("padded", 0),
+                    refusal => ("wrong", refusal),
+                };
+                cases.push(Case::ruled(&format!("{label}, {what}"), answer, other));
                 let missing = file(&kinds, &ends(""));
                 cases.push(Case::ruled(&format!("{label}, missing"), 12, missing));
             }
@@ -193,8 +200,8 @@ fn sizes() -> Vec<Case> {
         ("2^32 + 1", "8180808010", 3),
         ("2^63", "808080808080808080", 3),
         ("2^64 - 1", "FFFFFFFFFFFFFFFFFF", 3),
-        ("0 padded", "8000", 2),
-        ("65536 padded", "80808400", 2),
+        ("0 padded", "8000", 0),
+        ("65536 padded", "80808400", 3),
         ("cut", "80", 12),
     ];
     let mut cases = Vec::new();

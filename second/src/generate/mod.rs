@@ -11,15 +11,19 @@ mod good;
 mod maps;
 mod neighbours;
 pub mod notation;
+mod padded;
 pub mod random;
 mod rules;
 pub mod sentences;
 mod small;
+pub mod spelling;
 mod texts;
 
-use crate::draft::Written;
+use crate::draft::{Spell, Written};
+use crate::v64;
 use random::Random;
 
+pub use padded::{twins, Twin};
 pub use texts::LISTING_E;
 
 /// The seed everything is made from unless another is asked for.
@@ -81,6 +85,7 @@ pub fn fixed_files() -> Vec<Case> {
     cases.extend(maps::cases());
     cases.extend(neighbours::cases());
     cases.extend(extremes::cases());
+    cases.extend(padded::cases());
     cases.extend(thorough());
     cases
 }
@@ -128,13 +133,21 @@ fn chance_file(random: &mut Random, index: usize) -> Case {
         1 | 2 => good::LONG,
         _ => good::SMALL,
     };
-    let mut pairs = good::ledger(random, size);
-    let mut labels = Vec::new();
     let way = index % 10;
+    // The last way of damage has padded numbers too: lengths and ends are those
+    // of its chunks as they are spelt.
+    let is_padded = matches!(way, 3 | 9);
+    let spell: Spell = if is_padded {
+        spelling::mixed
+    } else {
+        v64::write
+    };
+    let mut pairs = good::ledger(random, size, spell);
+    let mut labels = Vec::new();
     if way >= 7 {
         labels.push(damage::of_parts(random, &mut pairs));
     }
-    let mut written = Written::default();
+    let mut written = Written::spelt(spell);
     for pair in &pairs {
         written.pair(pair);
     }
@@ -150,6 +163,9 @@ fn chance_file(random: &mut Random, index: usize) -> Case {
     }
     if labels.is_empty() {
         labels.push("good".to_string());
+    }
+    if is_padded {
+        labels.insert(0, "padded".to_string());
     }
     let label = format!("chance file {index}, {}", labels.join(", "));
     Case::chance(label, written.bytes)

@@ -599,21 +599,29 @@ const MAPS: &[Row] = &[
 /// What stands before a missing or cut element is tested first, in an array
 /// of each kind and in single values.
 fn cut_arrays() -> Vec<Case> {
-    // Element kind, a good element, a wrong one, its refusal, a cut one.
+    // Element kind, a good element, another one, its refusal, a cut one. A
+    // padded one that is right has none: what is missing or left over decides.
     let elements = [
         ("06", "FF", "02", 13, ""),
-        ("0B", "05", "8000", 2, "80"),
+        ("0B", "05", "8000", 0, "80"),
         ("0E", "05", "06", 14, "85"),
-        ("0E", "05", "8500", 2, "85"),
+        ("0E", "05", "8500", 0, "85"),
+        ("0E", "05", "8600", 14, "8580"),
         ("20", "01", "03", 14, "81"),
-        ("20", "01", "8100", 2, "81"),
+        ("20", "01", "8100", 0, "81"),
+        ("20", "01", "8300", 14, "8180"),
         ("05", "0102", "0103", 14, "01"),
         ("05", "0101", "0301", 14, "0381"),
         ("05", "0000", "0001", 14, "00"),
-        ("05", "0000", "018100", 2, "0181"),
+        ("05", "0000", "018100", 0, "0181"),
+        ("05", "0000", "018000", 14, "0180"),
     ];
     let mut cases = Vec::new();
-    for (kind, good, wrong, answer, cut) in elements {
+    for (kind, good, other, refusal, cut) in elements {
+        let (which, answer) = match refusal {
+            0 => ("padded", 12),
+            _ => ("wrong", refusal),
+        };
         // Values of two objects: three elements each, or one.
         for (form, length, count) in [
             ("0F 03", "", 3),
@@ -633,20 +641,20 @@ fn cut_arrays() -> Vec<Case> {
             row("both values whole", 0, [&whole[..], &whole].concat());
             row("second value missing", 12, whole.clone());
             row(
-                "wrong element in the first value, the second missing",
+                &format!("{which} element in the first value, the second missing"),
                 answer,
                 {
                     let mut elements = vec![good; count];
-                    elements[count - 1] = wrong;
+                    elements[count - 1] = other;
                     value(&elements)
                 },
             );
             row(
-                "wrong element in the first value, bytes left over",
+                &format!("{which} element in the first value, bytes left over"),
                 answer,
                 {
                     let mut elements = vec![good; count];
-                    elements[0] = wrong;
+                    elements[0] = other;
                     [value(&elements), good.repeat(50)].concat()
                 },
             );
@@ -662,14 +670,14 @@ fn cut_arrays() -> Vec<Case> {
                     two(good, good),
                 );
                 row(
-                    "wrong element before a missing one",
+                    &format!("{which} element before a missing one"),
                     answer,
-                    two(good, wrong),
+                    two(good, other),
                 );
                 row(
-                    "wrong element two before a missing one",
+                    &format!("{which} element two before a missing one"),
                     answer,
-                    two(wrong, good),
+                    two(other, good),
                 );
                 if !cut.is_empty() {
                     row(
@@ -678,9 +686,9 @@ fn cut_arrays() -> Vec<Case> {
                         two(good, good) + cut,
                     );
                     row(
-                        "wrong element before a cut one",
+                        &format!("{which} element before a cut one"),
                         answer,
-                        two(good, wrong) + cut,
+                        two(good, other) + cut,
                     );
                 }
             }

@@ -56,12 +56,12 @@ const NUMBERS: &[Row] = &[
     ("v64 value -1", 0, "P 01 01 00 01 00 01 00 0B 01 09 FF*9"),
     (
         "v64 value 80 00",
-        2,
+        0,
         "P 01 01 00 01 00 01 00 0B 01 02 80 00",
     ),
     (
         "v64 value of nine bytes, last 00",
-        2,
+        0,
         "P 01 01 00 01 00 01 00 0B 01 09 80*8 00",
     ),
     (
@@ -125,9 +125,13 @@ const NUMBERS: &[Row] = &[
         "P 01 01 00 01 00 01 00 04 80*9 01 00",
     ),
     ("80 and the end of the file", 1, "80"),
-    ("80 00", 2, "80 00"),
+    ("80 00, the number of entries due", 1, "80 00"),
     ("80 eight times and the end of the file", 1, "80*8"),
-    ("80 eight times and 00", 2, "80*8 00"),
+    (
+        "80 eight times and 00, the number of entries due",
+        1,
+        "80*8 00",
+    ),
     ("ninth byte with its top bit", 3, "80*9"),
     (
         "v64 crosses the chunk's and the file's end",
@@ -156,113 +160,97 @@ const NUMBERS: &[Row] = &[
     ),
 ];
 
-/// A padded number has no value: 2 comes before what its value would break.
+/// A padded number has its value, and is refused by what that breaks.
 const PADDED: &[Row] = &[
-    ("padded number of strings above its bound", 2, "FF FF 80 00"),
+    ("padded number of strings above its bound", 3, "FF FF 80 00"),
     (
         "padded number of entries above its bound",
-        2,
+        3,
         "P FF FF FF 00",
     ),
-    ("padded number of entries", 2, "P 81 00"),
-    ("padded name that would be 0", 2, "P 01 80 00"),
-    ("padded name that would be too large", 2, "P 01 FF 00"),
-    ("padded super name that would be 0", 2, "P 01 01 80 00"),
-    (
-        "padded super name that would be no type",
-        2,
-        "P 01 01 82 00",
-    ),
-    (
-        "padded super name that would be too large",
-        2,
-        "P 01 01 FF 00",
-    ),
+    ("padded number of entries, a name due", 1, "P 81 00"),
+    ("padded name 0", 5, "P 01 80 00"),
+    ("padded name too large", 5, "P 01 FF 00"),
+    ("padded super name 0, a count due", 1, "P 01 01 80 00"),
+    ("padded super name that is no type", 7, "P 01 01 82 00"),
+    ("padded super name too large", 5, "P 01 01 FF 00"),
     (
         "padded local start above its bound",
-        2,
+        3,
         "P 02 01 00 01 00 00 02 01 FF FF FF 00",
     ),
-    ("padded count above its bound", 2, "P 01 01 00 FF FF FF 00"),
+    ("padded count above its bound", 3, "P 01 01 00 FF FF FF 00"),
     (
         "padded count outside of its range",
-        2,
+        21,
         "P 02 01 00 01 00 00 02 01 00 85 00",
     ),
     (
-        "padded number of restrictions that would be 0",
-        2,
+        "padded number of restrictions 0, a number of fields due",
+        1,
         "P 01 01 00 01 80 00",
     ),
-    (
-        "padded number of restrictions that would be 1",
-        2,
-        "P 01 01 00 01 81 00",
-    ),
+    ("padded number of restrictions 1", 9, "P 01 01 00 01 81 00"),
     (
         "padded number of fields above its bound",
-        2,
+        3,
         "P 01 01 00 01 00 FF FF 00",
     ),
     (
         "padded number of fields fewer than known",
-        2,
+        11,
         "D 00 01 01 01 80 00",
     ),
     (
         "padded restrictions of a field",
-        2,
+        9,
         "P 01 01 00 01 00 01 81 00",
     ),
     (
         "padded kind that is not listed",
-        2,
+        10,
         "P 01 01 00 01 00 01 00 90 00",
     ),
-    ("padded kind", 2, "P 01 01 00 01 00 01 00 8B 00 01 01 00"),
+    ("padded kind", 0, "P 01 01 00 01 00 01 00 8B 00 01 01 00"),
     (
         "padded constant",
-        2,
+        0,
         "P 01 01 00 01 00 01 00 04 80 00 01 00",
     ),
     (
         "padded length in a kind, above its bound",
-        2,
+        3,
         "P 01 01 00 01 00 01 00 0F FF FF FF 00",
     ),
     (
         "padded element kind that is not listed",
-        2,
+        10,
         "P 01 01 00 01 00 01 00 11 90 00",
     ),
+    ("padded field name 0", 5, "P 01 01 00 01 00 01 00 0B 80 00"),
     (
-        "padded field name that would be 0",
-        2,
-        "P 01 01 00 01 00 01 00 0B 80 00",
-    ),
-    (
-        "padded field name that would be used",
-        2,
+        "padded field name that is used",
+        6,
         "P 01 01 00 01 00 02 00 0B 01 01 00 0B 81 00",
     ),
     (
-        "padded end that would fall",
-        2,
+        "padded end that falls",
+        4,
         "P 01 01 00 01 00 02 00 0B 01 01 00 0B 02 80 00",
     ),
     (
-        "padded string number that would be too large",
-        2,
+        "padded string number too large",
+        14,
         "P 01 01 00 01 00 01 00 0E 01 02 FF 00",
     ),
     (
-        "padded object number that would be no object",
-        2,
+        "padded object number that is no object",
+        14,
         "P 01 01 00 01 00 01 00 20 01 02 FF 00",
     ),
     (
         "padded array length above its bound",
-        2,
+        3,
         "P 01 01 00 01 00 01 00 11 06 01 04 FF FF FF 00",
     ),
 ];
@@ -275,7 +263,11 @@ const PAIRS: &[Row] = &[
     ("one byte after 32 pairs", 3, "0000*32 80"),
     ("a padded number after 32 pairs", 3, "0000*32 80 00"),
     ("one byte after 31 pairs", 1, "0000*31 80"),
-    ("a padded number after 31 pairs", 2, "0000*31 80 00"),
+    (
+        "a padded number after 31 pairs, the entries due",
+        1,
+        "0000*31 80 00",
+    ),
     ("number of entries missing", 1, "00"),
     (
         "number of entries missing in the second pair",
@@ -906,7 +898,7 @@ const VALUES: &[Row] = &[
     ("v64 missing", 12, "P 01 01 00 02 00 01 00 0B 01 01 05"),
     (
         "padded v64 before a left-over byte",
-        2,
+        12,
         "P 01 01 00 01 00 01 00 0B 01 03 80 00 05",
     ),
     (
@@ -918,7 +910,11 @@ const VALUES: &[Row] = &[
     ("string 5 of 5", 0, "P 01 01 00 01 00 01 00 0E 01 01 05"),
     ("string 6 of 5", 14, "P 01 01 00 01 00 01 00 0E 01 01 06"),
     ("string crosses", 12, "P 01 01 00 01 00 01 00 0E 01 01 86"),
-    ("string padded", 2, "P 01 01 00 01 00 01 00 0E 01 02 86 00"),
+    (
+        "padded string number 6 of 5",
+        14,
+        "P 01 01 00 01 00 01 00 0E 01 02 86 00",
+    ),
     (
         "string of the next pair",
         14,
@@ -949,7 +945,7 @@ const ARRAYS: &[Row] = &[
     ),
     (
         "array length padded",
-        2,
+        0,
         "P 01 01 00 01 00 01 00 11 06 01 02 80 00",
     ),
     (
@@ -994,7 +990,7 @@ const ARRAYS: &[Row] = &[
     ),
     (
         "array element padded",
-        2,
+        0,
         "P 01 01 00 01 00 01 00 11 0B 01 04 02 05 80 00",
     ),
     (
@@ -1025,7 +1021,7 @@ const ARRAYS: &[Row] = &[
     ),
     (
         "second array's length padded",
-        2,
+        0,
         "P 01 01 00 02 00 01 00 11 06 01 04 01 FF 80 00",
     ),
     (
@@ -1070,7 +1066,7 @@ const REFERENCES: &[Row] = &[
     ),
     (
         "reference padded",
-        2,
+        0,
         "P 01 01 00 01 00 01 00 20 01 02 81 00",
     ),
     (

@@ -17,9 +17,12 @@ const REFUSED: &[Row] = &[
     ("coding cut by the file's end", 1, "80"),
     ("string's bytes missing", 1, "01 00000002 61"),
     ("region past the file", 1, "D 00 01 01 01 01 03 80 02"),
-    ("padded number of strings", 2, "80 00"),
-    ("padded nine bytes", 2, "80*8 00"),
-    ("padded value", 2, "Q 01 01 00 01 00 01 00 0B 01 02 80 00"),
+    (
+        "a padded 0 as the number of strings, no entries",
+        1,
+        "80 00",
+    ),
+    ("a 0 of nine bytes, no entries", 1, "80*8 00"),
     ("1025 strings", 3, "81 08"),
     ("65536 entries", 3, "00 80 80 04"),
     ("65536 objects", 3, "Q 01 01 00 80 80 04"),
@@ -176,4 +179,5 @@ const ACCEPTED: &[Row] = &[
     ("late field, count 1", 0, "D 01 00000001 78 01 01 01 02 01 00 07 02 04 09 050607"),
     ("known type without fields", 0, "Q 01 01 00 01 00 00 00 01 01 00 00 00 01 01 01 00"),
     ("subtype with count 0 alone in its block", 0, "Q 02 01 00 01 00 00 02 01 00 01 00 00 00 01 02 00 00 00"),
+    ("a padded value", 0, "Q 01 01 00 01 00 01 00 0B 01 02 80 00"),
 ];

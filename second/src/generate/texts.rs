@@ -6,6 +6,7 @@ use crate::bounds;
 use crate::draft;
 use crate::listing;
 use crate::reader;
+use crate::v64;
 
 /// The listing of file E.
 pub const LISTING_E: &str = "pair\t1\t1\nstr\t64617465\ntype\t1\t0\t-\t2\t1\nnew\t11\t1\nval\t1\n\
@@ -1016,7 +1017,7 @@ fn one(random: &mut Random, index: usize) -> Case {
         good::WIDE,
         good::LONG,
     ]);
-    let file = draft::write(&good::ledger(random, size));
+    let file = draft::write(&good::ledger(random, size, v64::write));
     let text = listing_of(&file).unwrap_or_default();
     let (label, text) = match index % 4 {
         0 => ("whole".to_string(), text),

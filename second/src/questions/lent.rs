@@ -19,11 +19,11 @@ where
 }
 
 pub fn ask(sheet: &mut Sheet, two: &File) {
-    let padded = sheet.file("lent-padded", "a padded number", vec![0x80, 0x00]);
+    let cut = sheet.file("lent-cut", "a number cut in its padding", vec![0x80; 8]);
     sheet.after_check(two, LONG);
     sheet.after_check(two, SHORT);
     sheet.after_check(two, &[]);
-    sheet.after_check(&padded, EXACT);
+    sheet.after_check(&cut, EXACT);
     sheet.state(
         "after-check",
         "the table after a check, accepted and refused",
@@ -32,32 +32,32 @@ pub fn ask(sheet: &mut Sheet, two: &File) {
     sheet.after_objects(two, "a", SHORT);
     sheet.after_objects(two, "z", EXACT);
     sheet.state("after-objects", "the table after a question for objects");
-    columns(sheet, two, &padded);
-    listings(sheet, two, &padded);
+    columns(sheet, two, &cut);
+    listings(sheet, two, &cut);
     builds(sheet);
     maps(sheet);
 }
 
-fn columns(sheet: &mut Sheet, two: &File, padded: &File) {
+fn columns(sheet: &mut Sheet, two: &File, cut: &File) {
     let asked = ("a", "b", 7);
     let [more, enough, less] = rooms(2, -4);
     sheet.after_column(two, asked, LONG, &more);
     sheet.after_column(two, asked, LONG, &less);
     sheet.after_column(two, asked, EXACT, &enough);
     sheet.after_column(two, asked, SHORT, &more);
-    sheet.after_column(padded, asked, LONG, &more);
+    sheet.after_column(cut, asked, LONG, &more);
     sheet.state(
         "after-column",
         "table and output after a column: longer than needed, enough, one short",
     );
 }
 
-fn listings(sheet: &mut Sheet, two: &File, padded: &File) {
+fn listings(sheet: &mut Sheet, two: &File, cut: &File) {
     let [more, enough, less] = rooms(lines(TWO).len(), 1);
     sheet.after_listing(two, LONG, &more);
     sheet.after_listing(two, LONG, &less);
     sheet.after_listing(two, SHORT, &enough);
-    sheet.after_listing(padded, EXACT, &more);
+    sheet.after_listing(cut, EXACT, &more);
     sheet.state("after-listing", "table and output after a listing");
 }
 

@@ -9,6 +9,7 @@ mod columns;
 mod lent;
 mod listings;
 mod order;
+mod padded;
 mod sheet;
 
 use sheet::Sheet;
@@ -25,5 +26,6 @@ pub fn text() -> String {
     listings::ask(&mut sheet);
     builds::ask(&mut sheet);
     lent::ask(&mut sheet, &two);
+    padded::ask(&mut sheet, &two);
     sheet.text()
 }

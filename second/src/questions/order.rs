@@ -9,21 +9,25 @@ const SHORT: usize = TABLE - 1;
 
 pub fn ask(sheet: &mut Sheet, two: &File) {
     let mut bytes = two.bytes.clone();
-    bytes.extend([0x80, 0x00]);
-    let padded = sheet.file("padded", "the same and a padded number behind it", bytes);
+    bytes.extend([0x80, 0x80]);
+    let cut = sheet.file(
+        "cut",
+        "the same and a number behind it that is cut in its padding",
+        bytes,
+    );
     let none = sheet.file("empty", "the empty file", Vec::new());
     let three = "pair 1 1/str 61/type 1 0 - 0 0/pair 0 0/pair 0 1/type 1 - - 1 0";
     let three = sheet.listed("three", "three pairs", three);
-    tables(sheet, two, &padded, &none, &three);
-    columns(sheet, two, &padded);
-    listings(sheet, two, &padded, &none);
+    tables(sheet, two, &cut, &none, &three);
+    columns(sheet, two, &cut);
+    listings(sheet, two, &cut, &none);
     builds(sheet);
 }
 
 /// 15 before the file's own refusals, and 0 for an accepted file.
-fn tables(sheet: &mut Sheet, two: &File, padded: &File, none: &File, three: &File) {
+fn tables(sheet: &mut Sheet, two: &File, cut: &File, none: &File, three: &File) {
     for table in [0, SHORT] {
-        for file in [two, padded, none] {
+        for file in [two, cut, none] {
             sheet.check(table, file);
             sheet.objects("a", table, file);
             sheet.objects("z", table, file);
@@ -31,7 +35,7 @@ fn tables(sheet: &mut Sheet, two: &File, padded: &File, none: &File, three: &Fil
     }
     sheet.state("table-short", "15 comes first");
     for table in [TABLE, TABLE + 1, 3 * TABLE] {
-        for file in [two, padded, none, three] {
+        for file in [two, cut, none, three] {
             sheet.check(table, file);
             sheet.objects("a", table, file);
             sheet.objects("z", table, file);
@@ -45,7 +49,7 @@ fn tables(sheet: &mut Sheet, two: &File, padded: &File, none: &File, three: &Fil
 
 /// 15, the file's own, 16, 17, 18, 19: everything from some point on is wrong,
 /// and each alone against each behind it.
-fn columns(sheet: &mut Sheet, two: &File, padded: &File) {
+fn columns(sheet: &mut Sheet, two: &File, cut: &File) {
     let types = ["z", "a"];
     let fields = ["z", "b"];
     let kinds = [33, 7];
@@ -54,9 +58,9 @@ fn columns(sheet: &mut Sheet, two: &File, padded: &File) {
         for field in fields {
             for kind in kinds {
                 for room in rooms {
-                    sheet.column((name, field, kind), room, SHORT, padded);
+                    sheet.column((name, field, kind), room, SHORT, cut);
                     sheet.column((name, field, kind), room, SHORT, two);
-                    sheet.column((name, field, kind), room, TABLE, padded);
+                    sheet.column((name, field, kind), room, TABLE, cut);
                     sheet.column((name, field, kind), room, TABLE, two);
                 }
             }
@@ -75,14 +79,14 @@ fn columns(sheet: &mut Sheet, two: &File, padded: &File) {
 }
 
 /// 15, the file's own, 19.
-fn listings(sheet: &mut Sheet, two: &File, padded: &File, none: &File) {
+fn listings(sheet: &mut Sheet, two: &File, cut: &File, none: &File) {
     let length = lines(TWO).len();
     for table in [SHORT, TABLE, TABLE + 1] {
         for room in [0, length - 1, length, length + 1] {
             sheet.listing(room, table, two);
         }
-        sheet.listing(0, table, padded);
-        sheet.listing(1_000, table, padded);
+        sheet.listing(0, table, cut);
+        sheet.listing(1_000, table, cut);
         sheet.listing(0, table, none);
         sheet.listing(1, table, none);
     }

@@ -28,7 +28,7 @@ const RUN: usize = 12;
 
 /// A file with the name that stands for it.
 pub struct File {
-    name: &'static str,
+    pub name: &'static str,
     pub bytes: Vec<u8>,
 }
 

@@ -1,7 +1,7 @@
 use borrow.Author.Needs.{needs}
 use native.Mathlib.Omega.{arith}
 use Prim.Native.Nat.{_-_}
-use Rattle.numbers.proofs.V64Laws.{Reading, reading-start, reading-cut, reading-padded, reading-last, reading-next, fits}
+use Rattle.numbers.proofs.V64Laws.{Reading, reading-start, reading-cut, reading-last, reading-next, fits}
 use Rattle.numbers.proofs.v64_on.Statement.{statement}
 use Rattle.numbers.proofs.v64_on.Tie as tie
 
@@ -23,25 +23,21 @@ v64-on-spec =
     (λ c. rw (c .refuse .ensures) (reading-cut (c .before .before .before .loop .inv) (omega arith)))
     (λ c. omega arith)
     (λ c κs. search needs)
+    (λ c. omega arith)
+    (λ c. omega (arith, fits (c .before .before .before .before .before .loop .inv) (c .before .wide .result) (c .before .wide .ensures .1)))
+    (λ c. omega (arith, fits (c .before .before .before .before .before .loop .inv) (c .before .wide .result) (c .before .wide .ensures .1)))
+    (λ c. reading-last (c .before .before .before .before .before .loop .inv) _ (omega arith) (c .before .wide .ensures .0) _ (omega arith) (λ i. omega arith) (c .before .wide .ensures .1))
+    (λ c. omega (arith, fits (c .before .before .before .before .before .loop .inv) (c .before .wide .result - 128) (omega arith)))
+    (λ c. omega (arith, fits (c .before .before .before .before .before .loop .inv) (c .before .wide .result - 128) (omega arith)))
+    (λ c. omega (arith, fits (c .before .before .before .before .before .loop .inv) 0 (omega arith)))
+    (λ c. omega arith)
+    (λ c. omega arith)
+    (λ c. reading-next (c .before .before .before .before .before .loop .inv) _ (omega arith) (c .before .wide .ensures .0) _ (omega arith) (omega arith) (omega arith) (c .before .wide .ensures .1))
     (λ c κs. search needs)
-    (λ c. rw (c .refuse2 .ensures) (reading-padded (c .before .before .before .before .before .before .loop .inv) _ (omega arith) (c .before .before .wide .ensures .0) _ (omega arith) (omega arith)))
-    (λ c. omega arith)
-    (λ c. omega (arith, fits (c .before .before .before .before .before .before .loop .inv) (c .before .before .wide .result) (c .before .before .wide .ensures .1)))
-    (λ c. omega (arith, fits (c .before .before .before .before .before .before .loop .inv) (c .before .before .wide .result) (c .before .before .wide .ensures .1)))
-    (λ c. reading-last (c .before .before .before .before .before .before .loop .inv) _ (omega arith) (c .before .before .wide .ensures .0) _ (omega arith) (omega (arith, c .before .if2 .left)) (λ i. omega arith) (c .before .before .wide .ensures .1))
-    (λ c. omega (arith, fits (c .before .before .before .before .before .before .loop .inv) (c .before .before .wide .result - 128) (omega arith)))
-    (λ c. omega (arith, fits (c .before .before .before .before .before .before .loop .inv) (c .before .before .wide .result - 128) (omega arith)))
-    (λ c. omega (arith, fits (c .before .before .before .before .before .before .loop .inv) 0 (omega arith)))
-    (λ c. omega arith)
-    (λ c. omega arith)
-    (λ c. reading-next (c .before .before .before .before .before .before .loop .inv) _ (omega arith) (c .before .before .wide .ensures .0) _ (omega arith) (omega arith) (omega arith) (c .before .before .wide .ensures .1))
-    (λ c κs. search needs)
-    (λ c. rw (c .refuse3 .ensures) (reading-cut (c .before .before .before .loop .inv) (omega arith)))
+    (λ c. rw (c .refuse2 .ensures) (reading-cut (c .before .before .before .loop .inv) (omega arith)))
     (λ c. omega arith)
     (λ c κs. search needs)
-    (λ c κs. search needs)
-    (λ c. rw (c .refuse4 .ensures) (reading-padded (c .before .before .before .before .before .before .loop .inv) _ (omega arith) (c .before .before .wide2 .ensures .0) _ (omega arith) (omega arith)))
     (λ c. omega arith)
-    (λ c. omega (arith, fits (c .before .before .before .before .before .loop .inv) (c .before .wide2 .result) (c .before .wide2 .ensures .1)))
-    (λ c. omega (arith, fits (c .before .before .before .before .before .loop .inv) (c .before .wide2 .result) (c .before .wide2 .ensures .1)))
-    (λ c. reading-last (c .before .before .before .before .before .loop .inv) _ (omega arith) (c .before .wide2 .ensures .0) _ (omega arith) (omega (arith, c .if5 .left)) (λ i. omega arith) (c .before .wide2 .ensures .1)))
+    (λ c. omega (arith, fits (c .before .before .before .before .loop .inv) (c .wide2 .result) (c .wide2 .ensures .1)))
+    (λ c. omega (arith, fits (c .before .before .before .before .loop .inv) (c .wide2 .result) (c .wide2 .ensures .1)))
+    (λ c. reading-last (c .before .before .before .before .loop .inv) _ (omega arith) (c .wide2 .ensures .0) _ (omega arith) (λ i. omega arith) (c .wide2 .ensures .1)))

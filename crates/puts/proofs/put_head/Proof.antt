@@ -1,5 +1,5 @@
 use Rattle.lay.specs.Laid.{laid-then}
-use Rattle.paper.specs.Encode.{putHead}
+use Rattle.laws.specs.Put.{putHead}
 use borrow.Author.Needs.{needs}
 use Rattle.puts.proofs.put_head.Statement.{statement}
 use Rattle.puts.proofs.put_head.Tie as tie

@@ -1,7 +1,7 @@
 use native.Mathlib.Omega.{arith}
 use mathlib.Core.Logic.{⊎-elim}
 use Rattle.lay.specs.Laid.{laid-as}
-use Rattle.paper.specs.Encode.{putKind}
+use Rattle.laws.specs.Put.{putKind}
 use Rattle.values.specs.Chunks.{kind-array, kind-many, kind-plain}
 use Rattle.puts.specs.Kinds.{kind-constant}
 use borrow.Author.Needs.{needs}

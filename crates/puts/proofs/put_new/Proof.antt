@@ -1,5 +1,5 @@
 use Rattle.lay.specs.Laid.{laid-then}
-use Rattle.paper.specs.Encode.{putNew}
+use Rattle.laws.specs.Put.{putNew}
 use borrow.Author.Needs.{needs}
 use Rattle.puts.proofs.put_new.Statement.{statement}
 use Rattle.puts.proofs.put_new.Tie as tie

@@ -1,6 +1,6 @@
 use native.Mathlib.Omega.{arith}
 use Rattle.lay.specs.Laid.{most, laid-none}
-use Rattle.paper.specs.Encode.{putOption}
+use Rattle.laws.specs.Put.{putOption}
 use borrow.Author.Needs.{needs}
 use Rattle.puts.proofs.put_option.Statement.{statement}
 use Rattle.puts.proofs.put_option.Tie as tie

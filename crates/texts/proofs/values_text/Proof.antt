@@ -3,7 +3,7 @@ use native.Mathlib.Omega.{arith}
 use borrow.Author.Needs.{needs}
 use Rattle.lay.specs.Laid.{most}
 use Rattle.paper.specs.Lists.{flat}
-use Rattle.paper.specs.Encode.{putElement}
+use Rattle.laws.specs.Put.{putElement}
 use Rattle.texts.specs.Elements.{kept}
 use Rattle.texts.specs.Exact.{exactly}
 use Rattle.texts.specs.Told.{Taking, taking-start, taking-next, taking-bad, taking-done}

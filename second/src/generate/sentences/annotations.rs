@@ -181,27 +181,27 @@ const ORDER: &[Row] = &[
     ),
     (
         "the first number is padded",
-        2,
+        0,
         "Q 01 01 00 01 00 01 00 05 01 [ 81 00 01 ]",
     ),
     (
         "the second number is padded",
-        2,
+        0,
         "Q 01 01 00 01 00 01 00 05 01 [ 01 81 00 ]",
     ),
     (
-        "the first number is padded, the second due: 2",
-        2,
+        "the first number is padded, the second due: 12",
+        12,
         "Q 01 01 00 01 00 01 00 05 01 [ 81 00 ]",
     ),
     (
-        "a string number past the strings, the second number padded: 2",
-        2,
+        "a string number past the strings, the second number padded: 14",
+        14,
         "Q 01 01 00 01 00 01 00 05 01 [ 03 81 00 ]",
     ),
     (
-        "a padded second number would be half-null: 2",
-        2,
+        "a padded second number of 0 is half-null: 14",
+        14,
         "Q 01 01 00 01 00 01 00 05 01 [ 01 80 00 ]",
     ),
     (

@@ -111,7 +111,7 @@ const REGION: &[Row] = &[
     ("the region is within the file before its values are tested", 1, "P 01 01 00 01 00 01 00 06 01 02 01"),
     ("the region is within the file before a constant's chunk is tested", 1, "P 01 01 00 01 00 01 00 00 05 01 02 00"),
     ("the last end closes the region, and the next pair starts there", 0, "P 01 01 00 01 00 02 00 07 01 01 00 07 02 02 0506 00 01 01 01 02 01 02 0708"),
-    ("the last end closes the region: the next pair is not read from it", 2, "P 01 01 00 01 00 01 00 07 01 01 00 80 00"),
+    ("the last end closes the region: the next pair is not read from it", 1, "P 01 01 00 01 00 01 00 07 01 01 00 80 00"),
     ("the region is empty if the block gives no end", 0, "P 01 01 00 05 00 00 00 00"),
     ("the region is empty if the block gives no end, after one that did", 0, "D 00 01 01 00 00 00 00"),
     ("the region is empty where all ends are 0", 0, "P 01 01 00 00 00 02 00 0B 01 00 00 0B 02 00 00 00"),

@@ -22,8 +22,8 @@ const TYPES: &[Row] = &[
     ("2^32 + 2 types are not 2", 10, "Q 01 01 00 00 00 01 00 14 82 80 80 80 10 06 06 01 00"),
     ("2^63 types: 10 at that number", 10, "Q 01 01 00 00 00 01 00 14 80*9"),
     ("2^64 - 1 types: 10 at that number", 10, "Q 01 01 00 00 00 01 00 14 FF*9"),
-    ("a padded number of types: 2 before 10", 2, "Q 01 01 00 00 00 01 00 14 81 00"),
-    ("a padded number of types that would be 2", 2, "Q 01 01 00 00 00 01 00 14 82 00 06 06 01 00"),
+    ("a padded number of types: 1 is none", 10, "Q 01 01 00 00 00 01 00 14 81 00"),
+    ("a padded number of types: 2", 0, "Q 01 01 00 00 00 01 00 14 82 00 06 06 01 00"),
     ("2 to 8 types", 0, "S7 01 01 00 00 00 07 00 14 02 06*2 01 00 00 14 03 07*3 02 00 00 14 04 08*4 03 00 00 14 05 09*5 04 00 \
         00 14 06 0A*6 05 00 00 14 07 0B*7 06 00 00 14 08 0C*8 07 00"),
     ("the first element kind is due", 1, "Q 01 01 00 00 00 01 00 14 02"),
@@ -37,7 +37,7 @@ const TYPES: &[Row] = &[
     ("the third of four element kinds is none", 10, "Q 01 01 00 00 00 01 00 14 04 06 06 11 06 01 00"),
     ("the eighth of eight element kinds is none", 10, "Q 01 01 00 00 00 01 00 14 08 05*7 0F 01 00"),
     ("the first of two that are none is the place", 10, "Q 01 01 00 00 00 01 00 14 03 06 10 1F 01 00"),
-    ("a padded element kind: 2 before 10", 2, "Q 01 01 00 00 00 01 00 14 02 06 94 00"),
+    ("a padded element kind: 20 is none", 10, "Q 01 01 00 00 00 01 00 14 02 06 94 00"),
     ("a map's element kind that is none before a falling end", 10, "P 01 01 00 00 00 02 00 0B 01 02 00 14 02 06 10 02 01"),
 ];
 
@@ -196,12 +196,12 @@ const SIZES: &[Row] = &[
     ),
     (
         "a padded size",
-        2,
+        0,
         "Q 01 01 00 01 00 01 00 14 02 06 06 01 [ 80 00 ]",
     ),
     (
-        "a padded size above 65535: 2 before 3",
-        2,
+        "a padded size above 65535",
+        3,
         "Q 01 01 00 01 00 01 00 14 02 06 06 01 [ FF FF FF 00 ]",
     ),
     (
@@ -260,7 +260,7 @@ const INNER: &[Row] = &[
     ),
     (
         "a padded inner size",
-        2,
+        0,
         "Q 01 01 00 01 00 01 00 14 03 06 06 06 01 [ 01 FF 80 00 ]",
     ),
     (
@@ -324,12 +324,12 @@ const ELEMENTS: &[Row] = &[
     ),
     (
         "a padded key",
-        2,
+        0,
         "Q 01 01 00 01 00 01 00 14 02 0B 06 01 [ 01 80 00 FF ]",
     ),
     (
         "a padded value",
-        2,
+        0,
         "Q 01 01 00 01 00 01 00 14 02 06 0B 01 [ 01 FF 80 00 ]",
     ),
     (

@@ -12,6 +12,7 @@ mod kinds;
 mod maps;
 mod numbers;
 mod objects;
+mod padded;
 mod ranges;
 mod references;
 mod strings;
@@ -26,7 +27,10 @@ pub struct Section {
     pub cases: Vec<Case>,
 }
 
-/// All of them, in the paper's order.
+/// The section of padded numbers.
+pub const PADDED: &str = "Padded";
+
+/// All of them, in the paper's order; padded numbers come from everywhere in it.
 pub fn sections() -> Vec<Section> {
     let section = |name, cases| Section { name, cases };
     vec![
@@ -41,6 +45,7 @@ pub fn sections() -> Vec<Section> {
         section("References", references::cases()),
         section("Annotations", annotations::cases()),
         section("Maps", maps::cases()),
+        section(PADDED, padded::cases()),
     ]
 }
 

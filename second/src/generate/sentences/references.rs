@@ -13,7 +13,7 @@ const POOL: &[Row] = &[
     ("the number is unsigned: 2^64 - 1", 14, "Q 01 01 00 01 00 01 00 20 01 09 FF*9"),
     ("the number is unsigned: 2^63", 14, "Q 01 01 00 01 00 01 00 20 01 09 80*9"),
     ("for one reference: 12 before 14", 12, "Q 01 01 00 01 00 01 00 20 01 01 82"),
-    ("for one reference: 2 before 14", 2, "Q 01 01 00 01 00 01 00 20 01 02 82 00"),
+    ("a padded reference has its value: no object", 14, "Q 01 01 00 01 00 01 00 20 01 02 82 00"),
     ("32 + n is the type declared n-th, whatever its string's number", 0, "P 02 05 00 01 00 02 00 20 01 01 00 21 02 02 03 00 02 00 00 01 02"),
     ("32 + n is the type declared n-th: past the first's objects", 14, "P 02 05 00 01 00 02 00 20 01 01 00 21 02 02 03 00 02 00 00 02 02"),
     ("32 + n is the type declared n-th, not the n-th entry of the block", 14, "Q 02 01 00 01 00 00 02 00 02 00 00 00 02 02 00 01 00 20 01 02 01 00 00 00 02"),

@@ -21,7 +21,11 @@ const PAIRS: &[Row] = &[
         "0000*32 80 00",
     ),
     ("the 32nd pair is decoded, cut", 1, "0000*31 80"),
-    ("the 32nd pair is decoded, padded", 2, "0000*31 80 00"),
+    (
+        "the 32nd pair is decoded: a padded 0, and the entries are due",
+        1,
+        "0000*31 80 00",
+    ),
     ("the next pair starts where the region ends", 1, "D 00"),
     (
         "a pair with strings alone, and one with entries alone",

@@ -7,6 +7,7 @@ mod calls;
 mod front;
 mod listing;
 mod maps;
+mod padded;
 mod places;
 mod values;
 
@@ -39,6 +40,8 @@ pub const NONE: Fault = fault!("nothing is wrong",
 pub fn all() -> Vec<Fault> {
     let groups = [
         front::NUMBERS,
+        padded::CODINGS,
+        padded::NEVER_2,
         front::STRINGS,
         front::NAMES,
         block::ENTRIES,
@@ -56,6 +59,7 @@ pub fn all() -> Vec<Fault> {
         calls::ORDER,
         calls::COLUMNS,
         listing::LISTING,
+        padded::ELSEWHERE,
         build::READ,
         build::SCAN,
     ];

@@ -1,8 +1,8 @@
 use borrow.Author.Needs.{needs}
-use mathlib.Core.Path.{refl}
+use mathlib.Core.Path.{sym}
 use native.Mathlib.Omega.{arith}
-use Rattle.numbers.specs.Cursors.{past-got, past-no}
-use Rattle.numbers.proofs.V64Laws.{none-there, one-there}
+use Rattle.numbers.specs.Cursors.{read-past}
+use Rattle.numbers.proofs.V64Laws.{none-there, one-there, two-there}
 use Rattle.numbers.proofs.Cursor.past_v64.Statement.{statement}
 use Rattle.numbers.proofs.Cursor.past_v64.Tie as tie
 
@@ -10,14 +10,20 @@ pub past-v64-spec : {M : Type 1} → statement M
 past-v64-spec =
     tie.close
     (tie.spec
-    (λ c. past-no (none-there _ _ (c .if1 .taken)) refl refl)
+    (λ c. read-past _ (none-there _ _ (c .if1 .taken)))
     (λ c. search needs)
     (λ c κs. search needs)
     (λ c. search needs)
-    (λ c. past-got (one-there _ _ _ (omega arith) (c .before .wide .ensures .0) (c .if2 .taken)) refl)
+    (λ c. read-past _ (one-there _ _ _ (omega arith) (c .before .wide .ensures .0) (c .if2 .taken)))
+    (λ c. search needs)
     (λ c κs. search needs)
+    (λ c κs. search needs)
+    (λ c. rw (c .passed .ensures) (read-past _ (c .before .v64-on .ensures)))
     (λ c. search needs)
     (λ c. search needs)
     (λ c κs. search needs)
-    (λ c. past-no (c .before .before .before .v64-on .ensures) (c .before .enum-told .given .1) (c .refused .ensures))
-    (λ c. past-got (c .before .before .before .v64-on .ensures) (c .before .a .given .1)))
+    (λ c. search needs)
+    (λ c. two-there _ _ (omega arith) (rw (c .before .before .before .before .before .wide .ensures .0) at (c .before .before .before .before .if2 .left)) (rw (c .before .wide2 .ensures .0) at (c .if4 .taken)))
+    (λ c κs. search needs)
+    (λ c. omega (arith, c .long-length .ensures .inside))
+    (λ c. record { says = sym (c .long-length .ensures .says); inside = λ h. c .long-length .ensures .inside }))
