@@ -10,7 +10,7 @@ use Rattle.paper.specs.Numbers.{put}
 use Rattle.paper.specs.Lists.{flat}
 use Rattle.paper.specs.Ledger.{Entry, Chunk, Pair, Due, State}
 use Rattle.paper.specs.Rules.{withStrings, dues, closed, afterFront, afterPair}
-use Rattle.paper.specs.Pieces.{endsFrom, zip}
+use Rattle.paper.specs.Pieces.{zip}
 use Rattle.paper.specs.Encode.{putChunks, putPair}
 use Rattle.laws.specs.Put.{putStrings, putEntries, put-front}
 use Rattle.paper.specs.Scan.{pairText}

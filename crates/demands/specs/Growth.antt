@@ -11,7 +11,6 @@ use Rattle.paper.specs.Ledger.{Ledger, Field, fieldAt, objectsOf}
 use Rattle.paper.specs.Calls.{done, known, asked, columnOf, column, afterColumn}
 use Rattle.laws.specs.Longer.{Begins, file-longer}
 use Rattle.laws.specs.Columns.{Grows, known-grows, type-stays, field-stays, columns-longer}
-use Rattle.laws.specs.Promises.{accepted-exactly}
 use Rattle.calls.specs.Told.{after}
 use Rattle.calls.specs.declared.replies.Reply.{Reply}
 use Rattle.calls.specs.declared.replies.Reply.the-variants.{Done}

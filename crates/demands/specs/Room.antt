@@ -1,6 +1,6 @@
 -- The room for a listing: 9 bytes for each byte of the file, and 4 for each value of an array of fixed length 0, are enough. Assumes
 -- nothing.
-use mathlib.Core.Path.{_≡_, ap}
+use mathlib.Core.Path.{_≡_}
 use mathlib.Core.Bool.{false}
 use mathlib.Core.List.{List, _++_}
 use Prim.Native.Nat.{ℕ, _+_, _*_, _≤_}

@@ -1,5 +1,5 @@
 -- A number that is written is read, and so is every coding of it. Assumes nothing.
-use mathlib.Core.Path.{_≡_, refl, sym, _∙_, ap, subst}
+use mathlib.Core.Path.{_≡_, refl, sym, ap, subst}
 use mathlib.Core.Bool.{Bool, true, false, _&&_}
 use mathlib.Core.List.{List, [], _∷_, _++_, append-assoc, append-nil}
 use Prim.Native.Nat.{ℕ, zero, suc, _+_, _-_, _*_, _/_, _%_, _^_, _≤_, _<_}
@@ -7,13 +7,13 @@ use native.Mathlib.Omega.{arith}
 use native.Mathlib.Nat.{div-add-mod', mod-lt, one-le-pow, pow-suc, pow-succ', div-lt-iff-lt-mul, div-one, add-zero, mul-comm, zero-add, mul-one}
 use lib.Dec.{leb, ltb, eqb}
 use lib.ListN.{length, getD, take, drop}
-use borrow.Author.Tests.{leb-true, le-leb, lt-leb, eq-eqb, ltb-true, ltb-false, lt-ltb, le-ltb}
+use borrow.Author.Tests.{leb-true, le-leb, lt-leb, eq-eqb, ltb-true, lt-ltb, le-ltb}
 use Rattle.paper.specs.Reader.{if_then_else_, Reader, Out, got, no, _>>=_, give, must, started, Rule, _orNo_, bytes}
 use Rattle.paper.specs.Numbers.{highFirst, fixed, putFixed, coding, lowFirst, v64, putV64, number}
 use Rattle.paper.specs.Pieces.{free}
 use Rattle.paper.specs.Spell.{Coding, ninth, last, more}
 use Rattle.laws.specs.Says.{Bytes, Held}
-use Rattle.laws.specs.Takes.{Takes, takes-as, takes-is, give-takes, bind-takes, must-takes, started-takes, if-takes-true, if-takes-false, bytes-takes}
+use Rattle.laws.specs.Takes.{Takes, takes-as, takes-is, give-takes, bind-takes, started-takes, if-takes-true, if-takes-false, bytes-takes}
 use Rattle.laws.specs.Spelling.{more′, free-is, Reads, must-reads}
 
 pub fixed-length : (w n : ℕ) → length (putFixed w n) ≡ w

@@ -10,7 +10,7 @@ use lib.ListN.{length, getD, take, drop, replicate, length-replicate, length-app
 use lib.Seq.{take-at, drop-at}
 use borrow.Author.Tests.{leb-true, le-leb}
 use Rattle.paper.specs.Reader.{if_then_else_, Reader, Out, got, no, _>>=_, give, must, Rule, _orNo_, each, times}
-use Rattle.paper.specs.Numbers.{number, put}
+use Rattle.paper.specs.Numbers.{number}
 use Rattle.paper.specs.Ledger.{Kind, New, Head, Entry, Due, State, objectsOf}
 use Rattle.paper.specs.Lists.{fold, lastOr, flat}
 use Rattle.paper.specs.Rules.{typeOf, afterHead, knownDue, fieldCountRules, fieldNameRules, afterNew, afterEntry, oldDue, newDues, entryDues, dues, anyType, endRules}

@@ -25,7 +25,7 @@ use Rattle.laws.specs.Faithful.{named-inv, named-stands}
 use Rattle.laws.specs.Longer.{file-inv, file-length}
 use Rattle.laws.specs.ToEnd.{refuse-never, Chain, chain-kept, chain-taken, chain-bytes}
 use Rattle.laws.specs.Says.{Bytes, span, Says, Said, weaker, give-says, bind-says, then-says, within-says, part-says, each-says, Held, Run}
-use Rattle.laws.specs.Takes.{Takes, takes-as, takes-is, give-takes, bind-takes, then-takes, within-takes, part-takes}
+use Rattle.laws.specs.Takes.{Takes, takes-as, give-takes, bind-takes, then-takes, within-takes, part-takes}
 use Rattle.laws.specs.Spelling.{coding-some, spelt-by, spelt-join, spelt-end, Reads, reads-as, reads-is, give-reads, bind-reads}
 use Rattle.laws.specs.Shortest.{encode-spells, encode-short}
 use Rattle.laws.specs.Bools.{not-so, and-split, and-join, every-split, every-join, number-split}

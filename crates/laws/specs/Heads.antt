@@ -21,10 +21,10 @@ use Rattle.paper.specs.Pieces.{endsFrom}
 use Rattle.paper.specs.Keeps.{every, number?, only?, bytes?, head?, whole?, kindKept?}
 use Rattle.laws.specs.Says.{Bytes, bytes-take, bytes-drop, Says, Said, weaker, give-says, bind-says, must-says, if-says, only-says, bytes-says, times-says, Held, Run}
 use Rattle.laws.specs.Spelt.{fixed-says}
-use Rattle.laws.specs.Takes.{Takes, takes-as, takes-is, give-takes, bind-takes, must-takes, if-takes-true, if-takes-false, bytes-takes, times-takes, written, written-flat, All₁, bytes-append}
+use Rattle.laws.specs.Takes.{Takes, takes-as, must-takes, bytes-takes, times-takes, written, written-flat, All₁, bytes-append}
 use Rattle.paper.specs.Pieces.{Piece, free, firm, optionPieces, headPieces, kindPieces, stringPieces, wholePieces}
 use Rattle.paper.specs.Spell.{Spelt}
-use Rattle.laws.specs.Spelling.{spelt-none, spelt-as, spelt-by, spelt-join, spelt-end, firm-as, KeptSpelt, ReadSpelt, Reads, reads-as, reads-is, give-reads, bind-reads, if-reads-true, if-reads-false, only-reads-some, only-reads-none, firm-reads, repeat-reads}
+use Rattle.laws.specs.Spelling.{spelt-none, spelt-by, spelt-join, spelt-end, firm-as, KeptSpelt, ReadSpelt, Reads, reads-as, reads-is, give-reads, bind-reads, if-reads-true, if-reads-false, only-reads-some, only-reads-none, firm-reads, repeat-reads}
 use Rattle.laws.specs.Codes.{fixed-takes, number-reads}
 use Rattle.laws.specs.Bools.{not-so, and-split, and-join, every-split, every-join, number-split, number-join}
 use Rattle.laws.specs.Values.{repeat-spelt, number-kept, number-taken, whole-kept, whole-taken}

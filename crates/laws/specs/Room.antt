@@ -20,7 +20,7 @@ use Rattle.paper.specs.Lists.{any, all, places, total, fold, flat, given?, or}
 use Rattle.paper.specs.Ledger.{Kind, constant, plain, array, many, mapping, Element, flag, whole, float, link, annotation, keys, New, Head, Entry, Chunk, Pair, Ledger, Field, Due, State, nothing, noField, fieldAt, owns?, fieldsOf, objectsOf}
 use Rattle.paper.specs.Rules.{noted, typesRules, smallRules, stringsRules, withStrings, new?, typeOf, typeNameRules, superNameRules, superOf, countRules, afterHead, knownDue, fieldCountRules, fieldNameRules, afterNew, afterEntry, valuesDue, oldDue, newDues, entryDues, dues, elementKindRules, anyType, linkRules, closed, afterFront, afterPair}
 use Rattle.paper.specs.Pieces.{endsFrom, zip}
-use Rattle.paper.specs.Encode.{putChunk, putChunks, putFront, putPair, putPairs, encode}
+use Rattle.paper.specs.Encode.{putChunk, putChunks, putPair, putPairs, encode}
 use Rattle.laws.specs.Put.{putStrings, putOption, putHead, putWhole, putKind, putNew, putFields, putEntry, putEntries, putElement, putSize, putValue, put-chunk, put-front}
 use Rattle.paper.specs.Maps.{sizeOf, size?, opened, throughMaps, allThrough, atFirst}
 use Rattle.paper.specs.Keeps.{sized?, inTurn, number?, only?, head?, signed?, whole?, kindKept?, new-field?, entry?, element?, value?, chunk?, chunks?, pair?, keeps?}

@@ -1,23 +1,18 @@
 -- What is encoded is one of the files that say the ledger, and none of them is shorter. Assumes nothing.
-use mathlib.Core.Path.{_≡_, refl, sym, _∙_, ap, subst}
-use mathlib.Core.Bool.{Bool, true, false}
-use mathlib.Core.List.{List, [], _∷_, _++_, append-assoc, append-nil}
-use mathlib.Core.Option.{Option, none, some}
-use Prim.Native.Nat.{ℕ, zero, suc, _+_, _-_, _^_, _≤_, _<_}
+use mathlib.Core.Path.{_≡_, refl, _∙_, ap}
+use mathlib.Core.List.{List, [], _∷_, _++_}
+use mathlib.Core.Option.{none}
+use Prim.Native.Nat.{ℕ, zero, suc, _+_, _-_, _≤_}
 use native.Mathlib.Omega.{arith}
 use native.Mathlib.Nat.{le-refl}
-use lib.Dec.{ltb}
-use lib.IntN.{ℤ}
 use lib.ListN.{length, take, drop, length-append}
-use Rattle.paper.specs.Reader.{if_then_else_}
-use Rattle.paper.specs.Numbers.{put, putFixed, unsigned, lowFirst}
-use Rattle.paper.specs.Lists.{flat, given?}
-use Rattle.paper.specs.Ledger.{Kind, constant, plain, array, many, mapping, Element, flag, whole, float, link, annotation, keys, New, Head, Entry, Chunk, Pair, Ledger, Due, State, nothing, fieldAt}
-use Rattle.paper.specs.Maps.{sizeOf, opened, atFirst, throughMaps}
+use Rattle.paper.specs.Numbers.{put}
+use Rattle.paper.specs.Lists.{flat}
+use Rattle.paper.specs.Ledger.{whole, New, Entry, Chunk, Pair, Ledger, Due, State, nothing}
 use Rattle.paper.specs.Rules.{knownDue, withStrings, afterEntry, dues, afterFront, afterPair}
-use Rattle.paper.specs.Pieces.{Piece, num, raw, free, firm, endsFrom, zip, stringPieces, headPieces, kindPieces, newPieces, fieldPieces, entryPieces, entriesPieces, chunkPieces, frontPieces}
+use Rattle.paper.specs.Pieces.{Piece, num, raw, free, endsFrom, zip, stringPieces, headPieces, kindPieces, newPieces, fieldPieces, entryPieces, entriesPieces, chunkPieces, frontPieces}
 use Rattle.paper.specs.Encode.{write, putChunk, putChunks, putFront, putPair, putPairs, encode}
-use Rattle.paper.specs.Spell.{Coding, Spelt, done, number, bytes, SpeltChunks, SpeltPair, SpeltPairs, Spells}
+use Rattle.paper.specs.Spell.{Spelt, done, number, bytes, SpeltChunks, SpeltPair, SpeltPairs, Spells}
 use Rattle.laws.specs.Codes.{put-coding, put-low, put-short}
 
 -- ── what is encoded says the ledger ──

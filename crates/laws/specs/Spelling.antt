@@ -2,17 +2,17 @@
 use mathlib.Core.Path.{_≡_, refl, sym, _∙_, ap, subst}
 use mathlib.Core.Bool.{Bool, true, false}
 use mathlib.Core.List.{List, [], _∷_, _++_, append-assoc, append-nil}
-use mathlib.Core.Option.{Option, none, some}
-use Prim.Native.Nat.{ℕ, zero, suc, _+_, _-_, _*_, _/_, _≤_, _<_}
+use mathlib.Core.Option.{none, some}
+use Prim.Native.Nat.{ℕ, suc, _+_, _-_, _≤_, _<_}
 use native.Mathlib.Omega.{arith}
 use lib.ListN.{length, replicate}
 use Rattle.paper.specs.Reader.{if_then_else_, Reader, _>>=_, give, must, Rule, each, times, repeat, only}
 use Rattle.paper.specs.Numbers.{lowFirst}
 use Rattle.paper.specs.Lists.{all, flat}
 use Rattle.paper.specs.Pieces.{Piece, num, raw, free, firm}
-use Rattle.paper.specs.Spell.{Coding, ninth, last, more, Spelt, done, number, bytes}
+use Rattle.paper.specs.Spell.{Coding, last, more, Spelt, done, number, bytes}
 use Rattle.laws.specs.Says.{Says, Held}
-use Rattle.laws.specs.Takes.{Takes, takes-as, takes-is, give-takes, bind-takes, must-takes, only-takes-some, only-takes-none, written, written-flat, All₁}
+use Rattle.laws.specs.Takes.{Takes, takes-as, give-takes, bind-takes, must-takes, only-takes-some, only-takes-none, written, written-flat, All₁}
 use Rattle.laws.specs.Bools.{all-split, map₁}
 
 pub more′ : {k b : ℕ} (bs : List ℕ) → 128 ≤ b → b < 256 → Coding k bs → Coding (suc k) (b ∷ bs)

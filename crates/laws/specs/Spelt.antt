@@ -3,17 +3,17 @@ use mathlib.Core.Path.{_≡_, refl, sym, _∙_, ap, subst}
 use mathlib.Core.Bool.{Bool, true, false}
 use mathlib.Core.List.{List, [], _∷_, _++_, append-assoc, append-nil}
 use mathlib.Core.Option.{Option, none, some}
-use Prim.Native.Nat.{ℕ, zero, suc, _+_, _-_, _*_, _/_, _%_, _^_, _≤_, _<_}
+use Prim.Native.Nat.{ℕ, zero, suc, _-_, _*_, _^_, _≤_, _<_}
 use native.Mathlib.Omega.{arith}
 use native.Mathlib.Nat.{mul-add-div-right, mul-add-mod-self-right, div-eq-of-lt, mod-eq-of-lt, pow-suc, pow-succ', one-le-pow, div-one, add-zero, mul-le-mul-right, mul-le-mul-left, mul-comm}
-use lib.Dec.{leb, ltb, eqb}
+use lib.Dec.{leb, eqb}
 use lib.ListN.{length, getD, take, drop}
-use borrow.Author.Tests.{leb-true, leb-false, le-leb, lt-leb, eqb-true, ltb-true, le-ltb, lt-ltb}
-use Rattle.paper.specs.Reader.{if_then_else_, Reader, Out, got, no, _>>=_, give, must, Rule, _orNo_, bytes}
+use borrow.Author.Tests.{leb-true, leb-false, le-leb, lt-leb, eqb-true}
+use Rattle.paper.specs.Reader.{if_then_else_, Reader, Out, got, no, _>>=_, give, _orNo_, bytes}
 use Rattle.paper.specs.Numbers.{highFirst, fixed, putFixed, coding, lowFirst, v64}
 use Rattle.paper.specs.Pieces.{free}
 use Rattle.paper.specs.Spell.{Coding, ninth, last, more, Spelt}
-use Rattle.laws.specs.Says.{Bytes, Says, weaker, give-says, bind-says, must-says, started-says, if-says, bytes-says}
+use Rattle.laws.specs.Says.{Bytes, Says, weaker, give-says, bind-says, started-says, if-says, bytes-says}
 use Rattle.laws.specs.Spelling.{more′, spelt-as, free-spelt}
 
 pub high-bound : (bs : List ℕ) → Bytes bs → highFirst bs < 256 ^ length bs

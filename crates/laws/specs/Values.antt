@@ -11,24 +11,21 @@ use lib.IntN.{ℤ, pos, negsuc}
 use lib.ListN.{length, getD, take, drop, replicate, length-replicate, length-append, length-take, length-drop}
 use borrow.Author.Tests.{leb-true, leb-false, le-leb, lt-leb, eqb-true, eq-eqb, ltb-true, ltb-false, lt-ltb, le-ltb, not-true}
 use Rattle.paper.specs.Reader.{if_then_else_, Reader, Out, got, no, _>>=_, give, refuse, must, Rule, _orNo_, bytes, each, times, repeat, filled, part}
-use Rattle.paper.specs.Numbers.{signed, unsigned, fixed, putFixed, v64, putV64, number, put}
+use Rattle.paper.specs.Numbers.{signed, unsigned, fixed, putFixed, v64, number, put}
 use Rattle.paper.specs.Ledger.{Kind, constant, plain, array, many, mapping, Element, flag, whole, float, link, annotation, keys, Chunk, Due, State, fieldAt}
 use Rattle.paper.specs.Lists.{all, flat}
 use Rattle.paper.specs.Rules.{smallRules, boolRules, linkRules, annotation?, annotationRules}
 use Rattle.paper.specs.Maps.{sizeOf, size?}
 use Rattle.paper.specs.File.{small, wholeOf, twoNumbers, element, value, chunk}
-use Rattle.paper.specs.Encode.{putChunk}
-use Rattle.laws.specs.Put.{putWhole, putElement, putSize, putValue}
 use Rattle.paper.specs.Keeps.{number?, signed?, whole?, element?, sized?, value?, chunk?}
 use Rattle.laws.specs.Laws.{not-got, part-inv}
 use Rattle.laws.specs.Says.{Bytes, span, Says, Said, weaker, give-says, bind-says, must-says, if-says, part-says, times-says, each-says, both-say, Held, Run}
 use Rattle.laws.specs.Spelt.{fixed-says, byte-says, v64-says}
-use Rattle.laws.specs.Takes.{Takes, takes-as, takes-is, give-takes, bind-takes, must-takes, if-takes-true, if-takes-false, part-takes, times-takes, written-flat, All₁}
-use Rattle.laws.specs.Before.{TakesBefore, takes-before, before-takes}
+use Rattle.laws.specs.Takes.{Takes, takes-as, part-takes, times-takes, written-flat, All₁}
 use Rattle.laws.specs.Maps.{stand-alone, map-says, map-before}
 use Rattle.paper.specs.Pieces.{Piece, free, firm, wholePieces, elementPieces, sizePieces, valuePieces, chunkPieces}
 use Rattle.paper.specs.Spell.{Spelt}
-use Rattle.laws.specs.Spelling.{spelt-none, spelt-as, spelt-join, spelt-joins, spelt-end, firm-spelt, KeptSpelt, ReadSpelt, Reads, reads-as, reads-is, give-reads, bind-reads, must-reads, if-reads-true, if-reads-false, firm-reads, repeat-reads}
+use Rattle.laws.specs.Spelling.{spelt-none, spelt-join, spelt-joins, spelt-end, firm-spelt, KeptSpelt, ReadSpelt, Reads, reads-as, reads-is, give-reads, bind-reads, must-reads, if-reads-true, if-reads-false, firm-reads, repeat-reads}
 use Rattle.laws.specs.Codes.{fixed-takes, byte-takes, v64-reads, number-reads}
 pub use Rattle.laws.specs.Kept.{Kept, Taken}
 use Rattle.laws.specs.Bools.{not-so, and-split, and-join, number-split, number-join, all-split, map₁}

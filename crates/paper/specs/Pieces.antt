@@ -1,10 +1,10 @@
 -- What a ledger is written as, in the paper's order: pieces, each a number whose coding is open or bytes as they stand, with lengths and
 -- end offsets worked out. Encode writes each number in its shortest coding; in a file that is read it may stand in any (Spell). Assumes
 -- nothing.
-use mathlib.Core.Bool.{Bool, true, false}
+use mathlib.Core.Bool.{true, false}
 use mathlib.Core.List.{List, [], _∷_, _++_}
 use mathlib.Core.Option.{Option, none, some}
-use Prim.Native.Nat.{ℕ, zero, suc, _+_, _-_, _^_}
+use Prim.Native.Nat.{ℕ, _+_, _-_, _^_}
 use lib.Dec.{ltb}
 use lib.IntN.{ℤ}
 use lib.ListN.{length, take, drop}
