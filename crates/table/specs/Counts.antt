@@ -1,18 +1,20 @@
 -- How many rows there are: what other counts make of what the table says. Assumes nothing.
 use Prim.Native.Nat.{ℕ, zero, suc, _+_, _*_, _≤_, _<_}
 use mathlib.Core.List.{List, [], _∷_}
-use mathlib.Core.Logic.{⊎-elim}
+use mathlib.Core.Logic.{⊎-elim, _≢_}
 use mathlib.Core.Path.{_≡_, refl, sym, ap, _∙_, subst}
 use native.Mathlib.Nat.{le-refl, not-suc-le-zero, le-of-suc-le-suc, eq-or-lt-of-le}
 use native.Mathlib.Omega.{arith}
-use lib.ListN.{length, getD, take, replicate}
-use lib.Seq.{sets, length-sets, take-all, take-append-le}
-use Rattle.paper.specs.Ledger.{nothing}
+use lib.ListN.{length, getD, set, take, replicate, length-set}
+use lib.Seq.{sets, length-sets, getD-set-same, getD-set-other, take-all, take-append-le}
+use Rattle.paper.specs.Ledger.{Typ, Range, nothing}
 use Rattle.paper.specs.Rules.{closed}
-use Rattle.table.specs.Rows.{tab, cells, seg}
-use Rattle.table.specs.RowLaws.{length-tab, tab-cong, cells-cong, cells-sets, sets-other, seg-none}
+use Rattle.table.specs.Segs.{tab, cells, seg}
+use Rattle.table.specs.RowLaws.{same-or-not, length-tab, tab-cong, cells-cong, cells-sets, sets-other, seg-none}
 use Rattle.table.specs.Layout.{width, most, starts, head-le}
-use Rattle.table.specs.View.{textOf, typOf, fldOf, rangeOf, dueOf, spotOf, strsOf, namesOf, typesOf, titlesOf, fldsOf, logOf, duesOf, chunksOf, said, Ok, Within, Holds, Said, Now}
+use Rattle.table.specs.View.{textOf, typOf, fldOf, rangeOf, dueOf, spotOf, strsOf, namesOf, typesOf, titlesOf, fldsOf, logOf, duesOf, chunksOf, said, tally, Telling, Ok, Within, Holds, Said, Now}
+use Rattle.table.specs.Told.{Told}
+use Rattle.table.specs.ToldLaws.{told-none}
 use Rattle.table.specs.ViewLaws.{Fits, In, ok-of, holds-of, holds-in}
 use Rattle.table.specs.declared.rows.Counts.{Counts}
 
@@ -88,22 +90,24 @@ pub record Cut (n : Counts) (l l′ : List ℕ) : Type 0 where
   pub says : (f : List ℕ) → Holds f l → Now f l′ (cutTo n (said f l))
 
 -- the counts are the first eight cells
-pub recounted-by : (n : Counts) (b : ℕ) {l l′ : List ℕ} → length l ≡ 16384 → l′ ≡ sets l 0 (n .strings ∷ n .types ∷ n .fields ∷ n .ranges ∷ 0 ∷ n .chunks ∷ b ∷ 0 ∷ []) → Recounted n b l l′
+pub recounted-by : (n : Counts) (b told : ℕ) {l l′ : List ℕ} → length l ≡ 16384 → l′ ≡ sets l 0 (n .strings ∷ n .types ∷ n .fields ∷ n .ranges ∷ 0 ∷ n .chunks ∷ b ∷ told ∷ []) → Recounted n b l l′ × (getD l′ 7 0 ≡ told)
 unfolding cells
-recounted-by n b {l} {l′} long is =
-    let vs : List ℕ = n .strings ∷ n .types ∷ n .fields ∷ n .ranges ∷ 0 ∷ n .chunks ∷ b ∷ 0 ∷ [] in
-    let head : cells l′ 0 8 ≡ vs = ap (λ (t : List ℕ). cells t 0 8) is ∙ cells-sets vs l 0 (omega arith) in
-    record {
-      long = ap length is ∙ length-sets l 0 vs;
-      rest = λ j high. rw is (sets-other vs l 0 j (λ p. omega arith));
-      strings = ap (λ (xs : List ℕ). getD xs 0 0) head;
-      types = ap (λ (xs : List ℕ). getD xs 1 0) head;
-      fields = ap (λ (xs : List ℕ). getD xs 2 0) head;
-      ranges = ap (λ (xs : List ℕ). getD xs 3 0) head;
-      dues = ap (λ (xs : List ℕ). getD xs 4 0) head;
-      chunks = ap (λ (xs : List ℕ). getD xs 5 0) head;
-      block = ap (λ (xs : List ℕ). getD xs 6 0) head;
-    }
+recounted-by n b told {l} {l′} long is =
+    let vs : List ℕ = n .strings ∷ n .types ∷ n .fields ∷ n .ranges ∷ 0 ∷ n .chunks ∷ b ∷ told ∷ [] in
+    let head : cells l′ 0 8 ≡ vs = ap (λ (t : List ℕ). cells t 0 8) is ∙ cells-sets vs l 0 (omega arith) in (
+      record {
+        long = ap length is ∙ length-sets l 0 vs;
+        rest = λ j high. rw is (sets-other vs l 0 j (λ p. omega arith));
+        strings = ap (λ (xs : List ℕ). getD xs 0 0) head;
+        types = ap (λ (xs : List ℕ). getD xs 1 0) head;
+        fields = ap (λ (xs : List ℕ). getD xs 2 0) head;
+        ranges = ap (λ (xs : List ℕ). getD xs 3 0) head;
+        dues = ap (λ (xs : List ℕ). getD xs 4 0) head;
+        chunks = ap (λ (xs : List ℕ). getD xs 5 0) head;
+        block = ap (λ (xs : List ℕ). getD xs 6 0) head;
+      },
+      ap (λ (xs : List ℕ). getD xs 7 0) head,
+    )
 
 -- ── rows, fewer of them ──
 
@@ -144,9 +148,9 @@ fits-of l a b d e g h (suc (suc (suc (suc zero)))) lt = g
 fits-of l a b d e g h (suc (suc (suc (suc (suc zero))))) lt = h
 fits-of l a b d e g h (suc (suc (suc (suc (suc (suc k)))))) lt = absurd (omega arith)
 
-module _ (n : Counts) {b : ℕ} {l l′ : List ℕ} (r : Recounted n b l l′) (ok : Ok l) (fewer : NotAbove n l) where
+module _ (n : Counts) {b : ℕ} {l l′ : List ℕ} (r : Recounted n b l l′) (ok : Ok l) (fewer : NotAbove n l) (telling : Telling l′) where
   ok-cut : Ok l′
-  ok-cut = ok-of (r .long ∙ ok .long) (fits-of l′ (omega arith) (omega arith) (omega arith) (omega arith) (omega arith) (omega arith))
+  ok-cut = ok-of (r .long ∙ ok .long) (fits-of l′ (omega arith) (omega arith) (omega arith) (omega arith) (omega arith) (omega arith)) telling
 
   said-cut : (f : List ℕ) → Holds f l → Now f l′ (recounted n b (said f l))
   unfolding starts width most strsOf namesOf typesOf titlesOf fldsOf logOf duesOf chunksOf recounted
@@ -171,8 +175,10 @@ module _ (n : Counts) {b : ℕ} {l l′ : List ℕ} (r : Recounted n b l l′) (
         };
       }
 
-pub cut-of : (n : Counts) {l l′ : List ℕ} → Ok l → NotAbove n l → Recounted n (getD l 6 0) l l′ → Cut n l l′
-cut-of n ok fewer r = record { ok = ok-cut n r ok fewer; counts = r; says = said-cut n r ok fewer }
+pub cut-of : (n : Counts) {l l′ : List ℕ} → Ok l → NotAbove n l → Recounted n (getD l 6 0) l l′ → getD l′ 7 0 ≡ 0 → Cut n l l′
+cut-of n {l} {l′} ok fewer r off =
+    let untold : Telling l′ = λ on. absurd (omega (arith, off, on)) in
+    record { ok = ok-cut n r ok fewer untold; counts = r; says = said-cut n r ok fewer untold }
 
 -- all of the rows are all of them
 all-kept : (f : List ℕ) {l : List ℕ} → Holds f l → recounted (countsIn l) (getD l 6 0 + 1) (said f l) ≡ nextBlock (said f l)
@@ -191,20 +197,33 @@ all-kept f {l} h = λ i. record {
   chunks = take-all (getD l 5 0) (chunksOf l) (omega arith) i;
 }
 
-pub next-of : {l l′ : List ℕ} → Ok l → Recounted (countsIn l) (getD l 6 0 + 1) l l′ → Next l l′
-next-of {l} ok r =
+-- the tallies are of no block
+told-next : {b : ℕ} {l l′ : List ℕ} → Ok l → Recounted (countsIn l) b l l′ → getD l′ 7 0 ≡ getD l 7 0 → Telling l′
+unfolding starts width most typesOf logOf
+told-next {b} {l} {l′} ok r flag on =
+    let cells-same : tally l′ ≡ tally l = λ i t k. r .rest (16016 + 8 * t + k) (omega arith) i in
+    let types-same : typesOf l′ ≡ typesOf l = seg-cut r 1 (omega (arith, r .types)) typOf (r .types) ∙ take-all (getD l 1 0) (typesOf l) (omega (arith, ok .types-count)) in
+    let log-same : logOf l′ ≡ logOf l = seg-cut r 3 (omega (arith, r .ranges)) rangeOf (r .ranges) ∙ take-all (getD l 3 0) (logOf l) (omega (arith, ok .log-count)) in
+    subst (λ (x : (ℕ → ℕ → ℕ) × (List Typ × List Range)). Told (x .0) (x .1 .0) (x .1 .1)) (λ i. (sym cells-same i, (sym types-same i, sym log-same i))) (ok .telling (sym flag ∙ on))
+
+pub next-of : {l l′ : List ℕ} → Ok l → Recounted (countsIn l) (getD l 6 0 + 1) l l′ → getD l′ 7 0 ≡ getD l 7 0 → Next l l′
+next-of {l} ok r flag =
+    let telling = told-next ok r flag in
     let none-lost : NotAbove (countsIn l) l = record { strings-had = le-refl _; types-had = le-refl _; fields-had = le-refl _; ranges-had = le-refl _; chunks-had = le-refl _ } in
     record {
-      ok = ok-cut (countsIn l) r ok none-lost;
+      ok = ok-cut (countsIn l) r ok none-lost telling;
       counts = r;
-      says = λ f h. let now = said-cut (countsIn l) r ok none-lost f h in record { holds = now .holds; says = now .says ∙ all-kept f h };
+      says = λ f h. let now = said-cut (countsIn l) r ok none-lost telling f h in record { holds = now .holds; says = now .says ∙ all-kept f h };
     }
 
 -- no rows at all, whatever stood in the table
-pub begun-of : {l l′ : List ℕ} → length l ≡ 16384 → Recounted (record { strings = 0; types = 0; fields = 0; ranges = 0; chunks = 0 }) 0 l l′ → Begun l′
+pub begun-of : {l l′ : List ℕ} → length l ≡ 16384 → ((j : ℕ) → 16016 ≤ j → j < 16384 → getD l j 0 ≡ 0) → Recounted (record { strings = 0; types = 0; fields = 0; ranges = 0; chunks = 0 }) 0 l l′ → Begun l′
 unfolding starts width most strsOf namesOf typesOf titlesOf fldsOf logOf duesOf chunksOf begun nothing
-begun-of {l} {l′} long r =
-    let fine : Ok l′ = ok-of (r .long ∙ long) (fits-of l′ (omega arith) (omega arith) (omega arith) (omega arith) (omega arith) (omega arith)) in
+begun-of {l} {l′} long zeros r =
+    let telling : Telling l′ = λ on.
+    subst (λ (x : List Typ × List Range). Told (tally l′) (x .0) (x .1)) (λ i. (sym (seg-none typOf 1 2064 4 l′ (r .types)) i, sym (seg-none rangeOf 3 4240 3 l′ (r .ranges)) i))
+    (told-none (λ t k lt few. r .rest (16016 + 8 * t + k) (omega arith) ∙ zeros (16016 + 8 * t + k) (omega arith) (omega arith)) (r .rest 16272 (omega arith) ∙ zeros 16272 (omega arith) (omega arith))) in
+    let fine : Ok l′ = ok-of (r .long ∙ long) (fits-of l′ (omega arith) (omega arith) (omega arith) (omega arith) (omega arith) (omega arith)) telling in
     record {
       ok = fine;
       says = λ f small. record {
@@ -229,3 +248,27 @@ begun-of {l} {l′} long r =
 pub noughts-of : (l : List ℕ) → length l ≡ 16384 → replicate (length l) 0 ≡ noughts
 unfolding noughts
 noughts-of l e = ap (λ (n : ℕ). replicate n 0) e
+
+-- ── no tallies yet ──
+
+-- those before cell i are 0
+pub record Zeroed (i : ℕ) (l : List ℕ) : Type 0 where
+  pub long : length l ≡ 16384
+  pub from : 16016 ≤ i
+  pub upto : i ≤ 16384
+  pub zeros : (j : ℕ) → 16016 ≤ j → j < i → getD l j 0 ≡ 0
+
+pub zeroed-start : {l : List ℕ} → length l ≡ 16384 → Zeroed 16016 l
+zeroed-start long = record { long = long; from = omega arith; upto = omega arith; zeros = λ j a b. absurd (omega arith) }
+
+pub zeroed-on : {i : ℕ} {l : List ℕ} → Zeroed i l → i < 16384 → Zeroed (i + 1) (set l i 0)
+zeroed-on {i} {l} Z lt =
+    record {
+      long = length-set l i 0 ∙ Z .long;
+      from = omega (arith, Z .from);
+      upto = omega arith;
+      zeros = λ j a b. ⊎-elim
+          (λ (e : j ≡ i). rw e (getD-set-same l i 0 0 (omega (arith, Z .long))))
+          (λ (ne : j ≢ i). getD-set-other l i j 0 0 ne ∙ Z .zeros j a (omega arith))
+          (same-or-not j i);
+    }

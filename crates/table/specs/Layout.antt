@@ -36,7 +36,8 @@ next-starts : (k : ℕ) → starts (suc k) ≡ starts k + width k * most k
 unfolding starts
 next-starts k = refl
 
-all-end : starts 6 ≤ 16384
+-- the rows end where the tallies begin
+all-end : starts 6 ≤ 16016
 unfolding starts width most
 all-end = omega arith
 
@@ -51,8 +52,11 @@ module _ (k c n : ℕ) (other : k ≢ c) (fits : n < most c) where
       (lt-or-ge k c)
 
 -- and stands within the table
-pub row-fits : (c n : ℕ) → c < 6 → n < most c → starts c + width c * n + width c ≤ 16384
+pub row-fits : (c n : ℕ) → c < 6 → n < most c → starts c + width c * n + width c ≤ 16016
 row-fits c n few fits =
     let row = mul-le-mul-left (width c) fits in
     let below = starts-le (suc c) 6 few in
     omega (arith, next-starts c, all-end)
+
+pub kind-fits : (k : ℕ) → k < 6 → starts k + width k * most k ≤ 16016
+kind-fits k few = let below = starts-le (suc k) 6 few in omega (arith, next-starts k, all-end)

@@ -8,12 +8,16 @@ use native.Mathlib.Numerals.{add-one}
 use native.Mathlib.Omega.{arith}
 use lib.ListN.{length, getD, set, length-append, length-set, List·getD-append}
 use lib.Seq.{sets, length-sets, getD-at, getD-set-same, getD-set-other}
-use Rattle.table.specs.Rows.{tab, cells, seg, Each, Push}
+use Rattle.table.specs.Segs.{tab, cells, seg, Each, Laid}
 
 pub lt-or-ge : (a b : ℕ) → (a < b) ⊎ (b ≤ a)
 lt-or-ge a zero = inr zero-le
 lt-or-ge zero (suc b) = inl (suc-le-suc zero-le)
 lt-or-ge (suc a) (suc b) = ⊎-elim (λ p. inl (suc-le-suc p)) (λ q. inr (suc-le-suc q)) (lt-or-ge a b)
+
+pub same-or-not : (a b : ℕ) → (a ≡ b) ⊎ (a ≢ b)
+same-or-not a b =
+    ⊎-elim (λ (lt : a < b). inr (λ e. omega arith)) (λ (ge : b ≤ a). ⊎-elim (λ (e : b ≡ a). inl (sym e)) (λ (gt : b < a). inr (λ e. omega arith)) (eq-or-lt-of-le ge)) (lt-or-ge a b)
 
 module _ {A : Type 0} where
   pub length-tab : (n : ℕ) (f : ℕ → A) → length (tab n f) ≡ n
@@ -55,6 +59,15 @@ cells-sets (v ∷ vs) l at h =
     ap₂ (λ (x : ℕ) (xs : List ℕ). x ∷ xs)
     (sets-other vs (set l at v) (suc at) at (λ p. omega arith) ∙ getD-set-same l at v 0 (omega arith))
     (cells-sets vs (set l at v) (suc at) (rw length-set (omega arith)))
+
+-- each of them
+pub stored-at : (vs l : List ℕ) (at k j : ℕ) → j ≡ at + k → k < length vs → at + length vs ≤ length l → getD (sets l at vs) j 0 ≡ getD vs k 0
+stored-at [] l at k j is lt fits = absurd (not-suc-le-zero lt)
+stored-at (v ∷ vs) l at zero j is lt fits =
+    let e : j ≡ at = omega arith in
+    rw e (sets-other vs (set l at v) (suc at) at (λ p. omega arith) ∙ getD-set-same l at v 0 (omega arith))
+stored-at (v ∷ vs) l at (suc k) j is lt fits =
+    stored-at vs (set l at v) (suc at) k j (omega arith) (le-of-suc-le-suc lt) (rw length-set (omega arith))
 
 -- two runs of stores, one behind the other, are one
 pub sets-append : (us vs l : List ℕ) (at : ℕ) → sets (sets l at us) (at + length us) vs ≡ sets l at (us ++ vs)
@@ -106,51 +119,53 @@ pub seg-none : {A : Type 0} (of : List ℕ → A) (c base w : ℕ) (l : List ℕ
 unfolding seg tab
 seg-none of c base w l e = ap (λ (n : ℕ). tab n (λ i. of (cells l (base + w * i) w))) e
 
-module _ {c base w : ℕ} {vs l l′ : List ℕ} (p : Push c base w vs l l′) where
+module _ {c base w : ℕ} {vs l l′ : List ℕ} (p : Laid c base w vs l l′) where
   -- where the row goes
   abbrev at : ℕ
   at = base + w * getD l c 0
 
-  pub push-other : (j : ℕ) → j ≢ c → (base + w * getD l c 0 ≤ j → base + w * getD l c 0 + w ≤ j) → getD l′ j 0 ≡ getD l j 0
-  push-other j ne apart =
-      rw (p .is)
-      (getD-set-other (sets l at vs) c j (getD l c 0 + 1) 0 ne
-      ∙ sets-other vs l at j (λ r. let q : at + w ≤ j = apart r in omega (arith, p .wide)))
+  pub push-other : (j : ℕ) → j < 16016 → (j ≡ 7 → ⊥) → j ≢ c → (base + w * getD l c 0 ≤ j → base + w * getD l c 0 + w ≤ j) → getD l′ j 0 ≡ getD l j 0
+  push-other j lt n7 ne apart =
+      p .near j lt n7
+      ∙ getD-set-other (sets l at vs) c j (getD l c 0 + 1) 0 ne
+      ∙ sets-other vs l at j (λ r. let q : at + w ≤ j = apart r in omega (arith, p .wide))
 
   pub push-long : length l′ ≡ length l
-  push-long = rw (p .is) (length-set (sets l at vs) c (getD l c 0 + 1) ∙ length-sets l at vs)
+  push-long = p .long
 
   pub push-count : getD l′ c 0 ≡ getD l c 0 + 1
-  push-count = rw (p .is) (getD-set-same (sets l at vs) c (getD l c 0 + 1) 0 (rw length-sets (omega arith)))
+  push-count = p .near c (omega (arith, p .low)) (λ e. omega (arith, p .low)) ∙ getD-set-same (sets l at vs) c (getD l c 0 + 1) 0 (rw length-sets (omega (arith, p .low, p .full)))
 
   pub push-cells : cells l′ at w ≡ vs
   push-cells =
-      ap (λ (t : List ℕ). cells t at w) (p .is)
-      ∙ cells-cong (sets l at vs) (set (sets l at vs) c (getD l c 0 + 1)) at w
-      (λ j a b. getD-set-other (sets l at vs) c j (getD l c 0 + 1) 0 (λ e. omega arith))
+      cells-cong (sets l at vs) l′ at w
+      (λ j a b. p .near j (omega (arith, p .room)) (λ e. omega (arith, p .head)) ∙ getD-set-other (sets l at vs) c j (getD l c 0 + 1) 0 (λ e. omega (arith, p .low, p .head)))
       ∙ ap (λ (k : ℕ). cells (sets l at vs) at k) (sym (p .wide))
-      ∙ cells-sets vs l at (omega arith)
+      ∙ cells-sets vs l at (omega (arith, p .wide, p .room, p .full))
+
+  own-kept : (j : ℕ) → base ≤ j → j < base + w * getD l c 0 → getD l′ j 0 ≡ getD l j 0
+  own-kept j a b = push-other j (omega (arith, p .room)) (λ e. omega (arith, p .head)) (λ e. omega (arith, p .low, p .head)) (λ r. omega arith)
 
   pub push-mine : {A : Type 0} (of : List ℕ → A) → seg of c base w l′ ≡ seg of c base w l ++ (of vs ∷ [])
-  push-mine of =
-      seg-more c base w l l′ (λ j a b. push-other j (λ e. omega arith) (λ r. omega arith)) of vs push-count push-cells
+  push-mine of = seg-more c base w l l′ own-kept of vs push-count push-cells
 
   pub push-each : (P : List ℕ → Type 0) → P vs → Each P c base w l → Each P c base w l′
-  push-each P new h = each-more c base w l l′ (λ j a b. push-other j (λ e. omega arith) (λ r. omega arith)) P vs push-count push-cells new h
+  push-each P new h = each-more c base w l l′ own-kept P vs push-count push-cells new h
 
   -- another segment, of at most cap rows, that the push does not reach
-  module _ (c′ base′ w′ cap : ℕ) (ne : c′ ≢ c) (low′ : c′ < base) (high : c < base′) (few : getD l c′ 0 ≤ cap) (apart : base′ < base + w * getD l c 0 + w → base′ + w′ * cap ≤ base + w * getD l c 0) where
+  module _ (c′ base′ w′ cap : ℕ) (ne : c′ ≢ c) (low′ : c′ < 7) (high : 16 ≤ base′) (few : getD l c′ 0 ≤ cap) (inside : base′ + w′ * cap ≤ 16016) (apart : base′ < base + w * getD l c 0 + w → base′ + w′ * cap ≤ base + w * getD l c 0) where
     kept-cells : (j : ℕ) → base′ ≤ j → j < base′ + w′ * getD l c′ 0 → getD l′ j 0 ≡ getD l j 0
     kept-cells j a b =
-        push-other j (λ e. omega arith)
+        push-other j (omega (arith, mul-le-mul-left w′ few)) (λ e. omega arith) (λ e. omega (arith, p .low))
         (λ r. ⊎-elim (λ (s : base′ < at + w). let t : base′ + w′ * cap ≤ at = apart s in omega (arith, mul-le-mul-left w′ few))
         (λ (s : at + w ≤ base′). omega arith)
         (lt-or-ge base′ (at + w)))
 
-  pub push-kept : {A : Type 0} (of : List ℕ → A) (c′ base′ w′ cap : ℕ) → c′ ≢ c → c′ < base → c < base′ → getD l c′ 0 ≤ cap → (base′ < base + w * getD l c 0 + w → base′ + w′ * cap ≤ base + w * getD l c 0) → seg of c′ base′ w′ l′ ≡ seg of c′ base′ w′ l
-  push-kept of c′ base′ w′ cap ne low′ high few apart =
-      seg-kept c′ base′ w′ l l′ (kept-cells c′ base′ w′ cap ne low′ high few apart) of (push-other c′ ne (λ r. omega arith))
+    count-same : getD l′ c′ 0 ≡ getD l c′ 0
+    count-same = push-other c′ (omega arith) (λ e. omega arith) ne (λ r. omega (arith, p .head))
 
-  pub push-each-kept : (P : List ℕ → Type 0) (c′ base′ w′ cap : ℕ) → c′ ≢ c → c′ < base → c < base′ → getD l c′ 0 ≤ cap → (base′ < base + w * getD l c 0 + w → base′ + w′ * cap ≤ base + w * getD l c 0) → Each P c′ base′ w′ l → Each P c′ base′ w′ l′
-  push-each-kept P c′ base′ w′ cap ne low′ high few apart all =
-      each-kept c′ base′ w′ l l′ (kept-cells c′ base′ w′ cap ne low′ high few apart) P (push-other c′ ne (λ r. omega arith)) all
+    pub push-kept : {A : Type 0} (of : List ℕ → A) → seg of c′ base′ w′ l′ ≡ seg of c′ base′ w′ l
+    push-kept of = seg-kept c′ base′ w′ l l′ kept-cells of count-same
+
+    pub push-each-kept : (P : List ℕ → Type 0) → Each P c′ base′ w′ l → Each P c′ base′ w′ l′
+    push-each-kept P all = each-kept c′ base′ w′ l l′ kept-cells P count-same all

@@ -7,7 +7,7 @@ use native.Mathlib.Numerals.{add-one, towards-suc}
 use native.Mathlib.Omega.{arith}
 use lib.ListN.{length, getD, List·getD-eq-default}
 use Rattle.paper.specs.Ledger.{Typ, noType, noField, typeIn}
-use Rattle.table.specs.Rows.{seg, cells, Each}
+use Rattle.table.specs.Segs.{seg, cells, Each}
 use Rattle.table.specs.RowLaws.{seg-at}
 use Rattle.table.specs.View.{maybe, wide, kindFrom, textOf, typOf, fldOf, rangeOf, dueOf, spotOf, strsOf, namesOf, typesOf, titlesOf, fldsOf, logOf, duesOf, chunksOf, Within, Holds}
 use Rattle.table.specs.ViewLaws.{count-strs, count-names, count-titles, count-types, count-flds, count-log, count-dues, count-chunks}

@@ -1,5 +1,5 @@
 -- The size of a chunk that is due, put into its row once it is known. Assumes nothing.
-use mathlib.Core.Path.{_≡_, refl, sym, ap, _∙_}
+use mathlib.Core.Path.{_≡_, refl, sym, ap, _∙_, subst}
 use mathlib.Core.Logic.{⊎-elim, _≢_}
 use mathlib.Core.List.{List, [], _∷_}
 use Prim.Native.Nat.{ℕ, _+_, _*_, _≤_, _<_}
@@ -8,13 +8,14 @@ use native.Mathlib.Numerals.{add-one}
 use native.Mathlib.Omega.{arith}
 use lib.ListN.{length, getD, set, length-set}
 use lib.Seq.{sets, length-sets, ext-getD, getD-set-same, getD-set-other}
-use Rattle.paper.specs.Ledger.{Due}
-use Rattle.table.specs.Rows.{cells, seg}
-use Rattle.table.specs.RowLaws.{lt-or-ge, cells-cong, cells-sets, sets-other, seg-at, seg-kept, each-kept}
+use Rattle.paper.specs.Ledger.{Due, Typ, Range}
+use Rattle.table.specs.Segs.{cells, seg}
+use Rattle.table.specs.RowLaws.{lt-or-ge, same-or-not, cells-cong, cells-sets, sets-other, seg-at, seg-kept, each-kept}
 use Rattle.table.specs.Layout.{width, most, starts, kinds-apart}
-use Rattle.table.specs.View.{wide, textOf, typOf, fldOf, rangeOf, dueOf, spotOf, strsOf, namesOf, typesOf, titlesOf, fldsOf, logOf, duesOf, chunksOf, view, Ok, Within, Holds, Now}
-use Rattle.table.specs.ViewLaws.{count-dues, Fits, ok-fits, ok-of, In, holds-of, holds-in, same-or-not}
+use Rattle.table.specs.View.{wide, textOf, typOf, fldOf, rangeOf, dueOf, spotOf, strsOf, namesOf, typesOf, titlesOf, fldsOf, logOf, duesOf, chunksOf, view, tally, Telling, Ok, Within, Holds, Now}
+use Rattle.table.specs.ViewLaws.{count-dues, Fits, ok-fits, ok-of, In, holds-of, holds-in}
 use Rattle.table.specs.RowReads.{due-row}
+use Rattle.table.specs.Told.{Told}
 use Rattle.table.specs.Answers.{noDue}
 use Rattle.table.specs.Packed.{lower, upper, halves}
 
@@ -60,8 +61,18 @@ module _ (i size : ℕ) {l l′ : List ℕ} (ok : Ok l) (lt : i < getD l 4 0) (i
   fits-kept : Fits l′
   fits-kept k few = omega (arith, count-kept k (omega arith), ok-fits ok k few)
 
+  tallies-kept : tally l′ ≡ tally l
+  tallies-kept = λ i t k. other (16016 + 8 * t + k) (λ r. omega (arith, ok .dues-fit)) i
+
+  telling-kept : Telling l′
+  unfolding starts width most typesOf logOf
+  telling-kept on =
+      subst (λ (x : (ℕ → ℕ → ℕ) × (List Typ × List Range)). Told (x .0) (x .1 .0) (x .1 .1))
+      (λ j. (sym tallies-kept j, (sym (kept typOf 1 (omega arith) (omega arith)) j, sym (kept rangeOf 3 (omega arith) (omega arith)) j)))
+      (ok .telling (sym (count-kept 7 (omega arith)) ∙ on))
+
   ok-kept : Ok l′
-  ok-kept = ok-of (long-kept ∙ ok .long) fits-kept
+  ok-kept = ok-of (long-kept ∙ ok .long) fits-kept telling-kept
 
   -- the row itself
   stored : cells l′ (7312 + 4 * i + 2) 2 ≡ lower size ∷ upper size ∷ []

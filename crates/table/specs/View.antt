@@ -12,7 +12,8 @@ use Rattle.paper.specs.Reader.{if_then_else_}
 use Rattle.paper.specs.Numbers.{signed, putFixed}
 use Rattle.paper.specs.Ledger.{Kind, constant, plain, array, many, mapping, Typ, Field, Range, Due, State}
 use Rattle.paper.specs.Places.{Spot}
-use Rattle.table.specs.Rows.{seg, Each}
+use Rattle.table.specs.Segs.{seg, Each}
+use Rattle.table.specs.Told.{Told}
 
 -- ── the layout of 16,384 numbers ──
 --
@@ -24,12 +25,15 @@ use Rattle.table.specs.Rows.{seg, Each}
 --      4           number of chunks that are due in this block
 --      5           number of chunks of the blocks before
 --      6           number of blocks before this one
+--      7           1 where the tallies are told, 0 where they are not
 --     16 ..  2063  strings: first byte, end                                   1,024 x 2
 --   2064 ..  2191  types: name's first byte, its end, super type + 1, base       32 x 4
 --   2192 ..  4239  fields: name's first byte, its end, owner, kind, two numbers 128 x 16
 --   4240 ..  7311  ranges: type and block, start and count, first             1,024 x 3
 --   7312 ..  7823  chunks due: field, values, size in two                       128 x 4
 --   7824 .. 16015  chunks: field and first byte, end                          4,096 x 2
+--  16016 .. 16271  tallies of types, eight cells each (`Told`)
+--  16272           objects in all base pools
 
 -- ── how many rows there are of each kind, and how many blocks came before ──
 
@@ -144,6 +148,14 @@ view f l =
 
 -- ── what every function keeps ──
 
+-- the tally k of type t; of "type" 32, what is not of one type
+abbrev pub tally : List ℕ → ℕ → ℕ → ℕ
+tally l t k = getD l (16016 + 8 * t + k) 0
+
+-- what the tallies say is true where cell 7 is 1. It always is, but after a cut
+abbrev pub Telling : List ℕ → Type 0
+Telling l = getD l 7 0 ≡ 1 → Told (tally l) (typesOf l) (logOf l)
+
 -- of the table alone; the last lines hold of every table, and stand here so that they are found
 pub record Ok (l : List ℕ) : Type 0 where
   pub long : length l ≡ 16384
@@ -158,6 +170,7 @@ pub record Ok (l : List ℕ) : Type 0 where
   pub log-count : length (logOf l) ≡ getD l 3 0
   pub dues-count : length (duesOf l) ≡ getD l 4 0
   pub chunks-count : length (chunksOf l) ≡ getD l 5 0
+  pub telling : Telling l
 
 -- a part of the bytes
 abbrev pub Within : List ℕ → List ℕ → Type 0

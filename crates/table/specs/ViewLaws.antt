@@ -1,18 +1,18 @@
 -- What a push makes of what the table says. Assumes nothing.
 use mathlib.Core.Path.{_≡_, sym, ap, _∙_, subst}
-use mathlib.Core.Logic.{⊎-elim, _⊎_, inl, inr, _≢_}
+use mathlib.Core.Logic.{⊎-elim, _≢_}
 use mathlib.Core.List.{List, [], _∷_, _++_}
 use Prim.Native.Nat.{ℕ, zero, suc, _≤_, _<_}
 use native.Mathlib.Omega.{arith}
-use native.Mathlib.Nat.{eq-or-lt-of-le}
 use lib.ListN.{length, getD}
 use lib.Seq.{slice}
 use Rattle.paper.specs.Ledger.{Field, Range, Due}
 use Rattle.paper.specs.Places.{Spot}
-use Rattle.table.specs.Rows.{seg, Each, Push}
-use Rattle.table.specs.RowLaws.{lt-or-ge, length-tab, push-other, push-long, push-count, push-mine, push-kept, push-each, push-each-kept}
-use Rattle.table.specs.Layout.{width, most, starts, head-le, kinds-apart}
-use Rattle.table.specs.View.{textOf, typOf, fldOf, rangeOf, dueOf, spotOf, strsOf, namesOf, typesOf, titlesOf, fldsOf, logOf, duesOf, chunksOf, said, Ok, Within, Holds, Now}
+use Rattle.table.specs.Segs.{seg, Each, Laid}
+use Rattle.table.specs.Rows.{Push}
+use Rattle.table.specs.RowLaws.{same-or-not, length-tab, push-other, push-long, push-count, push-mine, push-kept, push-each, push-each-kept}
+use Rattle.table.specs.Layout.{width, most, starts, head-le, kinds-apart, kind-fits}
+use Rattle.table.specs.View.{textOf, typOf, fldOf, rangeOf, dueOf, spotOf, strsOf, namesOf, typesOf, titlesOf, fldsOf, logOf, duesOf, chunksOf, said, Telling, Ok, Within, Holds, Now}
 use Rattle.table.specs.Answers.{typIn, fieldIn, rangeIn, Small}
 use Rattle.table.specs.Packed.{typeCells, fieldCells, rangeCells, dueCells, chunkCells, field-cells, range-cells, due-cells, chunk-cells}
 use Rattle.table.specs.declared.rows.TypeRow.{TypeRow}
@@ -70,9 +70,9 @@ ok-fits ok (suc (suc (suc (suc zero)))) lt = ok .dues-fit
 ok-fits ok (suc (suc (suc (suc (suc zero))))) lt = ok .chunks-fit
 ok-fits ok (suc (suc (suc (suc (suc (suc k)))))) lt = absurd (omega arith)
 
-pub ok-of : {l : List ℕ} → length l ≡ 16384 → Fits l → Ok l
+pub ok-of : {l : List ℕ} → length l ≡ 16384 → Fits l → Telling l → Ok l
 unfolding most
-ok-of {l} long fits =
+ok-of {l} long fits telling =
     record {
       long = long;
       strs-fit = fits 0 (omega arith);
@@ -86,6 +86,7 @@ ok-of {l} long fits =
       log-count = count-log l;
       dues-count = count-dues l;
       chunks-count = count-chunks l;
+      telling = telling;
     }
 
 -- the texts of kind k, 0 to 2, lie within the bytes
@@ -116,7 +117,7 @@ holds-in h (suc (suc (suc k))) lt = absurd (omega arith)
 -- ── a push of a row of kind c ──
 
 -- it leaves the rows of the other kinds
-record Others (c : ℕ) (f l l′ : List ℕ) : Type 0 where
+pub record Others (c : ℕ) (f l l′ : List ℕ) : Type 0 where
   pub strings : 0 ≢ c → strsOf f l′ ≡ strsOf f l
   pub typeNames : 1 ≢ c → namesOf f l′ ≡ namesOf f l
   pub types : 1 ≢ c → typesOf l′ ≡ typesOf l
@@ -127,34 +128,31 @@ record Others (c : ℕ) (f l l′ : List ℕ) : Type 0 where
   pub chunks : 5 ≢ c → chunksOf l′ ≡ chunksOf l
   pub block : getD l′ 6 0 ≡ getD l 6 0
 
-pub same-or-not : (a b : ℕ) → (a ≡ b) ⊎ (a ≢ b)
-same-or-not a b =
-    ⊎-elim (λ (lt : a < b). inr (λ e. omega arith)) (λ (ge : b ≤ a). ⊎-elim (λ (e : b ≡ a). inl (sym e)) (λ (gt : b < a). inr (λ e. omega arith)) (eq-or-lt-of-le ge)) (lt-or-ge a b)
-
-module _ {c : ℕ} {vs l l′ : List ℕ} (p : Push c (starts c) (width c) vs l l′) (ok : Ok l) (few : c < 6) (room : getD l c 0 < most c) where
+module _ {c : ℕ} {vs l l′ : List ℕ} (p : Laid c (starts c) (width c) vs l l′) (ok : Ok l) (few : c < 6) (room : getD l c 0 < most c) where
   kept : {A : Type 0} (of : List ℕ → A) (k : ℕ) → k < 6 → k ≢ c → seg of k (starts k) (width k) l′ ≡ seg of k (starts k) (width k) l
   kept of k lt ne =
-      push-kept p of k (starts k) (width k) (most k) ne (omega (arith, head-le c)) (omega (arith, head-le k)) (ok-fits ok k lt) (kinds-apart k c (getD l c 0) ne room)
+      push-kept p k (starts k) (width k) (most k) ne (omega arith) (head-le k) (ok-fits ok k lt) (kind-fits k lt) (kinds-apart k c (getD l c 0) ne room) of
 
   pub in-after : (f : List ℕ) (k : ℕ) → k < 3 → (k ≡ c → Within f vs) → In f l k → In f l′ k
   in-after f k lt new all =
       ⊎-elim
       (λ (e : k ≡ c). subst (λ (j : ℕ). In f l j → In f l′ j) (sym e) (push-each p (Within f) (new e)) all)
       (λ (ne : k ≢ c).
-      push-each-kept p (Within f) k (starts k) (width k) (most k) ne (omega (arith, head-le c)) (omega (arith, head-le k)) (ok-fits ok k (omega arith)) (kinds-apart k c (getD l c 0) ne room) all)
+      push-each-kept p k (starts k) (width k) (most k) ne (omega arith) (head-le k) (ok-fits ok k (omega arith)) (kind-fits k (omega arith)) (kinds-apart k c (getD l c 0) ne room) (Within f) all)
       (same-or-not k c)
 
   fits-after : Fits l′
   fits-after k lt =
       ⊎-elim
       (λ (e : k ≡ c). rw e (omega (arith, push-count p)))
-      (λ (ne : k ≢ c). omega (arith, push-other p k ne (λ r. omega (arith, head-le c)), ok-fits ok k lt))
+      (λ (ne : k ≢ c). omega (arith, push-other p k (omega arith) (omega arith) ne (λ r. omega (arith, head-le c)), ok-fits ok k lt))
       (same-or-not k c)
 
-  pub ok-after : Ok l′
-  ok-after = ok-of (push-long p ∙ ok .long) fits-after
+  -- once the tallies are right
+  pub ok-after : Telling l′ → Ok l′
+  ok-after telling = ok-of (push-long p ∙ ok .long) fits-after telling
 
-  others : (f : List ℕ) → Others c f l l′
+  pub others : (f : List ℕ) → Others c f l l′
   unfolding starts width most strsOf namesOf typesOf titlesOf fldsOf logOf duesOf chunksOf
   others f =
       record {
@@ -166,12 +164,12 @@ module _ {c : ℕ} {vs l l′ : List ℕ} (p : Push c (starts c) (width c) vs l 
         log = kept rangeOf 3 (omega arith);
         due = kept dueOf 4 (omega arith);
         chunks = kept spotOf 5 (omega arith);
-        block = push-other p 6 (omega arith) (λ r. omega (arith, head-le c));
+        block = push-other p 6 (omega arith) (omega arith) (omega arith) (λ r. omega (arith, head-le c));
       }
 
-  pub holds-after : {f : List ℕ} → Holds f l → (c < 3 → Within f vs) → Holds f l′
-  holds-after {f} h new =
-      holds-of ok-after (h .small)
+  pub holds-after : {f : List ℕ} → Holds f l → Ok l′ → (c < 3 → Within f vs) → Holds f l′
+  holds-after {f} h ok′ new =
+      holds-of ok′ (h .small)
       (in-after f 0 (omega arith) (λ e. new (omega arith)) (holds-in h 0 (omega arith)))
       (in-after f 1 (omega arith) (λ e. new (omega arith)) (holds-in h 1 (omega arith)))
       (in-after f 2 (omega arith) (λ e. new (omega arith)) (holds-in h 2 (omega arith)))
@@ -180,12 +178,12 @@ module _ {f l l′ : List ℕ} (h : Holds f l) where
   pub pushed-string : {a b : ℕ} → getD l 0 0 < 1024 → b ≤ length f → Push 0 16 2 (a ∷ b ∷ []) l l′ → Now f l′ (addString (said f l) (slice a b f))
   unfolding starts width most strsOf namesOf typesOf titlesOf fldsOf logOf duesOf chunksOf addString
   pushed-string room within p =
-      let other = others {c = 0} p (h .ok) (omega arith) room f in
+      let other = others {c = 0} (p .laid) (h .ok) (omega arith) room f in
       record {
-        holds = holds-after {c = 0} p (h .ok) (omega arith) room h (λ lt. within);
+        holds = holds-after {c = 0} (p .laid) (h .ok) (omega arith) room h (p .ok) (λ lt. within);
         says = λ i. record {
           state = record {
-            strings = push-mine p (textOf f) i;
+            strings = push-mine (p .laid) (textOf f) i;
             typeNames = other .typeNames (omega arith) i;
             types = other .types (omega arith) i;
             fieldNames = other .fieldNames (omega arith) i;
@@ -201,14 +199,14 @@ module _ {f l l′ : List ℕ} (h : Holds f l) where
   pub pushed-type : (r : TypeRow) → getD l 1 0 < 32 → r .end ≤ length f → Push 1 2064 4 (typeCells r) l l′ → Now f l′ (addType (said f l) (slice (r .start) (r .end) f) (typIn r))
   unfolding starts width most strsOf namesOf typesOf titlesOf fldsOf logOf duesOf chunksOf addType
   pushed-type r room within p =
-      let other = others {c = 1} p (h .ok) (omega arith) room f in
+      let other = others {c = 1} (p .laid) (h .ok) (omega arith) room f in
       record {
-        holds = holds-after {c = 1} p (h .ok) (omega arith) room h (λ lt. within);
+        holds = holds-after {c = 1} (p .laid) (h .ok) (omega arith) room h (p .ok) (λ lt. within);
         says = λ i. record {
           state = record {
             strings = other .strings (omega arith) i;
-            typeNames = push-mine p (textOf f) i;
-            types = push-mine p typOf i;
+            typeNames = push-mine (p .laid) (textOf f) i;
+            types = push-mine (p .laid) typOf i;
             fieldNames = other .fieldNames (omega arith) i;
             fields = other .fields (omega arith) i;
             log = other .log (omega arith) i;
@@ -222,16 +220,16 @@ module _ {f l l′ : List ℕ} (h : Holds f l) where
   pub pushed-field : (r : FieldRow) → getD l 2 0 < 128 → r .end ≤ length f → Push 2 2192 16 (fieldCells r) l l′ → Now f l′ (addField (said f l) (slice (r .start) (r .end) f) (fieldIn r))
   unfolding starts width most strsOf namesOf typesOf titlesOf fldsOf logOf duesOf chunksOf addField
   pushed-field r room within p =
-      let other = others {c = 2} p (h .ok) (omega arith) room f in
-      let mine = push-mine p fldOf ∙ ap (λ (d : Field). fldsOf l ++ d ∷ []) (field-cells r) in
+      let other = others {c = 2} (p .laid) (h .ok) (omega arith) room f in
+      let mine = push-mine (p .laid) fldOf ∙ ap (λ (d : Field). fldsOf l ++ d ∷ []) (field-cells r) in
       record {
-        holds = holds-after {c = 2} p (h .ok) (omega arith) room h (λ lt. within);
+        holds = holds-after {c = 2} (p .laid) (h .ok) (omega arith) room h (p .ok) (λ lt. within);
         says = λ i. record {
           state = record {
             strings = other .strings (omega arith) i;
             typeNames = other .typeNames (omega arith) i;
             types = other .types (omega arith) i;
-            fieldNames = push-mine p (textOf f) i;
+            fieldNames = push-mine (p .laid) (textOf f) i;
             fields = mine i;
             log = other .log (omega arith) i;
             block = other .block i;
@@ -244,10 +242,10 @@ module _ {f l l′ : List ℕ} (h : Holds f l) where
   pub pushed-range : (r : RangeRow) → getD l 3 0 < 1024 → Small r → Push 3 4240 3 (rangeCells r) l l′ → Now f l′ (addRange (said f l) (rangeIn r))
   unfolding starts width most strsOf namesOf typesOf titlesOf fldsOf logOf duesOf chunksOf addRange
   pushed-range r room small p =
-      let other = others {c = 3} p (h .ok) (omega arith) room f in
-      let mine = push-mine p rangeOf ∙ ap (λ (d : Range). logOf l ++ d ∷ []) (range-cells r small) in
+      let other = others {c = 3} (p .laid) (h .ok) (omega arith) room f in
+      let mine = push-mine (p .laid) rangeOf ∙ ap (λ (d : Range). logOf l ++ d ∷ []) (range-cells r small) in
       record {
-        holds = holds-after {c = 3} p (h .ok) (omega arith) room h (λ lt. absurd (omega arith));
+        holds = holds-after {c = 3} (p .laid) (h .ok) (omega arith) room h (p .ok) (λ lt. absurd (omega arith));
         says = λ i. record {
           state = record {
             strings = other .strings (omega arith) i;
@@ -266,10 +264,10 @@ module _ {f l l′ : List ℕ} (h : Holds f l) where
   pub pushed-due : (field values size : ℕ) → getD l 4 0 < 128 → Push 4 7312 4 (dueCells field values size) l l′ → Now f l′ (addDue (said f l) (record { field = field; values = values }) size)
   unfolding starts width most strsOf namesOf typesOf titlesOf fldsOf logOf duesOf chunksOf addDue
   pushed-due field values size room p =
-      let other = others {c = 4} p (h .ok) (omega arith) room f in
-      let mine = push-mine p dueOf ∙ ap (λ (d : Due × ℕ). duesOf l ++ d ∷ []) (due-cells field values size) in
+      let other = others {c = 4} (p .laid) (h .ok) (omega arith) room f in
+      let mine = push-mine (p .laid) dueOf ∙ ap (λ (d : Due × ℕ). duesOf l ++ d ∷ []) (due-cells field values size) in
       record {
-        holds = holds-after {c = 4} p (h .ok) (omega arith) room h (λ lt. absurd (omega arith));
+        holds = holds-after {c = 4} (p .laid) (h .ok) (omega arith) room h (p .ok) (λ lt. absurd (omega arith));
         says = λ i. record {
           state = record {
             strings = other .strings (omega arith) i;
@@ -288,10 +286,10 @@ module _ {f l l′ : List ℕ} (h : Holds f l) where
   pub pushed-chunk : (field start end : ℕ) → getD l 5 0 < 4096 → field < 128 → Push 5 7824 2 (chunkCells field start end) l l′ → Now f l′ (addChunk (said f l) (record { field = field; start = start; end = end }))
   unfolding starts width most strsOf namesOf typesOf titlesOf fldsOf logOf duesOf chunksOf addChunk
   pushed-chunk field start end room small p =
-      let other = others {c = 5} p (h .ok) (omega arith) room f in
-      let mine = push-mine p spotOf ∙ ap (λ (d : Spot). chunksOf l ++ d ∷ []) (chunk-cells field start end small) in
+      let other = others {c = 5} (p .laid) (h .ok) (omega arith) room f in
+      let mine = push-mine (p .laid) spotOf ∙ ap (λ (d : Spot). chunksOf l ++ d ∷ []) (chunk-cells field start end small) in
       record {
-        holds = holds-after {c = 5} p (h .ok) (omega arith) room h (λ lt. absurd (omega arith));
+        holds = holds-after {c = 5} (p .laid) (h .ok) (omega arith) room h (p .ok) (λ lt. absurd (omega arith));
         says = λ i. record {
           state = record {
             strings = other .strings (omega arith) i;

@@ -3,7 +3,7 @@ ghost use mathlib.Core.Path.{_≡_};
 ghost use Prim.Native.Nat.{_<_};
 ghost use lib.ListN.{length, getD};
 ghost use Rattle.table.specs.View.{Ok};
-ghost use Rattle.table.specs.Counts.{noughts, Begun, Next, Cut, countsIn, Recounted, NotAbove};
+ghost use Rattle.table.specs.Counts.{noughts, Begun, Next, Cut, countsIn, Recounted, NotAbove, Zeroed};
 use super::cells::put8;
 use super::rows::Counts;
 
@@ -20,10 +20,11 @@ pub fn counts(work: &[u32]) -> Counts
     }
 }
 
-// The first cells, all at once: no chunk is due afterwards.
-fn set_counts(work: &mut [u32], n: Counts, block: u32)
+// The first cells, all at once: no chunk is due afterwards. The last one says whether the tallies are told.
+fn set_counts(work: &mut [u32], n: Counts, block: u32, told: u32)
     requires { ⌜ length (now work) ≡ 16384 ⌝ }
     ensures { λ _. ⌜ Recounted n block (now (work .entry)) (now (work .exit)) ⌝ }
+    ensures { λ _. ⌜ getD (now (work .exit)) 7 0 ≡ told ⌝ }
 {
     let none_due = 0;
     put8(
@@ -36,8 +37,20 @@ fn set_counts(work: &mut [u32], n: Counts, block: u32)
         none_due,
         n.chunks,
         block,
-        0,
+        told,
     );
+}
+
+// No tallies, whatever stood there.
+fn clear_tallies(work: &mut [u32])
+    requires { ⌜ length (now work) ≡ 16384 ⌝ }
+    ensures { λ _. ⌜ Zeroed 16384 (now (work .exit)) ⌝ }
+{
+    let mut i = 16016;
+    while i < 16384 {
+        work[i] = 0;
+        i += 1;
+    }
 }
 
 // A table that knows nothing, whatever stood in the cells.
@@ -52,7 +65,8 @@ pub fn begin(work: &mut [u32])
         ranges: 0,
         chunks: 0,
     };
-    set_counts(work, none, 0);
+    clear_tallies(work);
+    set_counts(work, none, 0, 1);
 }
 
 // The end of a block.
@@ -63,17 +77,18 @@ pub fn next_block(work: &mut [u32])
 {
     let n = counts(work);
     let block = work[6];
-    set_counts(work, n, block + 1);
+    let told = work[7];
+    set_counts(work, n, block + 1, told);
 }
 
-// Back to what the table said when it had fewer rows.
+// Back to what the table said when it had fewer rows. The tallies are not told any more: this is done once, to refuse.
 pub fn cut_back(work: &mut [u32], n: Counts)
     requires { ⌜ Ok (now work) ⌝ }
     requires { ⌜ NotAbove n (now work) ⌝ }
     ensures { λ _. ⌜ Cut n (now (work .entry)) (now (work .exit)) ⌝ }
 {
     let block = work[6];
-    set_counts(work, n, block);
+    set_counts(work, n, block, 0);
 }
 
 // Every number is 0 afterwards.

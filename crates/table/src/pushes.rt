@@ -2,13 +2,14 @@
 // table says, for which a name must lie within the source.
 ghost use mathlib.Core.Path.{_≡_};
 ghost use mathlib.Core.List.{[], _∷_};
+ghost use mathlib.Core.Bool.{true};
 ghost use Prim.Native.Nat.{_+_, _*_, _/_, _%_, _<_, _≤_};
 ghost use lib.ListN.{length, getD};
 ghost use lib.Seq.{sets};
 ghost use Rattle.table.specs.View.{Ok};
 ghost use Rattle.table.specs.Answers.{Small};
 ghost use Rattle.table.specs.Packed.{typeCells, fieldCells, rangeCells, dueCells, chunkCells};
-ghost use Rattle.table.specs.Pushes.{Pushed};
+ghost use Rattle.table.specs.Pushes.{Pushed, Regular, share, Aboved, Tallied};
 ghost use Rattle.table.specs.Sizes.{DueSized};
 use super::cells::put2;
 use super::cells::put3;
@@ -17,6 +18,7 @@ use super::cells::put8;
 use super::rows::FieldRow;
 use super::rows::RangeRow;
 use super::rows::TypeRow;
+use super::types::super_of;
 
 pub fn push_string(work: &mut [u32], start: u32, end: u32)
     requires { ⌜ Ok (now work) ⌝ }
@@ -72,17 +74,97 @@ pub fn push_field(work: &mut [u32], d: FieldRow)
     work[2] = n + 1;
 }
 
+// The tallies are told, and the range is one of a known type that has none in its block or in a later one.
+fn regular(work: &[u32], r: RangeRow) -> bool
+    requires { ⌜ length (now work) ≡ 16384 ⌝ }
+    requires { ⌜ r .typ < 32 ⌝ }
+    ensures { λ x. ⌜ (x ≡ true → Regular r (now (work .entry))) ⌝ }
+{
+    if work[7] != 1 {
+        return false;
+    }
+    if work[1] <= r.typ {
+        return false;
+    }
+    let at = 16016 + 8 * (r.typ as usize);
+    if r.block < work[at + 2] {
+        return false;
+    }
+    if 4294901760 < work[at + 1] {
+        return false;
+    }
+    work[16272] <= 4294901760
+}
+
+fn share_of(up: u32, n: u32) -> u32
+    ensures { λ x. ⌜ x ≡ share up n ⌝ }
+    ensures { λ x. ⌜ x ≤ n ⌝ }
+{
+    if up == 0 {
+        return n;
+    }
+    0
+}
+
+// In the tallies of the super type up - 1, a range below it of block b that ends at `end`.
+fn tally_above(work: &mut [u32], up: u32, b: u32, end: u32)
+    requires { ⌜ length (now work) ≡ 16384 ⌝ }
+    requires { ⌜ b < 134217728 ⌝ }
+    ensures { λ _. ⌜ Aboved up b end (now (work .entry)) (now (work .exit)) ⌝ }
+{
+    if up == 0 {
+        return;
+    }
+    if 32 < up {
+        return;
+    }
+    let at = 16016 + 8 * ((up - 1) as usize) + 5;
+    let c = work[at];
+    if c <= b {
+        put2(work, at, b + 1, end);
+        return;
+    }
+    if c != b + 1 {
+        return;
+    }
+    if end < work[at + 1] {
+        return;
+    }
+    work[at + 1] = end;
+}
+
+// The range r, the n-th, of a type with super type up - 1, in the tallies. Where it is not as the rules have it they are not
+// told any more.
+fn tally_range(work: &mut [u32], r: RangeRow, up: u32, n: u32)
+    requires { ⌜ length (now work) ≡ 16384 ⌝ }
+    requires { ⌜ Small r ⌝ }
+    ensures { λ _. ⌜ Tallied r up n (now (work .entry)) (now (work .exit)) ⌝ }
+{
+    if !regular(work, r) {
+        work[7] = 0;
+        return;
+    }
+    let at = 16016 + 8 * (r.typ as usize) + 1;
+    let sum = work[at];
+    let all = work[16272] + share_of(up, r.count);
+    put4(work, at, sum + r.count, r.block + 1, sum, n);
+    work[16272] = all;
+    tally_above(work, up, r.block, r.start + r.count);
+}
+
 pub fn push_range(work: &mut [u32], r: RangeRow)
     requires { ⌜ Ok (now work) ⌝ }
     requires { ⌜ getD (now work) 3 0 < 1024 ⌝ }
     requires { ⌜ Small r ⌝ }
     ensures { λ _. ⌜ Pushed 3 4240 3 (rangeCells r) (now (work .entry)) (now (work .exit)) ⌝ }
 {
+    let up = super_of(work, r.typ);
     let n = work[3];
     let whose = r.typ + 32 * r.block;
     let extent = r.start + 65536 * r.count;
     put3(work, 4240 + 3 * (n as usize), whose, extent, r.first);
     work[3] = n + 1;
+    tally_range(work, r, up, n);
 }
 
 pub fn push_due(work: &mut [u32], field: u32, values: u32, size: u64)

@@ -1,11 +1,14 @@
 // Questions to the ranges: one walk for "is there one", one for "how many objects", and `Ask` says of which ranges.
 ghost use mathlib.Core.Path.{_≡_};
 ghost use mathlib.Core.List.{[], _∷_};
+ghost use mathlib.Core.Bool.{true};
+ghost use lib.ListN.{getD};
 ghost use Prim.Native.Nat.{_-_, _<_, _≤_};
 ghost use Rattle.paper.specs.Lists.{any, all, total};
 ghost use Rattle.paper.specs.Ledger.{of?, size, before?, base?, holds?};
 ghost use Rattle.paper.specs.Rules.{entryOf?, around?, clear?};
-ghost use Rattle.table.specs.View.{typesOf, logOf, Ok};
+ghost use Rattle.table.specs.View.{typesOf, logOf, tally, Ok};
+ghost use Rattle.table.specs.Told.{upTo?};
 ghost use Rattle.table.specs.Answers.{rangeIn};
 ghost use Rattle.table.specs.Asks.{asks};
 use super::rows::RangeRow;
@@ -127,11 +130,81 @@ fn sum_of(work: &[u32], q: Ask) -> u32
     sum
 }
 
+// The tallies are told, of type t too.
+fn told(work: &[u32], t: u32) -> bool
+    requires { ⌜ Ok (now work) ⌝ }
+    ensures { λ r. ⌜ (r ≡ true → (getD (now (work .entry)) 7 0 ≡ 1) × (t < 32)) ⌝ }
+{
+    if work[7] != 1 {
+        return false;
+    }
+    t < 32
+}
+
+fn tally_at(work: &[u32], t: u32, k: u32) -> u32
+    requires { ⌜ Ok (now work) ⌝ }
+    requires { ⌜ (t < 32) × (k < 8) ⌝ }
+    ensures { λ r. ⌜ r ≡ tally (now (work .entry)) t k ⌝ }
+{
+    let at = 16016 + 8 * (t as usize) + (k as usize);
+    work[at]
+}
+
+// It is known that no block from b on has a range of type t.
+fn none_from(work: &[u32], b: u32, t: u32) -> bool
+    requires { ⌜ Ok (now work) ⌝ }
+    ensures { λ r. ⌜ (r ≡ true → all (upTo? t b) (logOf (now (work .entry))) ≡ true) ⌝ }
+{
+    if !told(work, t) {
+        return false;
+    }
+    tally_at(work, t, 2) <= b
+}
+
+// The last range of type u is of block b, and lies around n objects from start.
+fn last_around(work: &[u32], b: u32, u: u32, start: u32, n: u32) -> bool
+    requires { ⌜ Ok (now work) ⌝ }
+    ensures { λ r. ⌜ (r ≡ true → any (around? b u start n) (logOf (now (work .entry))) ≡ true) ⌝ }
+{
+    if 32 <= u {
+        return false;
+    }
+    let i = tally_at(work, u, 4);
+    if ranges(work) <= i {
+        return false;
+    }
+    let r = range_at(work, i);
+    is_around(r, b, u, start, n)
+}
+
+// It is known that the ranges of block b below type up - 1 end at or before start.
+fn known_clear(work: &[u32], b: u32, up: u32, start: u32) -> bool
+    requires { ⌜ Ok (now work) ⌝ }
+    requires { ⌜ 0 < up ⌝ }
+    ensures { λ r. ⌜ (r ≡ true → all (clear? b (typesOf (now (work .entry))) (up - 1) start) (logOf (now (work .entry))) ≡ true) ⌝ }
+{
+    let u = up - 1;
+    if !told(work, u) {
+        return false;
+    }
+    let c = tally_at(work, u, 5);
+    if c <= b {
+        return true;
+    }
+    if c - 1 != b {
+        return false;
+    }
+    tally_at(work, u, 6) <= start
+}
+
 // Type t has an entry in block b.
 pub fn entered(work: &[u32], b: u32, t: u32) -> bool
     requires { ⌜ Ok (now work) ⌝ }
     ensures { λ r. ⌜ r ≡ any (entryOf? b t) (logOf (now (work .entry))) ⌝ }
 {
+    if none_from(work, b, t) {
+        return false;
+    }
     any_range(work, Ask::Entry(b, t))
 }
 
@@ -140,6 +213,9 @@ pub fn around(work: &[u32], b: u32, u: u32, start: u32, n: u32) -> bool
     requires { ⌜ Ok (now work) ⌝ }
     ensures { λ r. ⌜ r ≡ any (around? b u start n) (logOf (now (work .entry))) ⌝ }
 {
+    if last_around(work, b, u, start, n) {
+        return true;
+    }
     any_range(work, Ask::Around(b, u, start, n))
 }
 
@@ -157,7 +233,31 @@ pub fn objects_of(work: &[u32], t: u32) -> u32
     ensures { λ r. ⌜ r ≡ total (of? t) size (logOf (now (work .entry))) ⌝ }
     ensures { λ r. ⌜ r ≤ 67107840 ⌝ }
 {
+    if told(work, t) {
+        let sum = tally_at(work, t, 1);
+        if sum <= 67107840 {
+            return sum;
+        }
+    }
     sum_of(work, Ask::Of(t))
+}
+
+// The same, where the tallies are told.
+fn pool_told(work: &[u32], b: u32, t: u32) -> u32
+    requires { ⌜ Ok (now work) ⌝ }
+    requires { ⌜ (getD (now work) 7 0 ≡ 1) × (t < 32) ⌝ }
+    ensures { λ r. ⌜ r ≡ total (before? b t) size (logOf (now (work .entry))) ⌝ }
+    ensures { λ r. ⌜ r ≤ 67107840 ⌝ }
+{
+    let c = tally_at(work, t, 2);
+    if c <= b {
+        return objects_of(work, t);
+    }
+    let n = tally_at(work, t, 3);
+    if c - 1 == b && n <= 67107840 {
+        return n;
+    }
+    sum_of(work, Ask::Before(b, t))
 }
 
 // The objects of type t that the blocks before b have added.
@@ -166,6 +266,9 @@ pub fn pool_before(work: &[u32], b: u32, t: u32) -> u32
     ensures { λ r. ⌜ r ≡ total (before? b t) size (logOf (now (work .entry))) ⌝ }
     ensures { λ r. ⌜ r ≤ 67107840 ⌝ }
 {
+    if told(work, t) {
+        return pool_told(work, b, t);
+    }
     sum_of(work, Ask::Before(b, t))
 }
 
@@ -175,6 +278,9 @@ pub fn count_in(work: &[u32], b: u32, t: u32) -> u32
     ensures { λ r. ⌜ r ≡ total (entryOf? b t) size (logOf (now (work .entry))) ⌝ }
     ensures { λ r. ⌜ r ≤ 67107840 ⌝ }
 {
+    if none_from(work, b, t) {
+        return 0;
+    }
     sum_of(work, Ask::Entry(b, t))
 }
 
@@ -184,6 +290,12 @@ pub fn objects_in_all(work: &[u32]) -> u32
     ensures { λ r. ⌜ r ≡ total (base? (typesOf (now (work .entry)))) size (logOf (now (work .entry))) ⌝ }
     ensures { λ r. ⌜ r ≤ 67107840 ⌝ }
 {
+    if work[7] == 1 {
+        let sum = work[16272];
+        if sum <= 67107840 {
+            return sum;
+        }
+    }
     sum_of(work, Ask::Base)
 }
 
@@ -202,8 +314,8 @@ fn is_clear(work: &[u32], r: RangeRow, b: u32, up: u32, start: u32) -> bool
     last <= start as u64
 }
 
-// Each range that block b adds to a type right below type up - 1 ends at or before start.
-pub fn clear_of_siblings(work: &[u32], b: u32, up: u32, start: u32) -> bool
+// The same, by a walk.
+fn walk_clear(work: &[u32], b: u32, up: u32, start: u32) -> bool
     requires { ⌜ Ok (now work) ⌝ }
     requires { ⌜ 0 < up ⌝ }
     ensures { λ r. ⌜ r ≡ all (clear? b (typesOf (now (work .entry))) (up - 1) start) (logOf (now (work .entry))) ⌝ }
@@ -218,4 +330,16 @@ pub fn clear_of_siblings(work: &[u32], b: u32, up: u32, start: u32) -> bool
         i += 1;
     }
     true
+}
+
+// Each range that block b adds to a type right below type up - 1 ends at or before start.
+pub fn clear_of_siblings(work: &[u32], b: u32, up: u32, start: u32) -> bool
+    requires { ⌜ Ok (now work) ⌝ }
+    requires { ⌜ 0 < up ⌝ }
+    ensures { λ r. ⌜ r ≡ all (clear? b (typesOf (now (work .entry))) (up - 1) start) (logOf (now (work .entry))) ⌝ }
+{
+    if known_clear(work, b, up, start) {
+        return true;
+    }
+    walk_clear(work, b, up, start)
 }

@@ -9,7 +9,7 @@ use Rattle.table.proofs.pushes.push_field.Tie as tie
 
 returns : tie.Need-returns
 unfolding starts width most
-returns c = pushed-by 2 refl (omega arith) (c .before .before .before .before .before .before .pre .0) (omega arith) (c .before .before .put-field .ensures)
+returns c = pushed-by 2 refl (omega arith) (c .before .before .before .before .before .before .pre .0) (omega arith) (c .before .before .put-field .ensures) (omega arith) (omega arith)
 
 pub push-field-spec : {M : Type 1} → statement M
 push-field-spec =

@@ -2,14 +2,14 @@
 use mathlib.Core.Path.{refl}
 use native.Mathlib.Omega.{arith}
 use Rattle.table.specs.Layout.{starts, width, most}
-use Rattle.table.specs.Pushes.{pushed-by}
+use Rattle.table.specs.Pushes.{pushed-type-by}
 use borrow.Author.Needs.{needs}
 use Rattle.table.proofs.pushes.push_type.Statement.{statement}
 use Rattle.table.proofs.pushes.push_type.Tie as tie
 
 returns : tie.Need-returns
 unfolding starts width most
-returns c = pushed-by 1 refl (omega arith) (c .before .before .before .before .before .before .pre .0) (omega arith) (c .before .before .put4 .ensures)
+returns c = pushed-type-by (c .before .before .before .before .before .before .args .t) (c .before .before .before .before .before .before .pre .0) (omega arith) (c .before .before .put4 .ensures)
 
 pub push-type-spec : {M : Type 1} → statement M
 push-type-spec =
