@@ -129,10 +129,11 @@ fn old_fields(file: &[u8], c: Cursor, work: &mut [u32], t: u32, added: u32, end:
     if added == 0 {
         return Number::Got(end, c);
     }
-    let n = table::rows::fields(work);
+    let own = table::names::stretch_of(work, t);
+    let n = own.to;
     let mut at = c.at;
     let mut last = end;
-    let mut i: u32 = 0;
+    let mut i = own.from;
     while i < n {
         let a = old_field(file, Cursor { at }, work, t, i, added, last);
         let Number::Got(e, next) = a else {

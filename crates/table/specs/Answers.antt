@@ -2,9 +2,10 @@
 use Prim.Native.Nat.{ℕ, _<_, _≤_}
 use mathlib.Core.List.{List, []}
 use mathlib.Core.Path.{_≡_}
-use lib.ListN.{length, getD}
+use lib.ListN.{length, getD, drop}
 use lib.Seq.{slice}
-use Rattle.paper.specs.Ledger.{Typ, Field, Range, Due}
+use Rattle.paper.specs.Lists.{places}
+use Rattle.paper.specs.Ledger.{Typ, Field, Range, Due, owns?}
 use Rattle.paper.specs.Places.{Spot}
 use Rattle.table.specs.View.{maybe, kindFrom, Holds}
 use Rattle.table.specs.declared.rows.TypeRow.{TypeRow}
@@ -12,6 +13,7 @@ use Rattle.table.specs.declared.rows.FieldRow.{FieldRow}
 use Rattle.table.specs.declared.rows.RangeRow.{RangeRow}
 use Rattle.table.specs.declared.rows.DueRow.{DueRow}
 use Rattle.table.specs.declared.rows.ChunkRow.{ChunkRow}
+use Rattle.table.specs.declared.rows.Stretch.{Stretch}
 
 -- text i of a list (of strings, of types' or of fields' names) stands at a part of whatever source the table is read over
 pub record Stands (texts : List ℕ → List ℕ → List (List ℕ)) (l : List ℕ) (i start end : ℕ) : Type 0 where
@@ -53,3 +55,10 @@ noSpot = record { field = 0; start = 0; end = 0 }
 pub record Near (r : ChunkRow) : Type 0 where
   pub field-fits : r .field < 128
   pub start-fits : r .start < 33554432
+
+-- none of the fields before the stretch is of type t, and none behind it
+pub record Stretched (t : ℕ) (flds : List Field) (r : Stretch) : Type 0 where
+  pub forward : r .from ≤ r .to
+  pub inside : r .to ≤ length flds
+  pub before : places (owns? t) 0 flds ≡ places (owns? t) (r .from) (drop (r .from) flds)
+  pub behind : places (owns? t) (r .to) (drop (r .to) flds) ≡ []

@@ -7,14 +7,15 @@ use native.Mathlib.Nat.{le-refl, not-suc-le-zero, le-of-suc-le-suc, eq-or-lt-of-
 use native.Mathlib.Omega.{arith}
 use lib.ListN.{length, getD, set, take, replicate, length-set}
 use lib.Seq.{sets, length-sets, getD-set-same, getD-set-other, take-all, take-append-le}
-use Rattle.paper.specs.Ledger.{Typ, Range, nothing}
+use Rattle.paper.specs.Ledger.{Typ, Field, Range, nothing}
 use Rattle.paper.specs.Rules.{closed}
 use Rattle.table.specs.Segs.{tab, cells, seg}
 use Rattle.table.specs.RowLaws.{same-or-not, length-tab, tab-cong, cells-cong, cells-sets, sets-other, seg-none}
 use Rattle.table.specs.Layout.{width, most, starts, head-le}
-use Rattle.table.specs.View.{textOf, typOf, fldOf, rangeOf, dueOf, spotOf, strsOf, namesOf, typesOf, titlesOf, fldsOf, logOf, duesOf, chunksOf, said, tally, Telling, Ok, Within, Holds, Said, Now}
-use Rattle.table.specs.Told.{Told}
+use Rattle.table.specs.View.{textOf, typOf, fldOf, rangeOf, dueOf, spotOf, strsOf, namesOf, typesOf, titlesOf, fldsOf, logOf, duesOf, chunksOf, said, tally, Telling, Owning, Ok, Within, Holds, Said, Now}
+use Rattle.table.specs.Told.{Told, Owned}
 use Rattle.table.specs.ToldLaws.{told-none}
+use Rattle.table.specs.OwnedLaws.{owned-none}
 use Rattle.table.specs.ViewLaws.{Fits, In, ok-of, holds-of, holds-in}
 use Rattle.table.specs.declared.rows.Counts.{Counts}
 
@@ -148,9 +149,9 @@ fits-of l a b d e g h (suc (suc (suc (suc zero)))) lt = g
 fits-of l a b d e g h (suc (suc (suc (suc (suc zero))))) lt = h
 fits-of l a b d e g h (suc (suc (suc (suc (suc (suc k)))))) lt = absurd (omega arith)
 
-module _ (n : Counts) {b : ℕ} {l l′ : List ℕ} (r : Recounted n b l l′) (ok : Ok l) (fewer : NotAbove n l) (telling : Telling l′) where
+module _ (n : Counts) {b : ℕ} {l l′ : List ℕ} (r : Recounted n b l l′) (ok : Ok l) (fewer : NotAbove n l) (telling : Telling l′) (owning : Owning l′) where
   ok-cut : Ok l′
-  ok-cut = ok-of (r .long ∙ ok .long) (fits-of l′ (omega arith) (omega arith) (omega arith) (omega arith) (omega arith) (omega arith)) telling
+  ok-cut = ok-of (r .long ∙ ok .long) (fits-of l′ (omega arith) (omega arith) (omega arith) (omega arith) (omega arith) (omega arith)) telling owning
 
   said-cut : (f : List ℕ) → Holds f l → Now f l′ (recounted n b (said f l))
   unfolding starts width most strsOf namesOf typesOf titlesOf fldsOf logOf duesOf chunksOf recounted
@@ -178,7 +179,8 @@ module _ (n : Counts) {b : ℕ} {l l′ : List ℕ} (r : Recounted n b l l′) (
 pub cut-of : (n : Counts) {l l′ : List ℕ} → Ok l → NotAbove n l → Recounted n (getD l 6 0) l l′ → getD l′ 7 0 ≡ 0 → Cut n l l′
 cut-of n {l} {l′} ok fewer r off =
     let untold : Telling l′ = λ on. absurd (omega (arith, off, on)) in
-    record { ok = ok-cut n r ok fewer untold; counts = r; says = said-cut n r ok fewer untold }
+    let unowned : Owning l′ = λ on. absurd (omega (arith, off, on)) in
+    record { ok = ok-cut n r ok fewer untold unowned; counts = r; says = said-cut n r ok fewer untold unowned }
 
 -- all of the rows are all of them
 all-kept : (f : List ℕ) {l : List ℕ} → Holds f l → recounted (countsIn l) (getD l 6 0 + 1) (said f l) ≡ nextBlock (said f l)
@@ -206,14 +208,22 @@ told-next {b} {l} {l′} ok r flag on =
     let log-same : logOf l′ ≡ logOf l = seg-cut r 3 (omega (arith, r .ranges)) rangeOf (r .ranges) ∙ take-all (getD l 3 0) (logOf l) (omega (arith, ok .log-count)) in
     subst (λ (x : (ℕ → ℕ → ℕ) × (List Typ × List Range)). Told (x .0) (x .1 .0) (x .1 .1)) (λ i. (sym cells-same i, (sym types-same i, sym log-same i))) (ok .telling (sym flag ∙ on))
 
+owned-next : {b : ℕ} {l l′ : List ℕ} → Ok l → Recounted (countsIn l) b l l′ → getD l′ 7 0 ≡ getD l 7 0 → Owning l′
+unfolding starts width most fldsOf
+owned-next {b} {l} {l′} ok r flag on =
+    let cells-same : tally l′ ≡ tally l = λ i t k. r .rest (16016 + 8 * t + k) (omega arith) i in
+    let fields-same : fldsOf l′ ≡ fldsOf l = seg-cut r 2 (omega (arith, r .fields)) fldOf (r .fields) ∙ take-all (getD l 2 0) (fldsOf l) (omega (arith, ok .flds-count)) in
+    subst (λ (x : (ℕ → ℕ → ℕ) × List Field). Owned (x .0) (x .1)) (λ i. (sym cells-same i, sym fields-same i)) (ok .owning (sym flag ∙ on))
+
 pub next-of : {l l′ : List ℕ} → Ok l → Recounted (countsIn l) (getD l 6 0 + 1) l l′ → getD l′ 7 0 ≡ getD l 7 0 → Next l l′
 next-of {l} ok r flag =
     let telling = told-next ok r flag in
+    let owning = owned-next ok r flag in
     let none-lost : NotAbove (countsIn l) l = record { strings-had = le-refl _; types-had = le-refl _; fields-had = le-refl _; ranges-had = le-refl _; chunks-had = le-refl _ } in
     record {
-      ok = ok-cut (countsIn l) r ok none-lost telling;
+      ok = ok-cut (countsIn l) r ok none-lost telling owning;
       counts = r;
-      says = λ f h. let now = said-cut (countsIn l) r ok none-lost telling f h in record { holds = now .holds; says = now .says ∙ all-kept f h };
+      says = λ f h. let now = said-cut (countsIn l) r ok none-lost telling owning f h in record { holds = now .holds; says = now .says ∙ all-kept f h };
     }
 
 -- no rows at all, whatever stood in the table
@@ -223,7 +233,10 @@ begun-of {l} {l′} long zeros r =
     let telling : Telling l′ = λ on.
     subst (λ (x : List Typ × List Range). Told (tally l′) (x .0) (x .1)) (λ i. (sym (seg-none typOf 1 2064 4 l′ (r .types)) i, sym (seg-none rangeOf 3 4240 3 l′ (r .ranges)) i))
     (told-none (λ t k lt few. r .rest (16016 + 8 * t + k) (omega arith) ∙ zeros (16016 + 8 * t + k) (omega arith) (omega arith)) (r .rest 16272 (omega arith) ∙ zeros 16272 (omega arith) (omega arith))) in
-    let fine : Ok l′ = ok-of (r .long ∙ long) (fits-of l′ (omega arith) (omega arith) (omega arith) (omega arith) (omega arith) (omega arith)) telling in
+    let owning : Owning l′ = λ on.
+    subst (λ (x : List Field). Owned (tally l′) x) (sym (seg-none fldOf 2 2192 16 l′ (r .fields)))
+    (owned-none (λ t k lt few. r .rest (16016 + 8 * t + k) (omega arith) ∙ zeros (16016 + 8 * t + k) (omega arith) (omega arith))) in
+    let fine : Ok l′ = ok-of (r .long ∙ long) (fits-of l′ (omega arith) (omega arith) (omega arith) (omega arith) (omega arith) (omega arith)) telling owning in
     record {
       ok = fine;
       says = λ f small. record {

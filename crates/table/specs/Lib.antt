@@ -4,6 +4,7 @@ pub mod View
 pub mod Rows
 pub mod RowLaws
 pub mod ToldLaws
+pub mod OwnedLaws
 pub mod Layout
 pub mod Adds
 pub mod Answers

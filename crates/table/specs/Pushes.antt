@@ -10,21 +10,23 @@ use borrow.Author.Tests.{eqb-true, eqb-false, ne-eqb}
 use lib.Dec.{eqb}
 use lib.ListN.{length, getD, set, length-set}
 use lib.Seq.{sets, length-sets, getD-set-same, getD-set-other}
-use Rattle.paper.specs.Ledger.{Typ, Range, typeIn, base?, size}
+use Rattle.paper.specs.Ledger.{Typ, Field, Range, typeIn, base?, size}
 use Rattle.paper.specs.Lists.{total}
 use Rattle.paper.specs.Rules.{below?}
 use Rattle.table.specs.Segs.{Laid}
 use Rattle.table.specs.Rows.{Push}
 use Rattle.table.specs.RowLaws.{lt-or-ge, same-or-not, stored-at, sets-other, push-other, push-count, push-mine}
 use Rattle.table.specs.Layout.{width, most, starts, head-le, row-fits}
-use Rattle.table.specs.View.{typOf, rangeOf, typesOf, logOf, maybe, tally, Telling, Ok}
+use Rattle.table.specs.View.{typOf, fldOf, rangeOf, typesOf, fldsOf, logOf, maybe, tally, Telling, Owning, Ok}
 use Rattle.table.specs.ViewLaws.{ok-after, others, count-types}
-use Rattle.table.specs.Told.{Told}
-use Rattle.table.specs.ToldLaws.{one-yes, one-no, Below, Counted, told-type, told-range}
+use Rattle.table.specs.Told.{Told, Owned}
+use Rattle.table.specs.ToldLaws.{one-yes, one-no, Below, Counted, told-type, told-range, told-cong}
+use Rattle.table.specs.OwnedLaws.{Grown, owned-cong, owned-more}
 use Rattle.table.specs.Below.{is-base, not-below}
-use Rattle.table.specs.Answers.{typIn, rangeIn, Small}
-use Rattle.table.specs.Packed.{typeCells, rangeCells, range-cells}
+use Rattle.table.specs.Answers.{typIn, fieldIn, rangeIn, Small}
+use Rattle.table.specs.Packed.{typeCells, fieldCells, rangeCells, field-cells, range-cells}
 use Rattle.table.specs.declared.rows.TypeRow.{TypeRow}
+use Rattle.table.specs.declared.rows.FieldRow.{FieldRow}
 use Rattle.table.specs.declared.rows.RangeRow.{RangeRow}
 
 abbrev pub one : Bool → ℕ
@@ -49,11 +51,11 @@ module _ {c base w : ℕ} {vs l l′ : List ℕ} (p : Laid c base w vs l l′) (
   counted k lt true e = rw (← eqb-true c k e) (push-count p)
   counted k lt false e = push-other p k (omega arith) (λ q. omega arith) (λ q. eqb-false c k e (sym q)) (λ r. omega arith) ∙ omega arith
 
-module _ (c : ℕ) {vs l l′ : List ℕ} (p : Laid c (starts c) (width c) vs l l′) (few : c < 6) (ok : Ok l) (room : getD l c 0 < most c) (telling : Telling l′) where
+module _ (c : ℕ) {vs l l′ : List ℕ} (p : Laid c (starts c) (width c) vs l l′) (few : c < 6) (ok : Ok l) (room : getD l c 0 < most c) (telling : Telling l′) (owning : Owning l′) where
   pushed-laid : Pushed c (starts c) (width c) vs l l′
   pushed-laid =
       let head = head-le c in
-      let fine = ok-after p ok few room telling in
+      let fine = ok-after p ok few room telling owning in
       record {
         push = record { laid = p; ok = fine };
         ok = fine;
@@ -100,10 +102,15 @@ module _ (c : ℕ) (vs l m : List ℕ) (wide : length vs ≡ width c) (few : c <
       let other = others laid-by ok few room [] in
       subst (λ (x : (ℕ → ℕ → ℕ) × (List Typ × List Range)). Told (x .0) (x .1 .0) (x .1 .1)) (λ i. (sym tallies-same i, (sym (other .types no-type) i, sym (other .log no-range) i))) (ok .telling (sym flag-same ∙ on))
 
--- neither a type nor a range
-pub pushed-by : (c : ℕ) {vs l m : List ℕ} → length vs ≡ width c → c < 6 → Ok l → getD l c 0 < most c → m ≡ sets l (starts c + width c * getD l c 0) vs → 1 ≢ c → 3 ≢ c → Pushed c (starts c) (width c) vs l (set m c (getD l c 0 + 1))
-pushed-by c {vs} {l} {m} wide few ok room is no-type no-range =
-    pushed-laid c (laid-by c vs l m wide few ok room is) few ok room (telling-same c vs l m wide few ok room is no-type no-range)
+  owning-same : 2 ≢ c → Owning (set m c (getD l c 0 + 1))
+  owning-same no-field on =
+      let other = others laid-by ok few room [] in
+      subst (λ (x : (ℕ → ℕ → ℕ) × List Field). Owned (x .0) (x .1)) (λ i. (sym tallies-same i, sym (other .fields no-field) i)) (ok .owning (sym flag-same ∙ on))
+
+-- neither a type nor a field nor a range
+pub pushed-by : (c : ℕ) {vs l m : List ℕ} → length vs ≡ width c → c < 6 → Ok l → getD l c 0 < most c → m ≡ sets l (starts c + width c * getD l c 0) vs → 1 ≢ c → 2 ≢ c → 3 ≢ c → Pushed c (starts c) (width c) vs l (set m c (getD l c 0 + 1))
+pushed-by c {vs} {l} {m} wide few ok room is no-type no-field no-range =
+    pushed-laid c (laid-by c vs l m wide few ok room is) few ok room (telling-same c vs l m wide few ok room is no-type no-range) (owning-same c vs l m wide few ok room is no-field)
 
 -- a type more
 module _ (r : TypeRow) {l m : List ℕ} (ok : Ok l) (room : getD l 1 0 < 32) (is : m ≡ sets l (2064 + 4 * getD l 1 0) (typeCells r)) where
@@ -121,7 +128,101 @@ module _ (r : TypeRow) {l m : List ℕ} (ok : Ok l) (room : getD l 1 0 < 32) (is
 
   pub pushed-type-by : Pushed 1 2064 4 (typeCells r) l (set m 1 (getD l 1 0 + 1))
   unfolding starts width most
-  pushed-type-by = pushed-laid 1 type-laid (omega arith) ok room type-telling
+  pushed-type-by = pushed-laid 1 type-laid (omega arith) ok room type-telling (owning-same 1 (typeCells r) l m refl (omega arith) ok room is (omega arith))
+
+-- ── a field more: the row, and then two tallies of its type ──
+
+pub record FieldTallied (t n : ℕ) (l l′ : List ℕ) : Type 0 where
+  pub long : length l′ ≡ length l
+  pub other : (j : ℕ) → (t < 32 → (j ≢ 16016 + 8 * t) × (j ≢ 16016 + 8 * t + 7)) → getD l′ j 0 ≡ getD l j 0
+  pub first : t < 32 → getD l (16016 + 8 * t + 7) 0 ≡ 0 → getD l′ (16016 + 8 * t) 0 ≡ n
+  pub further : t < 32 → (getD l (16016 + 8 * t + 7) 0 ≡ 0 → ⊥) → getD l′ (16016 + 8 * t) 0 ≡ getD l (16016 + 8 * t) 0
+  pub last : t < 32 → getD l′ (16016 + 8 * t + 7) 0 ≡ n + 1
+
+pub untallied : (t n : ℕ) (l : List ℕ) → 32 ≤ t → FieldTallied t n l l
+untallied t n l le = record { long = refl; other = λ j apart. refl; first = λ lt e. absurd (omega arith); further = λ lt e. absurd (omega arith); last = λ lt. absurd (omega arith) }
+
+module _ (t n : ℕ) (l : List ℕ) (long : length l ≡ 16384) (lt : t < 32) where
+  pub tallied-first : getD l (16016 + 8 * t + 7) 0 ≡ 0 → FieldTallied t n l (set (set l (16016 + 8 * t) n) (16016 + 8 * t + 7) (n + 1))
+  tallied-first none-yet =
+      let m = set l (16016 + 8 * t) n in
+      let m-long : length m ≡ 16384 = length-set l (16016 + 8 * t) n ∙ long in
+      record {
+        long = length-set m (16016 + 8 * t + 7) (n + 1) ∙ length-set l (16016 + 8 * t) n;
+        other = λ j apart. getD-set-other m (16016 + 8 * t + 7) j (n + 1) 0 (apart lt .1) ∙ getD-set-other l (16016 + 8 * t) j n 0 (apart lt .0);
+        first = λ q e. getD-set-other m (16016 + 8 * t + 7) (16016 + 8 * t) (n + 1) 0 (λ e. omega arith) ∙ getD-set-same l (16016 + 8 * t) n 0 (omega arith);
+        further = λ q some. absurd (some none-yet);
+        last = λ q. getD-set-same m (16016 + 8 * t + 7) (n + 1) 0 (omega arith);
+      }
+
+  pub tallied-further : (getD l (16016 + 8 * t + 7) 0 ≡ 0 → ⊥) → FieldTallied t n l (set l (16016 + 8 * t + 7) (n + 1))
+  tallied-further some =
+      record {
+        long = length-set l (16016 + 8 * t + 7) (n + 1);
+        other = λ j apart. getD-set-other l (16016 + 8 * t + 7) j (n + 1) 0 (apart lt .1);
+        first = λ q e. absurd (some e);
+        further = λ q e. getD-set-other l (16016 + 8 * t + 7) (16016 + 8 * t) (n + 1) 0 (λ e. omega arith);
+        last = λ q. getD-set-same l (16016 + 8 * t + 7) (n + 1) 0 (omega arith);
+      }
+
+module _ (r : FieldRow) {l m l′ : List ℕ} (ok : Ok l) (room : getD l 2 0 < 128) (is : m ≡ sets l (2192 + 16 * getD l 2 0) (fieldCells r)) (T : FieldTallied (r .owner) (getD l 2 0) (set m 2 (getD l 2 0 + 1)) l′) where
+  field-row : Laid 2 2192 16 (fieldCells r) l (set m 2 (getD l 2 0 + 1))
+  unfolding starts width most
+  field-row = laid-by 2 (fieldCells r) l m refl (omega arith) ok room is
+
+  field-laid : Laid 2 2192 16 (fieldCells r) l l′
+  field-laid = record { wide = refl; low = omega arith; head = omega arith; room = field-row .room; full = field-row .full; long = T .long ∙ field-row .long; near = λ j lt n7. T .other j (λ few. (λ e. omega arith, λ e. omega arith)) ∙ field-row .near j lt n7 }
+
+  -- the tallies but those two are as they were, and so is cell 7
+  apart-same : (j : ℕ) → 7 ≤ j → (16 ≤ j → 16016 ≤ j) → (r .owner < 32 → (j ≢ 16016 + 8 * r .owner) × (j ≢ 16016 + 8 * r .owner + 7)) → getD l′ j 0 ≡ getD l j 0
+  unfolding starts width most
+  apart-same j high far apart = T .other j apart ∙ beyond 2 (fieldCells r) l m refl (omega arith) ok room is j high far
+
+  field-flag : getD l′ 7 0 ≡ getD l 7 0
+  field-flag = apart-same 7 (omega arith) (λ h. omega arith) (λ few. (λ e. omega arith, λ e. omega arith))
+
+  field-telling : Telling l′
+  unfolding starts width most typesOf logOf
+  field-telling on =
+      let other = others {c = 2} field-laid ok (omega arith) room [] in
+      subst (λ (x : List Typ × List Range). Told (tally l′) (x .0) (x .1)) (λ i. (sym (other .types (omega arith)) i, sym (other .log (omega arith)) i))
+      (told-cong
+      (λ t k lt some few. apart-same (16016 + 8 * t + k) (omega arith) (λ h. omega arith) (λ fits. (λ e. omega arith, λ e. omega arith)))
+      (apart-same 16272 (omega arith) (λ h. omega arith) (λ fits. (λ e. omega arith, λ e. omega arith)))
+      (ok .telling (sym field-flag ∙ on)))
+
+  tally-at-0 : (x : List ℕ) (t : ℕ) → tally x t 0 ≡ getD x (16016 + 8 * t) 0
+  tally-at-0 x t = let e : 16016 + 8 * t + 0 ≡ 16016 + 8 * t = omega arith in ap (λ (k : ℕ). getD x k 0) e
+
+  row-same : (j : ℕ) → 16016 ≤ j → getD (set m 2 (getD l 2 0 + 1)) j 0 ≡ getD l j 0
+  unfolding starts width most
+  row-same j high = tally-same 2 (fieldCells r) l m refl (omega arith) ok room is j high
+
+  grown : Grown (tally l) (tally l′) (fldsOf l) (fieldIn r)
+  grown =
+      let t = r .owner in
+      let count = ok .flds-count in
+      let seven = row-same (16016 + 8 * t + 7) (omega arith) in
+      let zeroth = row-same (16016 + 8 * t) (omega arith) in
+      record {
+        others = λ u lt ne. (
+          apart-same (16016 + 8 * u + 0) (omega arith) (λ h. omega arith) (λ fits. (λ e. ne (omega arith), λ e. omega arith)),
+          apart-same (16016 + 8 * u + 7) (omega arith) (λ h. omega arith) (λ fits. (λ e. omega arith, λ e. ne (omega arith))),
+        );
+        first = λ lt none-yet. tally-at-0 l′ t ∙ T .first lt (seven ∙ none-yet) ∙ sym count;
+        further = λ lt some. tally-at-0 l′ t ∙ T .further lt (λ e. omega (arith, seven)) ∙ zeroth ∙ sym (tally-at-0 l t);
+        last = λ lt. T .last lt ∙ ap (λ (k : ℕ). k + 1) (sym count);
+      }
+
+  field-owning : Owning l′
+  unfolding starts width most fldsOf
+  field-owning on =
+      let mine : fldsOf l′ ≡ fldsOf l ++ fieldIn r ∷ [] = push-mine field-laid fldOf ∙ ap (λ (d : Field). fldsOf l ++ d ∷ []) (field-cells r) in
+      subst (λ (x : List Field). Owned (tally l′) x) (sym mine) (owned-more (ok .owning (sym field-flag ∙ on)) (fieldIn r) grown)
+
+  pub pushed-field-by : Pushed 2 2192 16 (fieldCells r) l l′
+  unfolding starts width most
+  pushed-field-by = pushed-laid 2 field-laid (omega arith) ok room field-telling field-owning
 
 -- ── a range more: the row, and then the tallies ──
 
@@ -261,6 +362,13 @@ module _ {r : RangeRow} {up n : ℕ} {l l′ : List ℕ} (R : Retold r up n l l�
   low-kept : (t k : ℕ) → k < 5 → tally l′ t k ≡ tally (R .mid) t k
   low-kept t k lt = R .above .other (16016 + 8 * t + k) (λ e. omega arith) (λ e. omega arith)
 
+  -- nor to 0 and 7
+  fields-kept : (t : ℕ) → t < 32 → (tally l′ t 0 ≡ tally l t 0) × (tally l′ t 7 ≡ tally l t 7)
+  fields-kept t lt = (
+    low-kept t 0 (omega arith) ∙ mid-other (16016 + 8 * t + 0) (λ e. omega arith) (λ p. omega arith),
+    R .above .other (16016 + 8 * t + 7) (λ e. omega arith) (λ e. omega arith) ∙ mid-other (16016 + 8 * t + 7) (λ e. omega arith) (λ p. omega arith),
+  )
+
   one-share : (a : ℕ) → maybe a ≡ typeIn ts (r .typ) .super → share a (r .count) ≡ total (base? ts) size (rangeIn r ∷ [])
   unfolding size
   one-share zero at = sym (one-yes (base? ts) size (rangeIn r) (sym (is-base ts (rangeIn r) 0 at)))
@@ -314,6 +422,9 @@ module _ (r : RangeRow) (up : ℕ) {l m l′ : List ℕ} (ok : Ok l) (room : get
   range-laid : Laid 3 4240 3 (rangeCells r) l l′
   range-laid = record { wide = refl; low = omega arith; head = omega arith; room = row-laid .room; full = row-laid .full; long = T .long ∙ row-laid .long; near = λ j lt n7. T .near j lt n7 ∙ row-laid .near j lt n7 }
 
+  types-there : length (typesOf l) ≡ getD (set m 3 (getD l 3 0 + 1)) 1 0
+  types-there = ok .types-count ∙ sym (push-other row-laid 1 (omega arith) (λ e. omega arith) (λ e. omega arith) (λ q. omega arith))
+
   range-telling : Telling l′
   unfolding starts width most typesOf logOf
   range-telling on =
@@ -322,12 +433,24 @@ module _ (r : RangeRow) (up : ℕ) {l m l′ : List ℕ} (ok : Ok l) (room : get
       let same = tallies-same 3 (rangeCells r) l m refl (omega arith) ok room is in
       let flag = flag-same 3 (rangeCells r) l m refl (omega arith) ok room is in
       let types-same : typesOf l₁ ≡ typesOf l = others {c = 3} row-laid ok (omega arith) room [] .types (omega arith) in
-      let C : Counted (tally l₁) (tally l′) (typesOf l) (rangeIn r) = counted-of R (row-laid .long ∙ ok .long) (small .typ-fits) (typesOf l) above (ok .types-count ∙ sym (push-other row-laid 1 (omega arith) (λ e. omega arith) (λ e. omega arith) (λ q. omega arith))) in
+      let C : Counted (tally l₁) (tally l′) (typesOf l) (rangeIn r) = counted-of R (row-laid .long ∙ ok .long) (small .typ-fits) (typesOf l) above types-there in
       let was : Told (tally l₁) (typesOf l) (logOf l) = subst (λ (x : ℕ → ℕ → ℕ). Told x (typesOf l) (logOf l)) (sym same) (ok .telling (sym flag ∙ R .regular .told)) in
       subst (λ (x : List Typ × List Range). Told (tally l′) (x .0) (x .1))
       (λ i. (sym (others {c = 3} range-laid ok (omega arith) room [] .types (omega arith)) i, sym (push-mine range-laid rangeOf ∙ ap (λ (d : Range). logOf l ++ d ∷ []) (range-cells r small)) i))
       (told-range was (rangeIn r) C)
 
+  -- those of the fields are not touched
+  range-owning : Owning l′
+  unfolding starts width most fldsOf
+  range-owning on =
+      let R = T .retold on in
+      let flag = flag-same 3 (rangeCells r) l m refl (omega arith) ok room is in
+      let same = tally-same 3 (rangeCells r) l m refl (omega arith) ok room is in
+      let kept = fields-kept R (row-laid .long ∙ ok .long) (small .typ-fits) (typesOf l) above types-there in
+      subst (λ (x : List Field). Owned (tally l′) x) (sym (others {c = 3} range-laid ok (omega arith) room [] .fields (omega arith)))
+      (owned-cong (λ t lt. (kept t lt .0 ∙ same (16016 + 8 * t + 0) (omega arith), kept t lt .1 ∙ same (16016 + 8 * t + 7) (omega arith)))
+      (ok .owning (sym flag ∙ R .regular .told)))
+
   pub pushed-range-by : Pushed 3 4240 3 (rangeCells r) l l′
   unfolding starts width most
-  pushed-range-by = pushed-laid 3 range-laid (omega arith) ok room range-telling
+  pushed-range-by = pushed-laid 3 range-laid (omega arith) ok room range-telling range-owning

@@ -8,14 +8,14 @@ use native.Mathlib.Numerals.{add-one}
 use native.Mathlib.Omega.{arith}
 use lib.ListN.{length, getD, set, length-set}
 use lib.Seq.{sets, length-sets, ext-getD, getD-set-same, getD-set-other}
-use Rattle.paper.specs.Ledger.{Due, Typ, Range}
+use Rattle.paper.specs.Ledger.{Due, Typ, Field, Range}
 use Rattle.table.specs.Segs.{cells, seg}
 use Rattle.table.specs.RowLaws.{lt-or-ge, same-or-not, cells-cong, cells-sets, sets-other, seg-at, seg-kept, each-kept}
 use Rattle.table.specs.Layout.{width, most, starts, kinds-apart}
-use Rattle.table.specs.View.{wide, textOf, typOf, fldOf, rangeOf, dueOf, spotOf, strsOf, namesOf, typesOf, titlesOf, fldsOf, logOf, duesOf, chunksOf, view, tally, Telling, Ok, Within, Holds, Now}
+use Rattle.table.specs.View.{wide, textOf, typOf, fldOf, rangeOf, dueOf, spotOf, strsOf, namesOf, typesOf, titlesOf, fldsOf, logOf, duesOf, chunksOf, view, tally, Telling, Owning, Ok, Within, Holds, Now}
 use Rattle.table.specs.ViewLaws.{count-dues, Fits, ok-fits, ok-of, In, holds-of, holds-in}
 use Rattle.table.specs.RowReads.{due-row}
-use Rattle.table.specs.Told.{Told}
+use Rattle.table.specs.Told.{Told, Owned}
 use Rattle.table.specs.Answers.{noDue}
 use Rattle.table.specs.Packed.{lower, upper, halves}
 
@@ -71,8 +71,13 @@ module _ (i size : ℕ) {l l′ : List ℕ} (ok : Ok l) (lt : i < getD l 4 0) (i
       (λ j. (sym tallies-kept j, (sym (kept typOf 1 (omega arith) (omega arith)) j, sym (kept rangeOf 3 (omega arith) (omega arith)) j)))
       (ok .telling (sym (count-kept 7 (omega arith)) ∙ on))
 
+  owning-kept : Owning l′
+  unfolding starts width most fldsOf
+  owning-kept on =
+      subst (λ (x : (ℕ → ℕ → ℕ) × List Field). Owned (x .0) (x .1)) (λ j. (sym tallies-kept j, sym (kept fldOf 2 (omega arith) (omega arith)) j)) (ok .owning (sym (count-kept 7 (omega arith)) ∙ on))
+
   ok-kept : Ok l′
-  ok-kept = ok-of (long-kept ∙ ok .long) fits-kept telling-kept
+  ok-kept = ok-of (long-kept ∙ ok .long) fits-kept telling-kept owning-kept
 
   -- the row itself
   stored : cells l′ (7312 + 4 * i + 2) 2 ≡ lower size ∷ upper size ∷ []

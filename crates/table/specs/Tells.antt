@@ -1,16 +1,18 @@
 -- What a table's tallies tell. Assumes nothing.
 use Prim.Native.Nat.{ℕ, _-_, _≤_, _<_}
-use mathlib.Core.Path.{_≡_, sym, ap, _∙_}
+use mathlib.Core.Path.{_≡_, refl, sym, ap, _∙_}
 use mathlib.Core.Bool.{Bool, true, false}
 use mathlib.Core.List.{List, []}
 use native.Mathlib.Omega.{arith}
 use lib.ListN.{getD}
 use Rattle.paper.specs.Lists.{any, all, total}
-use Rattle.paper.specs.Ledger.{of?, before?, size, Range}
+use Rattle.paper.specs.Ledger.{of?, before?, size, owns?, Range}
 use Rattle.paper.specs.Rules.{entryOf?, clear?}
-use Rattle.table.specs.View.{typesOf, logOf, tally, Ok}
+use Rattle.table.specs.View.{typesOf, fldsOf, logOf, tally, Ok}
 use Rattle.table.specs.Told.{upTo?}
 use Rattle.table.specs.ToldLaws.{all-weak, none-of, total-same, total-none, still-up, no-entry, all-before, clear-more}
+use Rattle.table.specs.OwnedLaws.{none-before, none-behind, none-past}
+use Rattle.table.specs.Answers.{Stretched}
 use native.Mathlib.Nat.{le-refl}
 use Prim.Native.Nat.{zero-le}
 
@@ -38,3 +40,13 @@ module _ {l : List ℕ} (ok : Ok l) (on : getD l 7 0 ≡ 1) (t : ℕ) (lt : t < 
   clear-here b start e le =
       all-weak (clear? b (typesOf l) t (tally l t 6)) (clear? b (typesOf l) t start) (clear-more b (typesOf l) t (tally l t 6) start le) (logOf l)
       (ap (λ (k : ℕ). all (clear? k (typesOf l) t (tally l t 6)) (logOf l)) (sym e) ∙ ok .telling on .ended t lt)
+
+  pub stretch-told : {a b : ℕ} → a ≡ tally l t 0 → b ≡ tally l t 7 → Stretched t (fldsOf l) (record { from = a; to = b })
+  stretch-told a-is b-is =
+      let O = ok .owning on in
+      rw (a-is, b-is) (record { forward = O .begins t lt; inside = O .ends t lt; before = none-before O t lt; behind = none-behind O t lt })
+
+-- all fields
+pub stretch-all : {l : List ℕ} (t : ℕ) → Ok l → {n : ℕ} → n ≡ getD l 2 0 → Stretched t (fldsOf l) (record { from = 0; to = n })
+stretch-all {l} t ok n-is =
+    record { forward = zero-le; inside = omega (arith, ok .flds-count); before = refl; behind = none-past (owns? t) (fldsOf l) (omega (arith, ok .flds-count)) }

@@ -1,12 +1,12 @@
--- What the tallies say of the log of ranges. Assumes nothing.
+-- What the tallies say of the log of ranges, and of the fields. Assumes nothing.
 use Prim.Native.Nat.{ℕ, _+_, _-_, _≤_, _<_}
 use mathlib.Core.Bool.{Bool, true, false, not, _||_}
 use mathlib.Core.List.{List}
 use mathlib.Core.Path.{_≡_}
 use lib.Dec.{ltb}
-use lib.ListN.{length}
+use lib.ListN.{length, getD}
 use Rattle.paper.specs.Lists.{all, total}
-use Rattle.paper.specs.Ledger.{Typ, Range, of?, before?, base?, size}
+use Rattle.paper.specs.Ledger.{Typ, Range, Field, noField, owns?, of?, before?, base?, size}
 use Rattle.paper.specs.Rules.{clear?}
 
 -- a range of one of the first n types
@@ -32,3 +32,11 @@ pub record Told (tally : ℕ → ℕ → ℕ) (ts : List Typ) (log : List Range)
   pub bases : tally 32 0 ≡ total (base? ts) size log
   pub beyond : (u : ℕ) → u < 32 → (b : ℕ) → tally u 5 ≤ b → all (clear? b ts u 0) log ≡ true
   pub ended : (u : ℕ) → u < 32 → all (clear? (tally u 5 - 1) ts u (tally u 6)) log ≡ true
+
+-- further tallies of type t, of its fields:
+--   0  no field before this place is its own
+--   7  no field from this place on is its own
+pub record Owned (tally : ℕ → ℕ → ℕ) (flds : List Field) : Type 0 where
+  pub begins : (t : ℕ) → t < 32 → tally t 0 ≤ tally t 7
+  pub ends : (t : ℕ) → t < 32 → tally t 7 ≤ length flds
+  pub between : (t : ℕ) → t < 32 → (i : ℕ) → i < length flds → owns? t (getD flds i noField) ≡ true → (tally t 0 ≤ i) × (i < tally t 7)

@@ -317,6 +317,19 @@ module _ {tally tally′ : ℕ → ℕ → ℕ} {ts : List Typ} {log : List Rang
         ended = ended-kept;
       }
 
+-- the same tallies 1 to 6, and the same sum of all
+pub told-cong : {tally tally′ : ℕ → ℕ → ℕ} {ts : List Typ} {log : List Range} → ((t k : ℕ) → t < 32 → 0 < k → k < 7 → tally′ t k ≡ tally t k) → tally′ 32 0 ≡ tally 32 0 → Told tally ts log → Told tally′ ts log
+told-cong {tally} {tally′} {ts} {log} same same-all T =
+    record {
+      known = T .known;
+      sums = λ t lt. same t 1 lt (omega arith) (omega arith) ∙ T .sums t lt;
+      latest = λ t lt. ap (λ (k : ℕ). all (upTo? t k) log) (same t 2 lt (omega arith) (omega arith)) ∙ T .latest t lt;
+      before = λ t lt. same t 3 lt (omega arith) (omega arith) ∙ T .before t lt ∙ ap (λ (k : ℕ). total (before? (k - 1) t) size log) (sym (same t 2 lt (omega arith) (omega arith)));
+      bases = same-all ∙ T .bases;
+      beyond = λ u lt b le. T .beyond u lt b (omega (arith, same u 5 lt (omega arith) (omega arith)));
+      ended = λ u lt. ap₂ (λ (a b : ℕ). all (clear? (a - 1) ts u b) log) (same u 5 lt (omega arith) (omega arith)) (same u 6 lt (omega arith) (omega arith)) ∙ T .ended u lt;
+    }
+
 -- nothing is known yet, and every tally is 0
 pub told-none : {tally : ℕ → ℕ → ℕ} → ((t k : ℕ) → t < 32 → k < 8 → tally t k ≡ 0) → tally 32 0 ≡ 0 → Told tally [] []
 unfolding all total

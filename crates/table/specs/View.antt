@@ -13,7 +13,7 @@ use Rattle.paper.specs.Numbers.{signed, putFixed}
 use Rattle.paper.specs.Ledger.{Kind, constant, plain, array, many, mapping, Typ, Field, Range, Due, State}
 use Rattle.paper.specs.Places.{Spot}
 use Rattle.table.specs.Segs.{seg, Each}
-use Rattle.table.specs.Told.{Told}
+use Rattle.table.specs.Told.{Told, Owned}
 
 -- ── the layout of 16,384 numbers ──
 --
@@ -156,6 +156,9 @@ tally l t k = getD l (16016 + 8 * t + k) 0
 abbrev pub Telling : List ℕ → Type 0
 Telling l = getD l 7 0 ≡ 1 → Told (tally l) (typesOf l) (logOf l)
 
+abbrev pub Owning : List ℕ → Type 0
+Owning l = getD l 7 0 ≡ 1 → Owned (tally l) (fldsOf l)
+
 -- of the table alone; the last lines hold of every table, and stand here so that they are found
 pub record Ok (l : List ℕ) : Type 0 where
   pub long : length l ≡ 16384
@@ -171,6 +174,7 @@ pub record Ok (l : List ℕ) : Type 0 where
   pub dues-count : length (duesOf l) ≡ getD l 4 0
   pub chunks-count : length (chunksOf l) ≡ getD l 5 0
   pub telling : Telling l
+  pub owning : Owning l
 
 -- a part of the bytes
 abbrev pub Within : List ℕ → List ℕ → Type 0

@@ -12,7 +12,7 @@ use Rattle.table.specs.Segs.{seg, Each, Laid}
 use Rattle.table.specs.Rows.{Push}
 use Rattle.table.specs.RowLaws.{same-or-not, length-tab, push-other, push-long, push-count, push-mine, push-kept, push-each, push-each-kept}
 use Rattle.table.specs.Layout.{width, most, starts, head-le, kinds-apart, kind-fits}
-use Rattle.table.specs.View.{textOf, typOf, fldOf, rangeOf, dueOf, spotOf, strsOf, namesOf, typesOf, titlesOf, fldsOf, logOf, duesOf, chunksOf, said, Telling, Ok, Within, Holds, Now}
+use Rattle.table.specs.View.{textOf, typOf, fldOf, rangeOf, dueOf, spotOf, strsOf, namesOf, typesOf, titlesOf, fldsOf, logOf, duesOf, chunksOf, said, Telling, Owning, Ok, Within, Holds, Now}
 use Rattle.table.specs.Answers.{typIn, fieldIn, rangeIn, Small}
 use Rattle.table.specs.Packed.{typeCells, fieldCells, rangeCells, dueCells, chunkCells, field-cells, range-cells, due-cells, chunk-cells}
 use Rattle.table.specs.declared.rows.TypeRow.{TypeRow}
@@ -70,9 +70,9 @@ ok-fits ok (suc (suc (suc (suc zero)))) lt = ok .dues-fit
 ok-fits ok (suc (suc (suc (suc (suc zero))))) lt = ok .chunks-fit
 ok-fits ok (suc (suc (suc (suc (suc (suc k)))))) lt = absurd (omega arith)
 
-pub ok-of : {l : List ℕ} → length l ≡ 16384 → Fits l → Telling l → Ok l
+pub ok-of : {l : List ℕ} → length l ≡ 16384 → Fits l → Telling l → Owning l → Ok l
 unfolding most
-ok-of {l} long fits telling =
+ok-of {l} long fits telling owning =
     record {
       long = long;
       strs-fit = fits 0 (omega arith);
@@ -87,6 +87,7 @@ ok-of {l} long fits telling =
       dues-count = count-dues l;
       chunks-count = count-chunks l;
       telling = telling;
+      owning = owning;
     }
 
 -- the texts of kind k, 0 to 2, lie within the bytes
@@ -149,8 +150,8 @@ module _ {c : ℕ} {vs l l′ : List ℕ} (p : Laid c (starts c) (width c) vs l 
       (same-or-not k c)
 
   -- once the tallies are right
-  pub ok-after : Telling l′ → Ok l′
-  ok-after telling = ok-of (push-long p ∙ ok .long) fits-after telling
+  pub ok-after : Telling l′ → Owning l′ → Ok l′
+  ok-after telling owning = ok-of (push-long p ∙ ok .long) fits-after telling owning
 
   pub others : (f : List ℕ) → Others c f l l′
   unfolding starts width most strsOf namesOf typesOf titlesOf fldsOf logOf duesOf chunksOf

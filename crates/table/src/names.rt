@@ -1,18 +1,21 @@
 // Types and fields by their names. A name is lent, or is itself a part of the source.
 ghost use mathlib.Core.Path.{_≡_};
 ghost use Prim.Native.Nat.{_-_, _≤_};
-ghost use lib.ListN.{length, drop};
+ghost use lib.ListN.{length};
 ghost use lib.Seq.{slice};
 ghost use Rattle.paper.specs.Lists.{same, place, placeNamed, places};
 ghost use Rattle.paper.specs.Ledger.{owns?, called?};
 ghost use Rattle.table.specs.View.{namesOf, titlesOf, fldsOf, Ok, Holds};
-ghost use Rattle.table.specs.Answers.{fieldIn};
+ghost use Rattle.table.specs.Answers.{fieldIn, Stretched};
 ghost use Rattle.table.specs.Asks.{found};
 use super::rows::FieldRow;
 use super::rows::Span;
+use super::rows::Stretch;
 use super::rows::field_at;
 use super::rows::fields;
 use super::rows::type_at;
+use super::ranges::tally_at;
+use super::ranges::told;
 use super::rows::types;
 
 // A place among the types or the fields.
@@ -112,21 +115,20 @@ pub fn find_field(src: &[u8], work: &[u32], t: u32, name: Span) -> Found
     find_field_called(src, work, t, &src[from..to])
 }
 
-// The first field of type t from place i on.
-pub fn next_field(work: &[u32], t: u32, i: u32) -> Found
+// Where the fields of type t stand: it has none before these, and none behind.
+pub fn stretch_of(work: &[u32], t: u32) -> Stretch
     requires { ⌜ Ok (now work) ⌝ }
-    ensures { λ r. ⌜ found r ≡ place (owns? t) i (drop i (fldsOf (now (work .entry)))) ⌝ }
+    ensures { λ r. ⌜ Stretched t (fldsOf (now (work .entry))) r ⌝ }
 {
-    let n = fields(work);
-    let mut k = i;
-    while k < n {
-        let row = field_at(work, k);
-        if row.owner == t {
-            return Found::At(k);
-        }
-        k += 1;
+    if !told(work, t) {
+        return Stretch {
+            from: 0,
+            to: fields(work),
+        };
     }
-    Found::Nothing
+    let from = tally_at(work, t, 0);
+    let to = tally_at(work, t, 7);
+    Stretch { from, to }
 }
 
 // How many fields type t has.
@@ -134,9 +136,10 @@ pub fn fields_of(work: &[u32], t: u32) -> u32
     requires { ⌜ Ok (now work) ⌝ }
     ensures { λ r. ⌜ r ≡ length (places (owns? t) 0 (fldsOf (now (work .entry)))) ⌝ }
 {
-    let n = fields(work);
+    let own = stretch_of(work, t);
+    let n = own.to;
     let mut k = 0;
-    let mut i = 0;
+    let mut i = own.from;
     while i < n {
         let row = field_at(work, i);
         if row.owner == t {

@@ -9,7 +9,7 @@ ghost use lib.Seq.{sets};
 ghost use Rattle.table.specs.View.{Ok};
 ghost use Rattle.table.specs.Answers.{Small};
 ghost use Rattle.table.specs.Packed.{typeCells, fieldCells, rangeCells, dueCells, chunkCells};
-ghost use Rattle.table.specs.Pushes.{Pushed, Regular, share, Aboved, Tallied};
+ghost use Rattle.table.specs.Pushes.{Pushed, FieldTallied, Regular, share, Aboved, Tallied};
 ghost use Rattle.table.specs.Sizes.{DueSized};
 use super::cells::put2;
 use super::cells::put3;
@@ -64,6 +64,24 @@ fn put_field(work: &mut [u32], at: usize, d: FieldRow)
     put8(work, at + 8, 0, 0, 0, 0, 0, 0, 0, 0);
 }
 
+// Among the tallies of type t, that the n-th field is its own: the fields of t stand from the first such on and up to the last.
+fn tally_field(work: &mut [u32], t: u32, n: u32)
+    requires { ⌜ length (now work) ≡ 16384 ⌝ }
+    requires { ⌜ n < 128 ⌝ }
+    ensures { λ _. ⌜ FieldTallied t n (now (work .entry)) (now (work .exit)) ⌝ }
+{
+    if 32 <= t {
+        return;
+    }
+    let at = 16016 + 8 * (t as usize);
+    if work[at + 7] != 0 {
+        work[at + 7] = n + 1;
+        return;
+    }
+    work[at] = n;
+    work[at + 7] = n + 1;
+}
+
 pub fn push_field(work: &mut [u32], d: FieldRow)
     requires { ⌜ Ok (now work) ⌝ }
     requires { ⌜ getD (now work) 2 0 < 128 ⌝ }
@@ -72,6 +90,7 @@ pub fn push_field(work: &mut [u32], d: FieldRow)
     let n = work[2];
     put_field(work, 2192 + 16 * (n as usize), d);
     work[2] = n + 1;
+    tally_field(work, d.owner, n);
 }
 
 // The tallies are told, and the range is one of a known type that has none in its block or in a later one.

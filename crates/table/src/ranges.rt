@@ -131,7 +131,7 @@ fn sum_of(work: &[u32], q: Ask) -> u32
 }
 
 // The tallies are told, of type t too.
-fn told(work: &[u32], t: u32) -> bool
+pub fn told(work: &[u32], t: u32) -> bool
     requires { ⌜ Ok (now work) ⌝ }
     ensures { λ r. ⌜ (r ≡ true → (getD (now (work .entry)) 7 0 ≡ 1) × (t < 32)) ⌝ }
 {
@@ -141,7 +141,7 @@ fn told(work: &[u32], t: u32) -> bool
     t < 32
 }
 
-fn tally_at(work: &[u32], t: u32, k: u32) -> u32
+pub fn tally_at(work: &[u32], t: u32, k: u32) -> u32
     requires { ⌜ Ok (now work) ⌝ }
     requires { ⌜ (t < 32) × (k < 8) ⌝ }
     ensures { λ r. ⌜ r ≡ tally (now (work .entry)) t k ⌝ }

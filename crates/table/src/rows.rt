@@ -53,6 +53,12 @@ pub struct ChunkRow {
     pub end: u32,
 }
 
+// Rows of one kind, from a place up to another.
+pub struct Stretch {
+    pub from: u32,
+    pub to: u32,
+}
+
 // The rows of each kind but the chunks that are due, which belong to one block only.
 pub struct Counts {
     pub strings: u32,

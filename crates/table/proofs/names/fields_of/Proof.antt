@@ -1,15 +1,15 @@
 -- `table::names::fields_of` meets its contract. Assumes nothing.
 use borrow.Author.Needs.{needs}
-use mathlib.Core.Path.{_≡_, refl}
+use mathlib.Core.Path.{_≡_, refl, ap, _∙_}
 use mathlib.Core.Logic.{inl, inr}
 use native.Mathlib.Omega.{arith}
 use borrow.Author.Tests.{eq-eqb, ne-eqb}
-use Prim.Native.Nat.{_+_, _-_, _≤_, zero-le}
+use Prim.Native.Nat.{ℕ, _+_, _-_, _≤_, zero-le}
 use lib.ListN.{length, drop}
 use Rattle.paper.specs.Lists.{places}
 use Rattle.paper.specs.Ledger.{noField, owns?}
 use Rattle.table.specs.View.{fldsOf}
-use Rattle.table.specs.Loops.{places-here, places-on, places-end}
+use Rattle.table.specs.Loops.{places-here, places-on}
 use Rattle.table.proofs.names.fields_of.Statement.{statement}
 use Rattle.table.proofs.names.fields_of.Tie as tie
 
@@ -35,10 +35,13 @@ fields-of-spec =
     Inv-loop
     μ-loop
     (λ c κs. search needs)
-    (λ c. (zero-le, zero-le, omega arith))
+    (λ c. let own = c .stretch-of .ensures in (own .forward, zero-le, omega (arith, ap length (own .before))))
     (λ c κs. search needs)
     (λ c. search needs)
     (λ c. search needs)
     (λ c. search needs)
     loop-again
-    (λ c. omega (arith, places-end (owns? (c .before .before .before .before .args .t)) (fldsOf (c .before .before .before .before .args .work .now)) (c .before .loop .i) (omega arith))))
+    (λ c. let own = c .before .before .stretch-of .ensures in
+    let last : c .before .loop .i ≡ c .before .before .stretch-of .result .to = omega arith in
+    let none-left = ap (λ (k : ℕ). length (places (owns? (c .before .before .before .before .args .t)) k (drop k (fldsOf (c .before .before .before .before .args .work .now))))) last ∙ ap length (own .behind) in
+    omega (arith, none-left)))

@@ -9,7 +9,7 @@ use Rattle.table.proofs.pushes.push_due.Tie as tie
 
 returns : tie.Need-returns
 unfolding starts width most
-returns c = pushed-by 4 refl (omega arith) (c .before .before .before .before .before .before .pre .0) (omega arith) (c .before .before .put4 .ensures) (omega arith) (omega arith)
+returns c = pushed-by 4 refl (omega arith) (c .before .before .before .before .before .before .pre .0) (omega arith) (c .before .before .put4 .ensures) (omega arith) (omega arith) (omega arith)
 
 pub push-due-spec : {M : Type 1} → statement M
 push-due-spec =

@@ -9,7 +9,7 @@ use Rattle.table.proofs.pushes.push_string.Tie as tie
 
 returns : tie.Need-returns
 unfolding starts width most
-returns c = pushed-by 0 refl (omega arith) (c .before .before .before .before .before .before .pre .0) (omega arith) (c .before .before .put2 .ensures) (omega arith) (omega arith)
+returns c = pushed-by 0 refl (omega arith) (c .before .before .before .before .before .before .pre .0) (omega arith) (c .before .before .put2 .ensures) (omega arith) (omega arith) (omega arith)
 
 pub push-string-spec : {M : Type 1} → statement M
 push-string-spec =
