@@ -11,13 +11,15 @@ use Rattle.paper.specs.Reader.{if_then_else_}
 use Rattle.paper.specs.Ledger.{State, Field, noField, fieldAt, owns?}
 use Rattle.paper.specs.Rules.{valuesDue, oldDue}
 use Rattle.table.specs.View.{fldsOf, view, Holds, Said, said, fieldsIn, duesIn}
+use Rattle.table.specs.Answers.{Stretched}
+use Rattle.table.specs.declared.rows.Stretch.{Stretch}
 use Rattle.table.specs.Adds.{addDue}
 use Rattle.table.specs.Packed.{dueCells}
 use Rattle.table.specs.Pushes.{Pushed}
 use Rattle.table.specs.ViewLaws.{pushed-due}
 use Rattle.reader.specs.Sound.{Open, old-room, due-added}
 use Rattle.reader.specs.Fields.{oldsOf}
-use Rattle.reader.specs.OldSteps.{ownFrom, own-step, own-none, olds-all, olds-none}
+use Rattle.reader.specs.OldSteps.{ownFrom, own-step, own-begins, own-ends, olds-all, olds-none}
 use Rattle.reader.specs.OldLaws.{open-later}
 use Rattle.judge.specs.Fields.{unsized, addOld, oldStep, addOlds, Ready, Opens, OldTold, OldsTold}
 
@@ -99,8 +101,9 @@ pub record Left (f l₀ l : List ℕ) (t added i : ℕ) : Type 0 where
 
 pub record DuesGoing (l₀ l : List ℕ) (t added n i : ℕ) : Type 0 where
   pub ready : Ready l t i
-  pub fields : fieldsIn l ≡ n
+  pub fields : n ≤ fieldsIn l
   pub fewer : i ≤ n
+  pub behind : ownFrom t n (fldsOf l) ≡ []
   pub long : length l ≡ length l₀
   pub says : (f : List ℕ) → Holds f l₀ → Open (said f l₀) t 0 → Left f l₀ l t added i
 
@@ -114,14 +117,15 @@ dues-skip {l} t {added} none =
       };
     }
 
-pub dues-begin : {l : List ℕ} {t : ℕ} → Ready l t 0 → {added : ℕ} → (added ≡ 0 → ⊥) → {n : ℕ} → n ≡ fieldsIn l → DuesGoing l l t added n 0
-dues-begin {l} {t} ready {added} some n-is =
+pub dues-begin : {l : List ℕ} {t : ℕ} → Ready l t 0 → {added : ℕ} → (added ≡ 0 → ⊥) → {r : Stretch} → Stretched t (fldsOf l) r → DuesGoing l l t added (r .to) (r .from)
+dues-begin {l} {t} ready {added} some own =
     record {
-      ready = ready;
-      fields = sym n-is;
-      fewer = omega arith;
+      ready = record { names = ready .names; holds = ready .holds; still-open = open-later (ready .still-open) (omega arith) };
+      fields = omega (arith, own .inside, ready .holds .ok .flds-count);
+      fewer = own .forward;
+      behind = own-ends own;
       long = refl;
-      says = λ f h o. record { holds = h; still-open = o; rest = ap (addOlds added (said f l)) (olds-all added (view f l) t some) };
+      says = λ f h o. record { holds = h; still-open = open-later o (omega arith); rest = ap (addOlds added (said f l)) (olds-all added (view f l) t some ∙ own-begins own) };
     }
 
 module _ {l₀ l : List ℕ} {t added n i : ℕ} (g : DuesGoing l₀ l t added n i) where
@@ -130,9 +134,9 @@ module _ {l₀ l : List ℕ} {t added n i : ℕ} (g : DuesGoing l₀ l t added n
       record {
         says = λ f h o.
             let L = g .says f h o in
-            let all : length (fldsOf l) ≤ i = omega (arith, L .holds .ok .flds-count, g .fields) in
+            let none-left : ownFrom t i (fldsOf l) ≡ [] = let last-is : i ≡ n = omega (arith, g .fewer) in ap (λ (k : ℕ). ownFrom t k (fldsOf l)) last-is ∙ g .behind in
             record {
-              now = record { holds = L .holds; says = sym (L .rest ∙ ap (addOlds added (said f l)) (own-none t i (fldsOf l) all) ∙ olds-stop added (said f l)) };
+              now = record { holds = L .holds; says = sym (L .rest ∙ ap (addOlds added (said f l)) none-left ∙ olds-stop added (said f l)) };
               still-open = open-later (L .still-open) (omega (arith, g .fewer, g .fields, L .holds .ok .flds-count));
             };
       }
@@ -141,8 +145,9 @@ module _ {l₀ l : List ℕ} {t added n i : ℕ} (g : DuesGoing l₀ l t added n
   dues-next lt {l′} one long =
       record {
         ready = record { names = R .names; holds = O .now .holds; still-open = O .still-open };
-        fields = sym (O .now .holds .ok .flds-count) ∙ ap length (same (R .names) O) ∙ R .holds .ok .flds-count ∙ g .fields;
+        fields = omega (arith, O .now .holds .ok .flds-count, ap length (same (R .names) O), R .holds .ok .flds-count, g .fields);
         fewer = omega arith;
+        behind = ap (ownFrom t n) (same (R .names) O) ∙ g .behind;
         long = long ∙ g .long;
         says = λ f h o.
             let L = g .says f h o in

@@ -43,8 +43,9 @@ fn known_due(work: &mut [u32], t: u32, added: u32)
     if added == 0 {
         return;
     }
-    let n = table::rows::fields(work);
-    let mut i: u32 = 0;
+    let own = table::names::stretch_of(work, t);
+    let n = own.to;
+    let mut i = own.from;
     while i < n {
         due_if_known(work, t, i, added);
         i += 1;

@@ -1,6 +1,6 @@
 -- The ways out of reading known fields, on plain values: one field, and a turn of the loop over all. Assumes nothing.
 use mathlib.Core.Path.{_≡_, refl, sym, ap, _∙_}
-use mathlib.Core.List.{List}
+use mathlib.Core.List.{List, []}
 use Prim.Native.Nat.{ℕ, _+_, _-_, _≤_, _<_, _^_}
 use native.Mathlib.Omega.{arith}
 use native.Mathlib.Nat.{le-refl}
@@ -16,6 +16,8 @@ use Rattle.numbers.specs.declared.Number.the-variants.{Got, No}
 use Rattle.numbers.specs.declared.Cursor.{Cursor}
 use Rattle.numbers.specs.declared.Refusal.{Refusal}
 use Rattle.table.specs.View.{fldsOf, view, Holds, Said, said, Now, fieldsIn, duesIn}
+use Rattle.table.specs.Answers.{Stretched}
+use Rattle.table.specs.declared.rows.Stretch.{Stretch}
 use Rattle.table.specs.Adds.{addDue}
 use Rattle.table.specs.Packed.{dueCells}
 use Rattle.table.specs.Pushes.{Pushed}
@@ -23,7 +25,7 @@ use Rattle.table.specs.ViewLaws.{pushed-due}
 use Rattle.reader.specs.Sound.{every-map, Before, Open, old-room, due-added}
 use Rattle.reader.specs.Going.{goOld}
 use Rattle.reader.specs.Fields.{going, oldsOf, oldGo, oldsGo, outGoing, Went}
-use Rattle.reader.specs.OldSteps.{ownFrom, olds-all, olds-none, own-none, olds-stop, olds-step, old-keeps}
+use Rattle.reader.specs.OldSteps.{ownFrom, olds-all, olds-none, own-begins, own-ends, olds-stop, olds-step, old-keeps}
 
 pub open-later : {g : Said} {t i j : ℕ} → Open g t i → i ≤ j → Open g t j
 open-later {g} {t} {i} {j} o le =
@@ -102,31 +104,33 @@ olds-skip {f} {l} h {t} o {added} none end {c} =
 pub record OldsGoing (f l₀ l : List ℕ) (t added end at₀ n i last at : ℕ) : Type 0 where
   pub holds : Holds f l
   pub still-open : Open (said f l) t i
-  pub fields : fieldsIn l ≡ n
+  pub fields : n ≤ fieldsIn l
   pub fewer : i ≤ n
+  pub behind : ownFrom t n (fldsOf l) ≡ []
   pub long : length l ≡ length l₀
   pub inside : at₀ ≤ length f → at ≤ length f
   pub says : oldsGo added (oldsOf added (view f l₀) t) (going f l₀ end) f at₀ ≡ oldsGo added (ownFrom t i (fldsOf l)) (going f l last) f at
 
-pub olds-begin : {f l : List ℕ} → Holds f l → {t : ℕ} → Open (said f l) t 0 → {added : ℕ} → (added ≡ 0 → ⊥) → {n : ℕ} → n ≡ fieldsIn l → (end at : ℕ) → OldsGoing f l l t added end at n 0 end at
-olds-begin {f} {l} h {t} o {added} some n-is end at =
+pub olds-begin : {f l : List ℕ} → Holds f l → {t : ℕ} → Open (said f l) t 0 → {added : ℕ} → (added ≡ 0 → ⊥) → {r : Stretch} → Stretched t (fldsOf l) r → (end at : ℕ) → OldsGoing f l l t added end at (r .to) (r .from) end at
+olds-begin {f} {l} h {t} o {added} some own end at =
     record {
       holds = h;
-      still-open = o;
-      fields = sym n-is;
-      fewer = omega arith;
+      still-open = open-later o (omega arith);
+      fields = omega (arith, own .inside, h .ok .flds-count);
+      fewer = own .forward;
+      behind = own-ends own;
       long = refl;
       inside = λ lo. lo;
-      says = rw (olds-all added (view f l) t some);
+      says = rw (olds-all added (view f l) t some) (ap (λ (is : List ℕ). oldsGo added is (going f l end) f at) (own-begins own));
     }
 
 module _ {f l₀ l : List ℕ} {t added end at₀ n i last at : ℕ} (g : OldsGoing f l₀ l t added end at₀ n i last at) where
   pub olds-done : n ≤ i → Went f l t (length (fldsOf l)) at₀ (Got last (record { at = at })) (oldsGo added (oldsOf added (view f l₀) t) (going f l₀ end) f at₀)
   olds-done le =
-      let all : length (fldsOf l) ≤ i = omega (arith, g .holds .ok .flds-count, g .fields) in
+      let last-is : i ≡ n = omega (arith, g .fewer) in
       record {
         holds = g .holds;
-        says = sym (g .says ∙ rw (own-none t i (fldsOf l) all) (olds-stop added f (going f l last) at));
+        says = sym (g .says ∙ rw (last-is, g .behind) (olds-stop added f (going f l last) at));
         inside = g .inside;
         still-open = open-later (g .still-open) (omega (arith, g .fewer, g .fields, g .holds .ok .flds-count));
       }
@@ -149,8 +153,9 @@ module _ {f l₀ l : List ℕ} {t added end at₀ n i last at : ℕ} (g : OldsGo
         record {
           holds = one′ .holds;
           still-open = one′ .still-open;
-          fields = sym (one′ .holds .ok .flds-count) ∙ ap length same ∙ g .holds .ok .flds-count ∙ g .fields;
+          fields = omega (arith, one′ .holds .ok .flds-count, ap length same, g .holds .ok .flds-count, g .fields);
           fewer = omega arith;
+          behind = ap (ownFrom t n) same ∙ g .behind;
           long = long ∙ g .long;
           inside = λ lo. one′ .inside (g .inside lo);
           says = turn ∙ rw is refl;

@@ -5,13 +5,15 @@ use mathlib.Core.List.{List, [], _∷_}
 use Prim.Native.Nat.{ℕ, _+_, _≤_, _<_}
 use native.Mathlib.Omega.{arith}
 use native.Mathlib.Numerals.{add-one}
-use lib.ListN.{length, getD, drop, drop-of-length-le}
+use lib.ListN.{length, getD, drop}
 use lib.Seq.{drop-cons}
 use borrow.Author.Tests.{eq-eqb, ne-eqb}
 use Rattle.paper.specs.Reader.{if_then_else_, Out, got, no, andThen, turned, _>>=_, give, each, times}
 use Rattle.paper.specs.Lists.{places}
 use Rattle.paper.specs.Ledger.{State, Field, noField, fieldAt, owns?, fieldsOf}
 use Rattle.paper.specs.File.{endOffset}
+use Rattle.table.specs.Answers.{Stretched}
+use Rattle.table.specs.declared.rows.Stretch.{Stretch}
 use Rattle.reader.specs.Going.{Going, goOld, goOlds}
 use Rattle.reader.specs.Fields.{oldsOf, oldGo, oldsGo}
 use Rattle.reader.specs.Runs.{turned-more}
@@ -35,13 +37,18 @@ pub olds-none : (added : ℕ) (s : State) (t : ℕ) → added ≡ 0 → oldsOf a
 unfolding oldsOf if_then_else_
 olds-none added s t none = rw (eq-eqb added 0 none)
 
+-- those that stand in a stretch of the fields are all of them
+pub own-begins : {t : ℕ} {fs : List Field} {r : Stretch} → Stretched t fs r → ownFrom t 0 fs ≡ ownFrom t (r .from) fs
+unfolding ownFrom
+own-begins s = s .before
+
+pub own-ends : {t : ℕ} {fs : List Field} {r : Stretch} → Stretched t fs r → ownFrom t (r .to) fs ≡ []
+unfolding ownFrom
+own-ends s = s .behind
+
 pub own-step : (t i : ℕ) (fs : List Field) → i < length fs → ownFrom t i fs ≡ (if owns? t (getD fs i noField) then i ∷ ownFrom t (i + 1) fs else ownFrom t (i + 1) fs)
 unfolding ownFrom places
 own-step t i fs lt = rw (add-one i, drop-cons fs i noField lt) refl
-
-pub own-none : (t i : ℕ) (fs : List Field) → length fs ≤ i → ownFrom t i fs ≡ []
-unfolding ownFrom places
-own-none t i fs le = rw (drop-of-length-le fs le)
 
 -- ── a step ──
 

@@ -19,7 +19,7 @@ known-due-spec =
     μ-loop
     (λ c. dues-skip ((c .before .before) .args .t) (c .if1 .taken))
     (λ c κs. (c .before .before .before) .pre .holds .ok)
-    (λ c. dues-begin ((c .before .before .before .before) .pre) (c .before .before .if1 .left) (c .fields .ensures))
+    (λ c. dues-begin ((c .before .before .before .before) .pre) (c .before .before .if1 .left) (c .stretch-of .ensures))
     (λ c κs. (c .before .before .loop .inv .ready, omega arith))
     (λ c. omega arith)
     (λ c. omega arith)

@@ -21,7 +21,7 @@ old-fields-spec =
     μ-loop
     (λ c. let start = c .before .before .before in olds-skip (start .pre .0) (start .pre .1) (c .if1 .taken) (start .args .end))
     (λ c κs. search needs)
-    (λ c. let start = c .before .before .before .before .before in olds-begin (start .pre .0) (start .pre .1) (c .before .before .if1 .left) (c .fields .ensures) _ _)
+    (λ c. let start = c .before .before .before .before .before in olds-begin (start .pre .0) (start .pre .1) (c .before .before .if1 .left) (c .stretch-of .ensures) _ _)
     (λ c κs. (c .before .before .loop .inv .holds, (c .before .before .loop .inv .still-open, omega arith)))
     (λ c. search needs)
     (λ c. search needs)
