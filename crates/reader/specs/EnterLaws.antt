@@ -7,12 +7,12 @@ use Prim.Native.Nat.{ℕ, zero, suc, _+_, _-_, _≤_, _<_}
 use native.Mathlib.Omega.{arith}
 use lib.ListN.{length, length-append}
 use Rattle.paper.specs.Reader.{if_then_else_}
-use Rattle.paper.specs.Lists.{given?, or}
+use Rattle.paper.specs.Lists.{same, place, given?, or}
 use Rattle.paper.specs.Ledger.{State, Head, Range, Typ, typeNamed, typeIn, text, poolBefore}
 use Rattle.paper.specs.Rules.{entered?, new?, typeOf, superOf, baseUnder, baseOf, newName, newType, newRange, afterHead}
 use Rattle.numbers.specs.declared.Cursor.{Cursor}
 use Rattle.numbers.specs.declared.Refusal.{Refusal}
-use Rattle.table.specs.View.{view, Said, said, maybe, typesOf, strsOf, Ok, Holds, rangesIn}
+use Rattle.table.specs.View.{view, Said, said, maybe, typesOf, strsOf, namesOf, Ok, Holds, rangesIn}
 use Rattle.table.specs.Adds.{addType, addRange}
 use Rattle.table.specs.Answers.{Stands, rangeIn, Small}
 use Rattle.table.specs.Packed.{rangeCells}
@@ -44,14 +44,18 @@ base-some ts t (suc u) ne = let z : suc u - 1 ≡ u = omega arith in rw z refl
 
 module _ {l : List ℕ} {x : Name} (up base : ℕ) where
   pub type-known : x .fresh ≡ false → TypeEntered x up base l l
-  type-known e = record { ranges = refl; says = λ f h. record { holds = h; says = rw e refl } }
+  type-known e = record { ranges = refl; says = λ f h none-has. record { holds = h; says = rw e refl } }
 
   pub type-new : {a b : ℕ} {l′ : List ℕ} → Declares l x → x .fresh ≡ true → Stands strsOf l (x .number - 1) a b → Pushed 1 2064 4 (a ∷ b ∷ up ∷ base ∷ []) l l′ → TypeEntered x up base l l′
-  unfolding text
+  unfolding text typeNamed
   type-new {a} {b} declares e row pushed =
       record {
         ranges = omega (arith, pushed .ranges);
-        says = λ f h. rw (e, row .is f) (pushed-type h (record { start = a; end = b; sup = up; base = base }) (declares .room e) (row .within f h) (pushed .push));
+        says = λ f h none-has.
+            rw (e, row .is f)
+            (pushed-type h (record { start = a; end = b; sup = up; base = base }) (declares .room e) (row .within f h)
+            (ap (λ (name : List ℕ). place (same name) 0 (namesOf f l)) (sym (row .is f)) ∙ none-has e)
+            (pushed .push));
       }
 
 -- ── what a head makes of all that the table says: perhaps a type, and a range ──
@@ -81,6 +85,14 @@ unknown s n e = go (typeNamed s (text s n)) e
     go none w = refl
     go (some u) w = differ (cc w)
 
+no-type : (s : State) (n : ℕ) → new? s n ≡ true → typeNamed s (text s n) ≡ none
+unfolding new? given?
+no-type s n e = go (typeNamed s (text s n)) e
+  where
+    go : (o : Option ℕ) → not (given? o) ≡ true → o ≡ none
+    go none w = refl
+    go (some u) w = differ (cc w)
+
 known-below : (s : State) (n : ℕ) → new? s n ≡ false → typeOf s n < length (s .typeNames)
 unfolding new? typeOf given? or
 known-below s n e = go (typeNamed s (text s n)) refl e
@@ -98,6 +110,9 @@ module _ {g : Said} (k : Sound g) {t : Top} (p : Placed (g .state) t) where
       go : (b : Bool) → t .name .fresh ≡ b → entered? (g .state) (t .name .typ) ≡ false
       go false e = p .name .first e
       go true e = rw (p .name .typ ∙ unknown (g .state) (t .name .number) (sym (p .name .fresh) ∙ e)) (entered-new k)
+
+  nameless : t .name .fresh ≡ true → typeNamed (g .state) (text (g .state) (t .name .number)) ≡ none
+  nameless e = no-type (g .state) (t .name .number) (sym (p .name .fresh) ∙ e)
 
   pub head-room : length (g .state .log) < 1024
   head-room = log-room k (t .name .typ) (p .name .few) not-entered
@@ -157,7 +172,7 @@ module _ {l : List ℕ} {t : Top} {base : ℕ} (isb : base ≡ baseUnder (typesO
         start-fits = omega (arith, ap (λ (x : Range). x .start) isr, e .placed .start);
         count-fits = omega (arith, ap (λ (x : Range). x .count) isr, e .placed .count);
       } in
-      (typed .says (e .names) (e .holds) .holds .ok, (omega (arith, typed .ranges, head-room (e .sound) (e .placed), e .holds .ok .log-count), small))
+      (typed .says (e .names) (e .holds) (nameless (e .sound) (e .placed)) .holds .ok, (omega (arith, typed .ranges, head-room (e .sound) (e .placed), e .holds .ok .log-count), small))
 
   module _ {f : List ℕ} (h : Holds f l) (k : Sound (said f l)) (placed : Placed (view f l) t) where
     base-is : baseOf (view f l) (headOf t) ≡ base
@@ -172,7 +187,7 @@ module _ {l : List ℕ} {t : Top} {base : ℕ} (isb : base ≡ baseUnder (typesO
     pub entered : {l′ : List ℕ} → Pushed 3 4240 3 (rangeCells r) l₁ l′ → Entered f l l′ t
     entered pushed =
         let room = range-fits (record { names = f; holds = h; sound = k; placed = placed }) in
-        let first = typed .says f h in
+        let first = typed .says f h (nameless k placed) in
         let second = pushed-range (first .holds) r (room .1 .0) (room .1 .1) (pushed .push) in
         let now : said f _ ≡ addHead (said f l) (headOf t) =
         second .says ∙ ap (λ (g : Said). addRange g (rangeIn r)) (first .says)

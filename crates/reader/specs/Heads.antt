@@ -235,9 +235,10 @@ abbrev pub addNew : Bool → Said → List ℕ → Typ → Said
 addNew true g name t = addType g name t
 addNew false g name t = g
 
+-- where a new one's name is no type's
 pub record TypeEntered (x : Name) (up base : ℕ) (l l′ : List ℕ) : Type 0 where
   pub ranges : rangesIn l′ ≡ rangesIn l
-  pub says : (f : List ℕ) → Holds f l → Now f l′ (addNew (x .fresh) (said f l) (text (view f l) (x .number)) (record { super = maybe up; base = base }))
+  pub says : (f : List ℕ) → Holds f l → (x .fresh ≡ true → typeNamed (view f l) (text (view f l) (x .number)) ≡ none) → Now f l′ (addNew (x .fresh) (said f l) (text (view f l) (x .number)) (record { super = maybe up; base = base }))
 
 -- there are bytes with which the table finds room for the head h
 pub record Enterable (l : List ℕ) (h : Top) : Type 0 where

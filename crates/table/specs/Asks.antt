@@ -5,6 +5,11 @@ use mathlib.Core.List.{List}
 use mathlib.Core.Option.{Option, none, some}
 use Rattle.paper.specs.Ledger.{Typ, Range, of?, before?, base?, holds?}
 use Rattle.paper.specs.Rules.{entryOf?, around?}
+use mathlib.Core.Path.{_≡_}
+use lib.Seq.{slice}
+use Rattle.paper.specs.Lists.{same, place}
+use Rattle.table.specs.View.{namesOf, Holds}
+use Rattle.table.specs.declared.rows.Span.{Span}
 use Rattle.table.specs.declared.names.Found.{Found}
 use Rattle.table.specs.declared.names.Found.the-variants.{At, Nothing}
 use Rattle.table.specs.declared.ranges.Ask.{Ask}
@@ -13,6 +18,14 @@ use Rattle.table.specs.declared.ranges.Ask.the-variants.{Of, Entry, Befo
 abbrev pub found : Found → Option ℕ
 found (At i) = some i
 found Nothing = none
+
+-- type i has the name that stands at this place, in whatever source the table is read over
+pub record Standing (l : List ℕ) (name : Span) (i : ℕ) : Type 0 where
+  pub is : (f : List ℕ) → Holds f l → some i ≡ place (same (slice (name .start) (name .end) f)) 0 (namesOf f l)
+
+abbrev pub Spotted : List ℕ → Span → Found → Type 0
+Spotted l name (At i) = Standing l name i
+Spotted l name Nothing = Unit {0}
 
 -- the ranges that a question is about
 abbrev pub asks : List Typ → Ask → Range → Bool

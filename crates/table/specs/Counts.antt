@@ -12,10 +12,11 @@ use Rattle.paper.specs.Rules.{closed}
 use Rattle.table.specs.Segs.{tab, cells, seg}
 use Rattle.table.specs.RowLaws.{same-or-not, length-tab, tab-cong, cells-cong, cells-sets, sets-other, seg-none}
 use Rattle.table.specs.Layout.{width, most, starts, head-le}
-use Rattle.table.specs.View.{textOf, typOf, fldOf, rangeOf, dueOf, spotOf, strsOf, namesOf, typesOf, titlesOf, fldsOf, logOf, duesOf, chunksOf, said, tally, Telling, Owning, Ok, Within, Holds, Said, Now}
+use Rattle.table.specs.View.{textOf, typOf, fldOf, rangeOf, dueOf, spotOf, strsOf, namesOf, typesOf, titlesOf, fldsOf, logOf, duesOf, chunksOf, said, tally, Telling, Owning, Ok, Within, Holds, Said, Now, Apart}
 use Rattle.table.specs.Told.{Told, Owned}
 use Rattle.table.specs.ToldLaws.{told-none}
 use Rattle.table.specs.OwnedLaws.{owned-none}
+use Rattle.table.specs.ApartLaws.{apart-none, apart-cut}
 use Rattle.table.specs.ViewLaws.{Fits, In, ok-of, holds-of, holds-in}
 use Rattle.table.specs.declared.rows.Counts.{Counts}
 
@@ -160,7 +161,8 @@ module _ (n : Counts) {b : ℕ} {l l′ : List ℕ} (r : Recounted n b l l′) (
         holds = holds-of ok-cut (h .small)
             (in-cut r 0 (omega arith) f (holds-in h 0 (omega arith)))
             (in-cut r 1 (omega arith) f (holds-in h 1 (omega arith)))
-            (in-cut r 2 (omega arith) f (holds-in h 2 (omega arith)));
+            (in-cut r 2 (omega arith) f (holds-in h 2 (omega arith)))
+            (subst Apart (sym (seg-cut r 1 (omega arith) (textOf f) (r .types))) (apart-cut (n .types) (namesOf f l) (h .names-apart)));
         says = λ i. record {
           state = record {
             strings = seg-cut r 0 (omega arith) (textOf f) (r .strings) i;
@@ -240,7 +242,7 @@ begun-of {l} {l′} long zeros r =
     record {
       ok = fine;
       says = λ f small. record {
-        holds = holds-of fine small (record { row = λ i lt. absurd (omega arith) }) (record { row = λ i lt. absurd (omega arith) }) (record { row = λ i lt. absurd (omega arith) });
+        holds = holds-of fine small (record { row = λ i lt. absurd (omega arith) }) (record { row = λ i lt. absurd (omega arith) }) (record { row = λ i lt. absurd (omega arith) }) (subst Apart (sym (seg-none (textOf f) 1 2064 4 l′ (r .types))) apart-none);
         says = λ i. record {
           state = record {
             strings = seg-none (textOf f) 0 16 2 l′ (r .strings) i;

@@ -9,6 +9,7 @@ pub mod Layout
 pub mod Adds
 pub mod Answers
 pub mod Packed
+pub mod ApartLaws
 pub mod ViewLaws
 pub mod Below
 pub mod Pushes

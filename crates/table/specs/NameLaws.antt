@@ -1,5 +1,6 @@
 -- A name held against a part of the bytes, from the front. Assumes nothing.
-use mathlib.Core.Path.{_≡_, refl, sym, ap, ap₂, _∙_}
+use mathlib.Core.Path.{_≡_, refl, sym, ap, ap₂, _∙_, subst}
+use mathlib.Core.Option.{some}
 use mathlib.Core.Bool.{true, false, and-false}
 use mathlib.Core.Logic.{⊎-elim}
 use mathlib.Core.List.{List, [], _∷_}
@@ -11,8 +12,14 @@ use lib.Dec.{eqb}
 use lib.ListN.{length, getD, take, drop, drop-of-length-le}
 use lib.Seq.{slice, slice-cons, length-slice, length-take-le, take-nil, drop-cons}
 use borrow.Author.Tests.{eq-eqb, ne-eqb}
-use Rattle.paper.specs.Lists.{same}
+use Rattle.paper.specs.Lists.{same, place}
 use Rattle.table.specs.RowLaws.{lt-or-ge}
+use Rattle.table.specs.View.{namesOf, Holds}
+use Rattle.table.specs.Answers.{Stands}
+use Rattle.table.specs.Asks.{Standing, Spotted}
+use Rattle.table.specs.declared.rows.Span.{Span}
+use Rattle.table.specs.declared.names.Found.{Found}
+use Rattle.table.specs.declared.names.Found.the-variants.{At}
 
 -- lists of different lengths are not the same
 pub lengths-differ : (xs ys : List ℕ) → (length xs ≡ length ys → ⊥) → same xs ys ≡ false
@@ -67,3 +74,14 @@ part-of s e n f is in-f =
     (λ (lt : s < e). let back : e - n ≡ s = omega arith in ap (λ (k : ℕ). slice k e f) back)
     (λ (ge : e ≤ s). over f e in-f (e - n) (omega arith) ∙ sym (over f e in-f s ge))
     (lt-or-ge s e)
+
+-- a type by the place where its name stands: no other has that name
+pub standing : {l : List ℕ} {i a b : ℕ} {name : Span} → i < getD l 1 0 → Stands namesOf l i a b → a ≡ name .start → b ≡ name .end → Standing l name i
+standing {l} {i} {a} {b} {name} lt row p q =
+    record {
+      is = λ f h.
+          sym (ap (λ (x : List ℕ). place (same x) 0 (namesOf f l)) (sym (row .is f ∙ rw (p, q) refl)) ∙ h .names-apart .first i (omega (arith, h .names-count)));
+    }
+
+pub spotted : {f l : List ℕ} (name : Span) → Holds f l → {r : Found} {i : ℕ} → Spotted l name r → r ≡ At i → some i ≡ place (same (slice (name .start) (name .end) f)) 0 (namesOf f l)
+spotted {f} {l} name h s e = subst (Spotted l name) e s .is f h

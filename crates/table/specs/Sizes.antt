@@ -12,7 +12,7 @@ use Rattle.paper.specs.Ledger.{Due, Typ, Field, Range}
 use Rattle.table.specs.Segs.{cells, seg}
 use Rattle.table.specs.RowLaws.{lt-or-ge, same-or-not, cells-cong, cells-sets, sets-other, seg-at, seg-kept, each-kept}
 use Rattle.table.specs.Layout.{width, most, starts, kinds-apart}
-use Rattle.table.specs.View.{wide, textOf, typOf, fldOf, rangeOf, dueOf, spotOf, strsOf, namesOf, typesOf, titlesOf, fldsOf, logOf, duesOf, chunksOf, view, tally, Telling, Owning, Ok, Within, Holds, Now}
+use Rattle.table.specs.View.{wide, textOf, typOf, fldOf, rangeOf, dueOf, spotOf, strsOf, namesOf, typesOf, titlesOf, fldsOf, logOf, duesOf, chunksOf, view, tally, Telling, Owning, Ok, Within, Holds, Now, Apart}
 use Rattle.table.specs.ViewLaws.{count-dues, Fits, ok-fits, ok-of, In, holds-of, holds-in}
 use Rattle.table.specs.RowReads.{due-row}
 use Rattle.table.specs.Told.{Told, Owned}
@@ -133,7 +133,8 @@ module _ (i size : ℕ) {l l′ : List ℕ} (ok : Ok l) (lt : i < getD l 4 0) (i
           holds = holds-of ok-kept (h .small)
               (in-kept f 0 (omega arith) (holds-in h 0 (omega arith)))
               (in-kept f 1 (omega arith) (holds-in h 1 (omega arith)))
-              (in-kept f 2 (omega arith) (holds-in h 2 (omega arith)));
+              (in-kept f 2 (omega arith) (holds-in h 2 (omega arith)))
+              (subst Apart (sym (kept (textOf f) 1 (omega arith) (omega arith))) (h .names-apart));
           says = λ j. record {
             state = record {
               strings = kept (textOf f) 0 (omega arith) (omega arith) j;

@@ -12,6 +12,7 @@ use Rattle.paper.specs.Reader.{if_then_else_}
 use Rattle.paper.specs.Numbers.{signed, putFixed}
 use Rattle.paper.specs.Ledger.{Kind, constant, plain, array, many, mapping, Typ, Field, Range, Due, State}
 use Rattle.paper.specs.Places.{Spot}
+use Rattle.paper.specs.Lists.{same, place}
 use Rattle.table.specs.Segs.{seg, Each}
 use Rattle.table.specs.Told.{Told, Owned}
 
@@ -180,6 +181,10 @@ pub record Ok (l : List ℕ) : Type 0 where
 abbrev pub Within : List ℕ → List ℕ → Type 0
 Within f r = getD r 1 0 ≤ length f
 
+-- no name occurs twice: each is first found where it stands
+pub record Apart (names : List (List ℕ)) : Type 0 where
+  pub first : (i : ℕ) → i < length names → place (same (getD names i [])) 0 names ≡ some i
+
 -- of the table with the bytes, of which there are so few that a cell holds a place
 pub record Holds (f l : List ℕ) : Type 0 where
   pub ok : Ok l
@@ -187,6 +192,7 @@ pub record Holds (f l : List ℕ) : Type 0 where
   pub strs-in : Each (Within f) 0 16 2 l
   pub names-in : Each (Within f) 1 2064 4 l
   pub titles-in : Each (Within f) 2 2192 16 l
+  pub names-apart : Apart (namesOf f l)
   pub strs-count : length (strsOf f l) ≡ getD l 0 0
   pub names-count : length (namesOf f l) ≡ getD l 1 0
   pub titles-count : length (titlesOf f l) ≡ getD l 2 0

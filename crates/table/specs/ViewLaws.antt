@@ -6,18 +6,21 @@ use Prim.Native.Nat.{ℕ, zero, suc, _≤_, _<_}
 use native.Mathlib.Omega.{arith}
 use lib.ListN.{length, getD}
 use lib.Seq.{slice}
+use mathlib.Core.Option.{none}
 use Rattle.paper.specs.Ledger.{Field, Range, Due}
+use Rattle.paper.specs.Lists.{same, place}
 use Rattle.paper.specs.Places.{Spot}
 use Rattle.table.specs.Segs.{seg, Each, Laid}
 use Rattle.table.specs.Rows.{Push}
 use Rattle.table.specs.RowLaws.{same-or-not, length-tab, push-other, push-long, push-count, push-mine, push-kept, push-each, push-each-kept}
 use Rattle.table.specs.Layout.{width, most, starts, head-le, kinds-apart, kind-fits}
-use Rattle.table.specs.View.{textOf, typOf, fldOf, rangeOf, dueOf, spotOf, strsOf, namesOf, typesOf, titlesOf, fldsOf, logOf, duesOf, chunksOf, said, Telling, Owning, Ok, Within, Holds, Now}
+use Rattle.table.specs.View.{textOf, typOf, fldOf, rangeOf, dueOf, spotOf, strsOf, namesOf, typesOf, titlesOf, fldsOf, logOf, duesOf, chunksOf, said, Telling, Owning, Ok, Within, Holds, Now, Apart}
 use Rattle.table.specs.Answers.{typIn, fieldIn, rangeIn, Small}
 use Rattle.table.specs.Packed.{typeCells, fieldCells, rangeCells, dueCells, chunkCells, field-cells, range-cells, due-cells, chunk-cells}
 use Rattle.table.specs.declared.rows.TypeRow.{TypeRow}
 use Rattle.table.specs.declared.rows.FieldRow.{FieldRow}
 use Rattle.table.specs.declared.rows.RangeRow.{RangeRow}
+use Rattle.table.specs.ApartLaws.{apart-more}
 use Rattle.table.specs.Adds.{addString, addType, addField, addRange, addDue, addChunk}
 
 -- ── what every table keeps, from what it must ──
@@ -94,15 +97,16 @@ ok-of {l} long fits telling owning =
 abbrev pub In : List ℕ → List ℕ → ℕ → Type 0
 In f l k = Each (Within f) k (starts k) (width k) l
 
-pub holds-of : {f l : List ℕ} → Ok l → length f < 4294967296 → In f l 0 → In f l 1 → In f l 2 → Holds f l
+pub holds-of : {f l : List ℕ} → Ok l → length f < 4294967296 → In f l 0 → In f l 1 → In f l 2 → Apart (namesOf f l) → Holds f l
 unfolding starts width most
-holds-of {f} {l} ok small a b d =
+holds-of {f} {l} ok small a b d apart =
     record {
       ok = ok;
       small = small;
       strs-in = a;
       names-in = b;
       titles-in = d;
+      names-apart = apart;
       strs-count = count-strs f l;
       names-count = count-names f l;
       titles-count = count-titles f l;
@@ -168,12 +172,25 @@ module _ {c : ℕ} {vs l l′ : List ℕ} (p : Laid c (starts c) (width c) vs l 
         block = push-other p 6 (omega arith) (omega arith) (omega arith) (λ r. omega (arith, head-le c));
       }
 
-  pub holds-after : {f : List ℕ} → Holds f l → Ok l′ → (c < 3 → Within f vs) → Holds f l′
-  holds-after {f} h ok′ new =
+  apart-after : (f : List ℕ) → (1 ≡ c → place (same (textOf f vs)) 0 (namesOf f l) ≡ none) → Apart (namesOf f l) → Apart (namesOf f l′)
+  unfolding starts width most namesOf
+  apart-after f new a =
+      ⊎-elim
+      (λ (e : 1 ≡ c). subst Apart (sym (more e)) (apart-more (namesOf f l) (textOf f vs) a (new e)))
+      (λ (ne : 1 ≢ c). subst Apart (sym (others f .typeNames ne)) a)
+      (same-or-not 1 c)
+    where
+      more : 1 ≡ c → namesOf f l′ ≡ namesOf f l ++ textOf f vs ∷ []
+      more e = push-mine (subst (λ (j : ℕ). Laid j (starts j) (width j) vs l l′) (sym e) p) (textOf f)
+
+  -- a name lies within the bytes, and a type's is not one that a type has
+  pub holds-after : {f : List ℕ} → Holds f l → Ok l′ → (c < 3 → Within f vs) → (1 ≡ c → place (same (textOf f vs)) 0 (namesOf f l) ≡ none) → Holds f l′
+  holds-after {f} h ok′ new fresh =
       holds-of ok′ (h .small)
       (in-after f 0 (omega arith) (λ e. new (omega arith)) (holds-in h 0 (omega arith)))
       (in-after f 1 (omega arith) (λ e. new (omega arith)) (holds-in h 1 (omega arith)))
       (in-after f 2 (omega arith) (λ e. new (omega arith)) (holds-in h 2 (omega arith)))
+      (apart-after f fresh (h .names-apart))
 
 module _ {f l l′ : List ℕ} (h : Holds f l) where
   pub pushed-string : {a b : ℕ} → getD l 0 0 < 1024 → b ≤ length f → Push 0 16 2 (a ∷ b ∷ []) l l′ → Now f l′ (addString (said f l) (slice a b f))
@@ -181,7 +198,7 @@ module _ {f l l′ : List ℕ} (h : Holds f l) where
   pushed-string room within p =
       let other = others {c = 0} (p .laid) (h .ok) (omega arith) room f in
       record {
-        holds = holds-after {c = 0} (p .laid) (h .ok) (omega arith) room h (p .ok) (λ lt. within);
+        holds = holds-after {c = 0} (p .laid) (h .ok) (omega arith) room h (p .ok) (λ lt. within) (λ e. absurd (omega arith));
         says = λ i. record {
           state = record {
             strings = push-mine (p .laid) (textOf f) i;
@@ -197,12 +214,12 @@ module _ {f l l′ : List ℕ} (h : Holds f l) where
         };
       }
 
-  pub pushed-type : (r : TypeRow) → getD l 1 0 < 32 → r .end ≤ length f → Push 1 2064 4 (typeCells r) l l′ → Now f l′ (addType (said f l) (slice (r .start) (r .end) f) (typIn r))
+  pub pushed-type : (r : TypeRow) → getD l 1 0 < 32 → r .end ≤ length f → place (same (slice (r .start) (r .end) f)) 0 (namesOf f l) ≡ none → Push 1 2064 4 (typeCells r) l l′ → Now f l′ (addType (said f l) (slice (r .start) (r .end) f) (typIn r))
   unfolding starts width most strsOf namesOf typesOf titlesOf fldsOf logOf duesOf chunksOf addType
-  pushed-type r room within p =
+  pushed-type r room within fresh p =
       let other = others {c = 1} (p .laid) (h .ok) (omega arith) room f in
       record {
-        holds = holds-after {c = 1} (p .laid) (h .ok) (omega arith) room h (p .ok) (λ lt. within);
+        holds = holds-after {c = 1} (p .laid) (h .ok) (omega arith) room h (p .ok) (λ lt. within) (λ e. fresh);
         says = λ i. record {
           state = record {
             strings = other .strings (omega arith) i;
@@ -224,7 +241,7 @@ module _ {f l l′ : List ℕ} (h : Holds f l) where
       let other = others {c = 2} (p .laid) (h .ok) (omega arith) room f in
       let mine = push-mine (p .laid) fldOf ∙ ap (λ (d : Field). fldsOf l ++ d ∷ []) (field-cells r) in
       record {
-        holds = holds-after {c = 2} (p .laid) (h .ok) (omega arith) room h (p .ok) (λ lt. within);
+        holds = holds-after {c = 2} (p .laid) (h .ok) (omega arith) room h (p .ok) (λ lt. within) (λ e. absurd (omega arith));
         says = λ i. record {
           state = record {
             strings = other .strings (omega arith) i;
@@ -246,7 +263,7 @@ module _ {f l l′ : List ℕ} (h : Holds f l) where
       let other = others {c = 3} (p .laid) (h .ok) (omega arith) room f in
       let mine = push-mine (p .laid) rangeOf ∙ ap (λ (d : Range). logOf l ++ d ∷ []) (range-cells r small) in
       record {
-        holds = holds-after {c = 3} (p .laid) (h .ok) (omega arith) room h (p .ok) (λ lt. absurd (omega arith));
+        holds = holds-after {c = 3} (p .laid) (h .ok) (omega arith) room h (p .ok) (λ lt. absurd (omega arith)) (λ e. absurd (omega arith));
         says = λ i. record {
           state = record {
             strings = other .strings (omega arith) i;
@@ -268,7 +285,7 @@ module _ {f l l′ : List ℕ} (h : Holds f l) where
       let other = others {c = 4} (p .laid) (h .ok) (omega arith) room f in
       let mine = push-mine (p .laid) dueOf ∙ ap (λ (d : Due × ℕ). duesOf l ++ d ∷ []) (due-cells field values size) in
       record {
-        holds = holds-after {c = 4} (p .laid) (h .ok) (omega arith) room h (p .ok) (λ lt. absurd (omega arith));
+        holds = holds-after {c = 4} (p .laid) (h .ok) (omega arith) room h (p .ok) (λ lt. absurd (omega arith)) (λ e. absurd (omega arith));
         says = λ i. record {
           state = record {
             strings = other .strings (omega arith) i;
@@ -290,7 +307,7 @@ module _ {f l l′ : List ℕ} (h : Holds f l) where
       let other = others {c = 5} (p .laid) (h .ok) (omega arith) room f in
       let mine = push-mine (p .laid) spotOf ∙ ap (λ (d : Spot). chunksOf l ++ d ∷ []) (chunk-cells field start end small) in
       record {
-        holds = holds-after {c = 5} (p .laid) (h .ok) (omega arith) room h (p .ok) (λ lt. absurd (omega arith));
+        holds = holds-after {c = 5} (p .laid) (h .ok) (omega arith) room h (p .ok) (λ lt. absurd (omega arith)) (λ e. absurd (omega arith));
         says = λ i. record {
           state = record {
             strings = other .strings (omega arith) i;

@@ -1,5 +1,6 @@
 // Types and fields by their names. A name is lent, or is itself a part of the source.
 ghost use mathlib.Core.Path.{_≡_};
+ghost use mathlib.Core.Bool.{true};
 ghost use Prim.Native.Nat.{_-_, _≤_};
 ghost use lib.ListN.{length};
 ghost use lib.Seq.{slice};
@@ -7,15 +8,17 @@ ghost use Rattle.paper.specs.Lists.{same, place, placeNamed, places};
 ghost use Rattle.paper.specs.Ledger.{owns?, called?};
 ghost use Rattle.table.specs.View.{namesOf, titlesOf, fldsOf, Ok, Holds};
 ghost use Rattle.table.specs.Answers.{fieldIn, Stretched};
-ghost use Rattle.table.specs.Asks.{found};
+ghost use Rattle.table.specs.Asks.{found, Standing, Spotted};
+use super::ranges::tally_at;
+use super::ranges::told;
 use super::rows::FieldRow;
 use super::rows::Span;
 use super::rows::Stretch;
 use super::rows::field_at;
 use super::rows::fields;
+use super::rows::range_at;
+use super::rows::ranges;
 use super::rows::type_at;
-use super::ranges::tally_at;
-use super::ranges::told;
 use super::rows::types;
 
 // A place among the types or the fields.
@@ -69,12 +72,63 @@ pub fn find_type_called(src: &[u8], work: &[u32], name: &[u8]) -> Found
     Found::Nothing
 }
 
+// Whether the name of type i stands at this place. No name occurs twice, so no other type has it, and no byte is read.
+fn stands_at(work: &[u32], i: u32, name: Span) -> bool
+    requires { ⌜ Ok (now work) ⌝ }
+    ensures { λ r. ⌜ (r ≡ true → Standing (now (work .entry)) name i) ⌝ }
+{
+    if types(work) <= i {
+        return false;
+    }
+    let row = type_at(work, i);
+    row.start == name.start && row.end == name.end
+}
+
+// The type behind the one that was entered last. Entries mostly come in the order of the block before.
+fn likely_type(work: &[u32]) -> u32
+    requires { ⌜ Ok (now work) ⌝ }
+{
+    let n = ranges(work);
+    if n == 0 {
+        return 0;
+    }
+    let last = range_at(work, n - 1);
+    let t = last.typ + 1;
+    if t < types(work) {
+        return t;
+    }
+    0
+}
+
+// The type whose name stands at this place, if there is one.
+fn find_place(work: &[u32], name: Span) -> Found
+    requires { ⌜ Ok (now work) ⌝ }
+    ensures { λ r. ⌜ Spotted (now (work .entry)) name r ⌝ }
+{
+    let likely = likely_type(work);
+    if stands_at(work, likely, name) {
+        return Found::At(likely);
+    }
+    let n = types(work);
+    let mut i = 0;
+    while i < n {
+        if stands_at(work, i, name) {
+            return Found::At(i);
+        }
+        i += 1;
+    }
+    Found::Nothing
+}
+
 // The type whose name has the bytes of a part of the source.
 pub fn find_type(src: &[u8], work: &[u32], name: Span) -> Found
     requires { ⌜ Holds (now src) (now work) ⌝ }
     requires { ⌜ name .end ≤ length (now src) ⌝ }
     ensures { λ r. ⌜ found r ≡ place (same (slice (name .start) (name .end) (now (src .entry)))) 0 (namesOf (now (src .entry)) (now (work .entry))) ⌝ }
 {
+    if let Found::At(i) = find_place(work, name) {
+        return Found::At(i);
+    }
     let to = name.end as usize;
     let from = to - length_of(name.start, name.end);
     find_type_called(src, work, &src[from..to])
