@@ -23,9 +23,12 @@ use Rattle.numbers.specs.declared.Number.the-variants.{Got, No}
 use Rattle.values.specs.Pass.{forget, Passed, Alike, alike-then, alike-repeat, alike-bind, alike-flat, alike-nothing}
 use Rattle.values.specs.Items.{item, Known, alike-item, Checked}
 
--- an array that gives its own length
-unfoldable pub listOf : ℕ → List ℕ → List ℕ → List ℕ → ℕ → Reader (List ℕ)
-listOf strings pools first last e = small >>= λ n. repeat n (item strings pools first last e)
+-- an array that gives its own length, of elements that q reads
+unfoldable pub counted : Reader ℕ → Reader (List ℕ)
+counted q = small >>= λ n. repeat n q
+
+abbrev pub listOf : ℕ → List ℕ → List ℕ → List ℕ → ℕ → Reader (List ℕ)
+listOf strings pools first last e = counted (item strings pools first last e)
 
 -- the numbers of a kind: only a constant has no element kind, an array's length is held to the bound, and a map has so many
 -- element kinds
@@ -97,7 +100,7 @@ module _ {n k a e strings : ℕ} {pools first last f : List ℕ} {r : Number} wh
         (λ s K. rw (kind-plain k a e h x y z) (rw mul-one at (alike-run n 1 f K listed)))
 
     pub chunk-lists : 17 ≤ k → k ≤ 19 → Passed (repeat n (listOf strings pools first last e)) f 0 r → ChunkChecked n k a e strings pools first last f r
-    unfolding value listOf
+    unfolding value counted
     chunk-lists h l P =
         chunk-by (repeat n (small >>= λ m. repeat m (item strings pools first last e))) P
         (λ s K. rw (kind-many k a e h l) (alike-repeat (alike-bind small (λ m. alike-repeat (alike-item K listed) m)) n))
@@ -109,17 +112,19 @@ constants-read n k a e s f h = rw (value-constant k a e s h) (alike-nothing [] n
 
 -- ── an array that gives its own length ──
 
-module _ (strings : ℕ) (pools first last : List ℕ) (e : ℕ) {f : List ℕ} {at : ℕ} {a : Number} (R : Read small 65536 f at a) where
-  pub list-cut : {u : Refusal} → a ≡ No u → Passed (listOf strings pools first last e) f at a
-  unfolding listOf _>>=_ forget
-  list-cut {u} is =
+module _ (q : Reader ℕ) {f : List ℕ} {at : ℕ} {a : Number} (R : Read small 65536 f at a) where
+  pub counted-cut : {u : Refusal} → a ≡ No u → Passed (counted q) f at a
+  unfolding counted _>>=_ forget
+  counted-cut {u} is =
       let W = was-refused R is in
       rw is (record { says = sym (rw (W .says)); inside = W .inside })
 
-  pub list-then :
-      {n : ℕ} {c : Cursor} {b : Number} → a ≡ Got n c → Checked n e strings pools first last f (c .at) b
-      → Passed (listOf strings pools first last e) f at b
-  unfolding listOf _>>=_
-  list-then is C =
+  pub counted-then : {n : ℕ} {c : Cursor} {b : Number} → a ≡ Got n c → Passed (repeat n q) f (c .at) b → Passed (counted q) f at b
+  unfolding counted _>>=_
+  counted-then is P =
       let W = was-got R is in
-      record { says = C .passes .says ∙ sym (rw (W .says)); inside = λ h. C .passes .inside (W .inside h) }
+      record { says = P .says ∙ sym (rw (W .says)); inside = λ h. P .inside (W .inside h) }
+
+-- arrays of the kind that code chose a reader for
+pub lists-by : (n : ℕ) {q p : Reader ℕ} {f : List ℕ} {r : Number} → p ≡ q → Passed (repeat n (counted q)) f 0 r → Passed (repeat n (counted p)) f 0 r
+lists-by n is P = rw is P

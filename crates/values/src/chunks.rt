@@ -4,11 +4,12 @@ ghost use mathlib.Core.Bool.{true};
 ghost use Prim.Native.Nat.{_<_, _≤_};
 ghost use lib.ListN.{length};
 ghost use Rattle.paper.specs.Reader.{repeat};
+ghost use Rattle.paper.specs.Numbers.{fixed, v64};
 ghost use Rattle.paper.specs.Rules.{elementKind?};
 ghost use Rattle.values.specs.Pass.{Passed};
 ghost use Rattle.values.specs.Listed.{Fixed, widthOf};
-ghost use Rattle.values.specs.Items.{Checked};
-ghost use Rattle.values.specs.Chunks.{listOf, Kinds, ChunkChecked};
+ghost use Rattle.values.specs.Items.{Checked, linked, atMost};
+ghost use Rattle.values.specs.Chunks.{counted, listOf, Kinds, ChunkChecked};
 use crate::annotations::annotations;
 use crate::references::references;
 use crate::runs::bools;
@@ -79,7 +80,7 @@ fn list(
     elements(part, next, n, e, strings, pools, first, last)
 }
 
-// n such arrays, from the chunk's start on.
+// n such arrays of any kind, from the chunk's start on.
 fn lists(
     part: &[u8],
     n: u64,
@@ -103,6 +104,91 @@ fn lists(
         rest -= 1;
     }
     Number::Got(0, here)
+}
+
+// n arrays of numbers of a fixed width, from the chunk's start on: none of their elements needs a look.
+fn fixed_lists(part: &[u8], n: u64, width: u64) -> Number
+    requires { ⌜ 0 < width ⌝ }
+    ensures { λ r. ⌜ Passed (repeat n (counted (fixed width))) (now (part .entry)) 0 r ⌝ }
+{
+    let mut here = Cursor { at: 0 };
+    let mut rest = n;
+    while 0 < rest {
+        let length = here.small(part);
+        let Number::Got(m, begin) = length else {
+            return length;
+        };
+        let a = fixed_widths(part, begin, m, width);
+        let Number::Got(_, next) = a else {
+            return a;
+        };
+        here = next;
+        rest -= 1;
+    }
+    Number::Got(0, here)
+}
+
+// n arrays of v64 numbers.
+fn v64_lists(part: &[u8], n: u64) -> Number
+    ensures { λ r. ⌜ Passed (repeat n (counted v64)) (now (part .entry)) 0 r ⌝ }
+{
+    let mut here = Cursor { at: 0 };
+    let mut rest = n;
+    while 0 < rest {
+        let length = here.small(part);
+        let Number::Got(m, begin) = length else {
+            return length;
+        };
+        let a = v64s(part, begin, m);
+        let Number::Got(_, next) = a else {
+            return a;
+        };
+        here = next;
+        rest -= 1;
+    }
+    Number::Got(0, here)
+}
+
+// n arrays of numbers of strings.
+fn string_lists(part: &[u8], n: u64, strings: u64) -> Number
+    ensures { λ r. ⌜ Passed (repeat n (counted (linked (atMost strings)))) (now (part .entry)) 0 r ⌝ }
+{
+    let mut here = Cursor { at: 0 };
+    let mut rest = n;
+    while 0 < rest {
+        let length = here.small(part);
+        let Number::Got(m, begin) = length else {
+            return length;
+        };
+        let a = string_numbers(part, begin, m, strings);
+        let Number::Got(_, next) = a else {
+            return a;
+        };
+        here = next;
+        rest -= 1;
+    }
+    Number::Got(0, here)
+}
+
+// n arrays that give their own lengths. The elements' kind is asked once, and not for each array: most have few elements.
+fn lists_of(
+    part: &[u8],
+    n: u64,
+    e: u64,
+    strings: u64,
+    pools: &[u32],
+    first: &[u32],
+    last: &[u32],
+) -> Number
+    requires { ⌜ (elementKind? e ≡ true) × (length (now first) ≡ length (now last)) ⌝ }
+    ensures { λ r. ⌜ Passed (repeat n (listOf strings (now (pools .entry)) (now (first .entry)) (now (last .entry)) e)) (now (part .entry)) 0 r ⌝ }
+{
+    match e {
+        7..=10 | 12..=13 => fixed_lists(part, n, width(e)),
+        11 => v64_lists(part, n),
+        14 => string_lists(part, n, strings),
+        _ => lists(part, n, e, strings, pools, first, last),
+    }
 }
 
 // The n values of a chunk, whose kind has the first number k, an array's length a, and the last number e: the cursor behind them,
@@ -129,7 +215,7 @@ pub fn chunk_values(
             let all = values * a;
             elements(part, start, all, e, strings, pools, first, last)
         }
-        17..=19 => lists(part, values, e, strings, pools, first, last),
+        17..=19 => lists_of(part, values, e, strings, pools, first, last),
         _ => elements(part, start, values, e, strings, pools, first, last),
     }
 }

@@ -14,5 +14,5 @@ chunk-values-spec =
     (λ c κs. ((c .before .before .before .before .before .before .before .pre .0 .element (c .before .before .before .before .before .before .before .pre .1) (c .before .before .before .before .before .before .before .pre .2)), c .before .before .before .before .before .before .before .pre .3))
     (λ c κs. ((c .before .before .before .before .before .before .pre .0 .element (c .before .before .before .before .before .before .pre .1) (c .before .before .before .before .before .before .pre .2)), omega arith, c .before .before .before .before .before .before .pre .3))
     (λ c. chunk-array (c .before .before .before .before .before .before .pre .0 .element (c .before .before .before .before .before .before .pre .1) (c .before .before .before .before .before .before .pre .2)) (c .before .match .keys1) (c .elements .ensures))
-    (λ c. chunk-lists (c .before .before .before .before .before .before .before .before .pre .0 .element (c .before .before .before .before .before .before .before .before .pre .1) (c .before .before .before .before .before .before .before .before .pre .2)) (omega arith) (omega arith) (c .lists .ensures))
+    (λ c. chunk-lists (c .before .before .before .before .before .before .before .before .pre .0 .element (c .before .before .before .before .before .before .before .before .pre .1) (c .before .before .before .before .before .before .before .before .pre .2)) (omega arith) (omega arith) (c .lists-of .ensures))
     (λ c. chunk-plain (c .before .before .before .before .before .before .before .pre .0 .element (c .before .before .before .before .before .before .before .pre .1) (c .before .before .before .before .before .before .before .pre .2)) (c .before .before .before .before .before .before .before .pre .1) (c .before .before .match .rest .1) (λ h. ⊎-elim (λ w. omega arith) (λ w. w .1 .left) (c .before .if1 .came)) (c .before .before .before .before .before .before .before .pre .2) (c .elements2 .ensures)))
