@@ -155,8 +155,10 @@ impl Picture {
             self.words(x + 11.0, y, INK, "", name);
         }
         self.tick(296.0, y - 4.0);
-        let limit = "the limit: a copy of the file, or of what is written, at the whole size";
+        let limit = "the limit: a copy of the file, or of what is written, whole";
         self.words(303.0, y, INK, "", limit);
+        self.arrow(672.0, y - 4.0);
+        self.words(686.0, y, INK, "", "the limit is further left");
     }
 
     fn axis(&mut self, axis: &Axis, bottom: f64) {
@@ -243,11 +245,14 @@ impl Picture {
 
     /// A tick, or a head of an arrow where the limit is beyond the axis.
     fn limit(&mut self, x: f64, y: f64) {
-        if x >= LEFT {
-            return self.tick(x, y);
+        match x {
+            LEFT.. => self.tick(x, y),
+            _ => self.arrow(LEFT + 2.0, y),
         }
-        let (left, right) = (LEFT + 2.0, LEFT + 9.0);
-        let (top, bottom) = (y - 5.0, y + 5.0);
+    }
+
+    fn arrow(&mut self, left: f64, y: f64) {
+        let (right, top, bottom) = (left + 7.0, y - 5.0, y + 5.0);
         self.add(format!(
             "<path d=\"M{left} {y}L{right} {top}V{bottom}Z\" fill=\"{LIMIT}\"/>"
         ));

@@ -1,6 +1,7 @@
 //! The proved reader against the second program: the same files, one run, the median of several repetitions, each program
 //! in turn, so that both see the same machine, and in time of the processor, so that other work on it does not count.
-//! `rt staticlib capi` first. It prints a table; `--draw FILE` draws it as well, as an SVG. Words on the command line choose the rows whose names begin with one of them, as `'check v64'` or
+//! `rt staticlib capi` first. It prints a table; `--draw FILE` draws it as well, as an SVG, and `--figures FILE` puts its
+//! ratios into a page. Words on the command line choose the rows whose names begin with one of them, as `'check v64'` or
 //! `'column of'`, and REPETITIONS in the environment says how many there are at most, for a slow machine.
 //!
 //! What is compared: both are asked by the same calls, read the whole file, and leave the lent table cleared. The second
@@ -16,13 +17,15 @@
 //! the cost is that of an entry. Values of mixed lengths, one to nine bytes, stand in their shortest coding and, in a file
 //! of its own, in nine bytes each, as a controller writes them that fills its numbers in afterwards.
 //!
-//! The limit is a plain copy: of the file where a call only reads, of what is written where it writes. No reader is below
-//! it for long, since each byte has to be looked at or put down once.
+//! The limit is a plain copy: of the file where a call only reads, of what is written where it writes. A column can be
+//! below it where its values take fewer bytes in the file than the eight that each has in memory: a copy reads as much as
+//! it writes.
 
 mod calls;
 mod clock;
 mod drawing;
 mod machine;
+mod page;
 #[path = "../../../compare/src/proved.rs"]
 mod proved;
 mod rows;
@@ -40,6 +43,8 @@ use timing::Timer;
 struct Wish {
     /// Where to draw the table.
     draw: Option<String>,
+    /// The page to put its ratios into.
+    figures: Option<String>,
     /// How the names of the rows begin; without words all are meant.
     words: Vec<String>,
 }
@@ -48,11 +53,13 @@ impl Wish {
     fn of(mut words: impl Iterator<Item = String>) -> Self {
         let mut wish = Wish {
             draw: None,
+            figures: None,
             words: Vec::new(),
         };
         while let Some(word) = words.next() {
             match word.as_str() {
-                "--draw" => wish.draw = Some(words.next().expect("--draw has a file behind it")),
+                "--draw" => wish.draw = Some(words.next().expect("--draw has a file")),
+                "--figures" => wish.figures = Some(words.next().expect("--figures has a file")),
                 _ => wish.words.push(word),
             }
         }
@@ -68,7 +75,7 @@ impl Wish {
 fn main() {
     let wish = Wish::of(env::args().skip(1));
     let mut timer = Timer::new();
-    println!("{}\n\n{}", table::origin(), table::HEAD);
+    println!("{}", table::HEAD);
     let mut all = Vec::new();
     for row in rows::all().into_iter().filter(|row| wish.is_for(row)) {
         let sizes = rows::PARTS.map(|part| {
@@ -79,8 +86,14 @@ fn main() {
         });
         all.push(Measured { row, sizes });
     }
-    println!("\n{}", table::ratios(&all));
+    let ratios = format!("{}\n\n{}", table::origin(), table::ratios(&all));
+    println!("\n{ratios}");
     if let Some(path) = wish.draw {
         fs::write(&path, drawing::svg(&all)).expect("the drawing can be written");
+    }
+    if let Some(path) = wish.figures {
+        let page = fs::read_to_string(&path).expect("the page can be read");
+        let page = page::with_figures(&page, &ratios);
+        fs::write(&path, page).expect("the page can be written");
     }
 }

@@ -92,6 +92,9 @@ pub fn ratios(all: &[Measured]) -> String {
         lines.extend(heads(&CALLS.map(|(_, name)| name)));
         lines.extend(names(&files).into_iter().map(|name| of_file(&files, name)));
     }
+    if !files.is_empty() && !columns.is_empty() {
+        lines.push(String::new());
+    }
     if !columns.is_empty() {
         lines.extend(heads(&["column"]));
         lines.extend(columns.iter().map(|one| words(one.row.name, &[cell(one)])));
