@@ -1,7 +1,8 @@
 //! Large files to measure speed with, the same every time.
 //!
 //! Each comes whole and at a quarter and a sixteenth of its size, to see that
-//! time grows no faster than the file.
+//! time grows no faster than the file. Where many pairs are what makes a file
+//! hard, they are what is divided: 2, 8 and 32.
 
 use crate::draft::{self, kind_bytes, wide, EntryDraft, FieldDraft, PairDraft};
 use crate::generate::random::Random;
@@ -12,7 +13,7 @@ use crate::v64;
 /// The parts of the full size that the files come in.
 pub const PARTS: [u64; 3] = [16, 4, 1];
 
-/// Name of the base type of every file here.
+/// Name of the base type of every file here that has just one.
 pub const TYPE: &[u8] = b"t";
 /// Name of the subtype, where there is one.
 pub const SUBTYPE: &[u8] = b"s";
@@ -24,45 +25,114 @@ type Maker = fn(u64) -> Vec<u8>;
 
 /// All files at all sizes, the smallest of each first.
 pub fn files() -> Vec<Case> {
-    let makers: [(&str, Maker); 9] = [
+    let makers: [(&str, Maker); 15] = [
         ("v64 values", v64_values),
         ("v64 values, every number in nine bytes", padded),
         ("mixed kinds", mixed_kinds),
         ("references to a subtype over 32 pairs", references),
-        ("a column of v64 values", column),
         ("annotations under many names", annotations),
         ("maps of two types", |part| maps(2, part)),
         ("maps of three types", |part| maps(3, part)),
         ("maps of four types", |part| maps(4, part)),
+        ("short arrays", short_arrays),
+        ("bools", bools),
+        ("types entered in many pairs", entered_types),
+        ("long type names that differ at the end", |part| {
+            long_types(Place::Last, part)
+        }),
+        ("long type names that differ in the middle", |part| {
+            long_types(Place::Middle, part)
+        }),
+        ("long field names", long_fields),
+        ("small chunks in many pairs", small_chunks),
     ];
     let mut cases = Vec::new();
     for (label, make) in makers {
-        for part in PARTS {
-            let label = match part {
-                1 => label.to_string(),
-                _ => format!("{label}, 1/{part}"),
-            };
-            cases.push(Case::ruled(&label, 0, make(part)));
-        }
+        at_all_parts(&mut cases, label, make);
+    }
+    for (label, kind) in COLUMNS {
+        let label = format!("a column of kind {label}");
+        at_all_parts(&mut cases, &label, |part| column_of(kind, part));
     }
     cases
 }
 
+fn at_all_parts(cases: &mut Vec<Case>, label: &str, make: impl Fn(u64) -> Vec<u8>) {
+    for part in PARTS {
+        let label = match part {
+            1 => label.to_string(),
+            _ => format!("{label}, 1/{part}"),
+        };
+        cases.push(Case::ruled(&label, 0, make(part)));
+    }
+}
+
 /// About a megabyte of v64 values of mixed lengths, divided by `part`.
 pub fn v64_values(part: u64) -> Vec<u8> {
-    v64_fields(3, 65_535 / part)
+    one_pair(&[single(Element::V64); 3], 65_535 / part)
 }
 
 /// One column of 65,535 v64 values, divided by `part`.
 pub fn column(part: u64) -> Vec<u8> {
-    v64_fields(1, 65_535 / part)
+    column_of(single(Element::V64), part)
 }
 
-fn v64_fields(fields: usize, objects: u64) -> Vec<u8> {
+/// The kinds that a column is made of, and what they are called. References
+/// are to the subtype, so that each has a range to be looked for in.
+pub const COLUMNS: [(&str, Kind); 11] = [
+    ("bool", single(Element::Bool)),
+    ("i8", single(Element::I8)),
+    ("i16", single(Element::I16)),
+    ("i32", single(Element::I32)),
+    ("i64", single(Element::I64)),
+    ("v64", single(Element::V64)),
+    ("f32", single(Element::F32)),
+    ("f64", single(Element::F64)),
+    ("string", single(Element::Text)),
+    ("reference", single(Element::Object(1))),
+    ("constant", CONSTANT),
+];
+
+const CONSTANT: Kind = Kind::Constant {
+    number: 4,
+    value: -1,
+};
+
+/// One column of 65,535 values of a kind, divided by `part`.
+pub fn column_of(kind: Kind, part: u64) -> Vec<u8> {
     let mut random = Random::new(SEED);
-    let kinds = vec![single(Element::V64); fields];
+    let kinds = [kind];
     let mut world = World::new(&mut random, &kinds);
+    if kind == single(Element::Text) {
+        // Enough of them that some numbers have one byte and some have two.
+        world.serials = 1_000;
+    }
+    draft::write(&[world.pair(65_535 / part)])
+}
+
+fn one_pair(kinds: &[Kind], objects: u64) -> Vec<u8> {
+    let mut random = Random::new(SEED);
+    let mut world = World::new(&mut random, kinds);
     draft::write(&[world.pair(objects)])
+}
+
+/// About a megabyte of bools, divided by `part`.
+pub fn bools(part: u64) -> Vec<u8> {
+    one_pair(&[single(Element::Bool); 15], 65_535 / part)
+}
+
+/// About a megabyte of arrays, lists and sets of at most four elements, each
+/// of which takes a byte or two, divided by `part`.
+pub fn short_arrays(part: u64) -> Vec<u8> {
+    let kinds = [
+        (Form::Sized(17), Element::I8),
+        (Form::Sized(17), Element::Bool),
+        (Form::Sized(18), Element::I16),
+        (Form::Sized(19), Element::Text),
+        (Form::Fixed(2), Element::I8),
+    ];
+    let kinds = kinds.map(|(form, element)| Kind::Stored { form, element });
+    one_pair(&kinds, 62_000 / part)
 }
 
 /// About a megabyte of v64 values in two fields, divided by `part`, as a
@@ -103,10 +173,7 @@ pub fn mixed_kinds(part: u64) -> Vec<u8> {
         (Form::Single, Element::Object(0)),
     ];
     kinds.extend(arrays.map(|(form, element)| Kind::Stored { form, element }));
-    kinds.push(Kind::Constant {
-        number: 4,
-        value: -1,
-    });
+    kinds.push(CONSTANT);
     let mut world = World::new(&mut random, &kinds);
     let pairs: Vec<PairDraft> = (0..8).map(|_| world.pair(2_000 / part)).collect();
     draft::write(&pairs)
@@ -151,7 +218,131 @@ pub fn maps(types: usize, part: u64) -> Vec<u8> {
 /// The types of the maps, from the first on.
 const MAP: [Element; 4] = [Element::Text, Element::V64, Element::I8, Element::Object(1)];
 
-fn single(element: Element) -> Kind {
+/// 32 types without objects, each entered in each of 32 pairs, divided by
+/// `part`.
+pub fn entered_types(part: u64) -> Vec<u8> {
+    let digit = |index| char::from_digit(index, 32).expect("one of 32 digits");
+    let names = (0..32).map(|index| format!("t{}", digit(index)).into_bytes());
+    entered(names.collect(), 32 / part)
+}
+
+/// 32 types without objects, each entered in each of 32 pairs, divided by
+/// `part`, and under names that fill a megabyte and differ in one byte. So a
+/// name that is looked for has to be read as far as that byte.
+pub fn long_types(place: Place, part: u64) -> Vec<u8> {
+    entered(alike(32, 32_501, place), 32 / part)
+}
+
+/// One type without objects, and 128 fields, divided by `part`, under names
+/// that fill a megabyte and differ in the last byte.
+pub fn long_fields(part: u64) -> Vec<u8> {
+    let fields = 128 / part;
+    let mut strings = vec![TYPE.to_vec()];
+    strings.extend(alike(fields as usize, 8_000, Place::Last));
+    let v64 = kind_bytes(single(Element::V64));
+    let fields = (0..fields).map(|index| FieldDraft {
+        new: Some((v64.clone(), 2 + index)),
+        chunk: Vec::new(),
+    });
+    let entry = EntryDraft {
+        name: 1,
+        super_name: Some(0),
+        start: None,
+        count: 0,
+        fields: fields.collect(),
+    };
+    let entries = vec![entry];
+    draft::write(&[PairDraft { strings, entries }])
+}
+
+/// Which byte names differ in.
+#[derive(Clone, Copy, Debug, PartialEq, Eq)]
+pub enum Place {
+    Middle,
+    Last,
+}
+
+/// So many names of one length that differ in one byte.
+fn alike(count: usize, length: usize, place: Place) -> Vec<Vec<u8>> {
+    let place = match place {
+        Place::Middle => length / 2,
+        Place::Last => length - 1,
+    };
+    let name = |index| {
+        let mut name = vec![b'n'; length];
+        name[place] = index as u8;
+        name
+    };
+    (0..count).map(name).collect()
+}
+
+/// Types of these names without objects, each entered in each of some pairs.
+fn entered(names: Vec<Vec<u8>>, pairs: u64) -> Vec<u8> {
+    let numbers = 1..=names.len() as u64;
+    let block = |first: bool| {
+        let entries = numbers.clone().map(|name| EntryDraft {
+            name,
+            super_name: first.then_some(0),
+            start: None,
+            count: 0,
+            fields: Vec::new(),
+        });
+        PairDraft {
+            strings: Vec::new(),
+            entries: entries.collect(),
+        }
+    };
+    let mut drafts = vec![block(true)];
+    drafts[0].strings = names;
+    drafts.extend((1..pairs).map(|_| block(false)));
+    draft::write(&drafts)
+}
+
+/// 32 types of four fields, each entered in each of 32 pairs, divided by
+/// `part`, with one object: as many chunks as a file can have, and a value in
+/// each of them.
+pub fn small_chunks(part: u64) -> Vec<u8> {
+    let mut random = Random::new(SEED);
+    let mut pairs: Vec<PairDraft> = (1..=32 / part)
+        .map(|pair| small_pair(&mut random, pair))
+        .collect();
+    let types = (0..32).map(|index| format!("type {index}").into_bytes());
+    let fields = (0..4).map(|index| format!("f{index}").into_bytes());
+    pairs[0].strings = types.chain(fields).collect();
+    draft::write(&pairs)
+}
+
+/// The pair of this number, from 1, which is also how many objects a type has.
+fn small_pair(random: &mut Random, pair: u64) -> PairDraft {
+    let entries = (0..32).map(|index| {
+        let number = random.below(37);
+        let object = random.between(0, pair);
+        let chunks = [
+            (Element::Text, v64::coded(number)),
+            (Element::I8, vec![random.byte()]),
+            (Element::V64, v64::coded(random.bits())),
+            (Element::Object(index), v64::coded(object)),
+        ];
+        let fields = chunks.into_iter().zip(33..);
+        let fields = fields.map(|((element, chunk), name)| FieldDraft {
+            new: (pair == 1).then(|| (kind_bytes(single(element)), name)),
+            chunk,
+        });
+        EntryDraft {
+            name: 1 + index,
+            super_name: (pair == 1).then_some(0),
+            start: None,
+            count: 1,
+            fields: fields.collect(),
+        }
+    });
+    PairDraft {
+        strings: Vec::new(),
+        entries: entries.collect(),
+    }
+}
+
+const fn single(element: Element) -> Kind {
     Kind::Stored {
         form: Form::Single,
         element,
@@ -166,6 +357,8 @@ struct World<'a> {
     objects: u64,
     /// Where the subtype's objects lie: first number and count.
     ranges: Vec<(u64, u64)>,
+    /// Strings that name neither a type nor a field.
+    serials: u64,
     strings: u64,
     /// How many annotations there are so far.
     annotations: u64,
@@ -178,6 +371,7 @@ impl<'a> World<'a> {
             kinds,
             objects: 0,
             ranges: Vec::new(),
+            serials: 0,
             strings: 0,
             annotations: 0,
         }
@@ -190,6 +384,8 @@ impl<'a> World<'a> {
             strings = vec![TYPE.to_vec(), SUBTYPE.to_vec()];
             let names = (0..self.kinds.len()).map(|index| format!("f{index}").into_bytes());
             strings.extend(names);
+            let serials = (0..self.serials).map(|number| format!("{number}").into_bytes());
+            strings.extend(serials);
             self.strings = strings.len() as u64;
         }
         let (start, count) = (objects / 4, objects / 2);

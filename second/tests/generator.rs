@@ -3,7 +3,9 @@
 mod common;
 
 use common::number;
+use second::big::Place;
 use second::generate::{self, FILES, LISTINGS, SEED};
+use second::kind::REFERENCE;
 use second::{big, bounds, tally};
 
 /// The refusals a file can get.
@@ -132,10 +134,16 @@ fn big_files_are_accepted_and_as_large_as_they_should_be() {
         big::maps(2, 1).len(),
         big::maps(3, 1).len(),
         big::maps(4, 1).len(),
+        big::short_arrays(1).len(),
+        big::bools(1).len(),
+        big::long_types(Place::Last, 1).len(),
+        big::long_types(Place::Middle, 1).len(),
+        big::long_fields(1).len(),
     ];
     for length in lengths {
         assert!(length > 800_000, "{length}");
     }
+    assert_eq!(big::entered_types(1).len(), 3_392);
     let file = big::column(1);
     let values = common::column(&file, big::TYPE, big::FIELD, 11).unwrap();
     assert_eq!(values.len(), 65_535);
@@ -143,4 +151,13 @@ fn big_files_are_accepted_and_as_large_as_they_should_be() {
     assert_eq!(common::objects(&file, big::TYPE), Ok(32 * 2_047));
     assert_eq!(common::objects(&file, big::SUBTYPE), Ok(32 * 1_023));
     assert!(common::column(&file, big::TYPE, big::FIELD, 32).is_ok());
+    for (name, kind) in big::COLUMNS {
+        let file = big::column_of(kind, 1);
+        // A reference is asked for as one to any type.
+        let asked = kind.number().min(REFERENCE);
+        let values = common::column(&file, big::TYPE, big::FIELD, asked).unwrap();
+        assert_eq!(values.len(), 65_535, "{name}");
+    }
+    let file = big::small_chunks(1);
+    assert_eq!(common::objects(&file, b"type 31"), Ok(32));
 }
