@@ -255,84 +255,101 @@ impl Builder<'_> {
     /// Reads the lines of one chunk, of at most `room` bytes.
     fn chunk(&mut self, form: Form, element: Element, values: u64, room: usize) -> Option<Vec<u8>> {
         let mut chunk = Vec::new();
-        let mut elements = Vec::new();
+        // A copy that nothing else can see is quicker to move on.
+        let mut text = self.text;
         for _ in 0..values {
-            self.text.word(b"val")?;
-            elements.clear();
+            text.word(b"val")?;
+            let start = chunk.len();
+            if let Form::Sized(_) = form {
+                chunk.push(0);
+            }
             let mut length = 0;
-            while self.text.is(b'\t') {
-                self.element(element, &mut elements)?;
+            while text.is(b'\t') {
+                read_element(&mut text, element, &mut chunk)?;
                 length += 1;
             }
-            self.text.newline()?;
+            text.newline()?;
             match form {
                 Form::Single if length != 1 => return None,
                 Form::Fixed(wanted) if length != wanted => return None,
                 Form::Sized(_) if length > bounds::OBJECTS => return None,
-                Form::Sized(_) => v64::write(&mut chunk, length),
+                Form::Sized(_) => put_length(&mut chunk, start, length),
                 Form::Single | Form::Fixed(_) => {}
             }
-            chunk.extend_from_slice(&elements);
             if chunk.len() > room {
                 return None;
             }
         }
+        self.text = text;
         Some(chunk)
     }
 
     /// Reads the lines of a chunk of maps, of at most `room` bytes.
     fn maps(&mut self, types: &[Element], values: u64, room: usize) -> Option<Vec<u8>> {
         let mut chunk = Vec::new();
+        let mut text = self.text;
         for _ in 0..values {
-            self.text.word(b"val")?;
-            self.map(types, &mut chunk)?;
-            self.text.newline()?;
+            text.word(b"val")?;
+            read_map(&mut text, types, &mut chunk)?;
+            text.newline()?;
             if chunk.len() > room {
                 return None;
             }
         }
+        self.text = text;
         Some(chunk)
     }
+}
 
-    /// Reads what stands for the types that are left: a size and as many
-    /// keys, each with what it leads to, as long as there are two. A size is
-    /// only believed as far as its keys are there.
-    fn map(&mut self, types: &[Element], out: &mut Vec<u8>) -> Option<()> {
-        let (&first, rest) = types.split_first()?;
-        if rest.is_empty() {
-            self.text.tab()?;
-            return self.element(first, out);
-        }
-        let keys = self.text.field()?;
-        v64::write(out, keys);
-        for _ in 0..keys {
-            self.text.tab()?;
-            self.element(first, out)?;
-            self.map(rest, out)?;
-        }
-        Some(())
+/// Writes the length of an array to the byte that was left for it before its
+/// elements. A long one needs more.
+fn put_length(chunk: &mut Vec<u8>, start: usize, length: u64) {
+    match length {
+        0..0x80 => chunk[start] = length as u8,
+        _ => drop(chunk.splice(start..=start, v64::coded(length))),
     }
+}
 
-    fn element(&mut self, element: Element, out: &mut Vec<u8>) -> Option<()> {
-        match element {
-            Element::Annotation => {
-                v64::write(out, self.text.decimal()?);
-                v64::write(out, self.text.field()?);
-            }
-            Element::Bool => out.push(match self.text.decimal()? {
-                0 => 0x00,
-                1 => 0xFF,
-                _ => return None,
-            }),
-            Element::I8 => wide(out, self.text.signed(1)? as u64, 1),
-            Element::I16 => wide(out, self.text.signed(2)? as u64, 2),
-            Element::I32 => wide(out, self.text.signed(4)? as u64, 4),
-            Element::I64 => wide(out, self.text.signed(8)? as u64, 8),
-            Element::V64 => v64::write(out, self.text.signed(8)? as u64),
-            Element::F32 => wide(out, self.text.hex_bits(4)?, 4),
-            Element::F64 => wide(out, self.text.hex_bits(8)?, 8),
-            Element::Text | Element::Object(_) => v64::write(out, self.text.decimal()?),
-        }
-        Some(())
+/// Reads what stands for the types that are left: a size and as many
+/// keys, each with what it leads to, as long as there are two. A size is
+/// only believed as far as its keys are there.
+fn read_map(text: &mut Text<'_>, types: &[Element], out: &mut Vec<u8>) -> Option<()> {
+    let (&first, rest) = types.split_first()?;
+    if rest.is_empty() {
+        text.tab()?;
+        return read_element(text, first, out);
     }
+    let keys = text.field()?;
+    v64::write(out, keys);
+    for _ in 0..keys {
+        text.tab()?;
+        read_element(text, first, out)?;
+        read_map(text, rest, out)?;
+    }
+    Some(())
+}
+
+/// Reads an element and writes it behind the others of its chunk.
+#[inline(always)]
+fn read_element(text: &mut Text<'_>, element: Element, out: &mut Vec<u8>) -> Option<()> {
+    match element {
+        Element::Annotation => {
+            v64::write(out, text.decimal()?);
+            v64::write(out, text.field()?);
+        }
+        Element::Bool => out.push(match text.decimal()? {
+            0 => 0x00,
+            1 => 0xFF,
+            _ => return None,
+        }),
+        Element::I8 => wide(out, text.signed(1)? as u64, 1),
+        Element::I16 => wide(out, text.signed(2)? as u64, 2),
+        Element::I32 => wide(out, text.signed(4)? as u64, 4),
+        Element::I64 => wide(out, text.signed(8)? as u64, 8),
+        Element::V64 => v64::write(out, text.signed(8)? as u64),
+        Element::F32 => wide(out, text.hex_bits(4)?, 4),
+        Element::F64 => wide(out, text.hex_bits(8)?, 8),
+        Element::Text | Element::Object(_) => v64::write(out, text.decimal()?),
+    }
+    Some(())
 }

@@ -2,7 +2,7 @@
 
 use crate::bounds;
 use crate::builder;
-use crate::column as columns;
+use crate::column::{self as columns, Column};
 use crate::ledger::Ledger;
 use crate::listing as listings;
 use crate::reader;
@@ -32,7 +32,8 @@ pub fn column(
     out: &mut [i64],
 ) -> Result<usize, Refusal> {
     with_table(work, || {
-        let ledger = reader::read(file)?;
+        let mut values = Column::new(type_name, field_name, kind);
+        let ledger = reader::read_into(file, &mut values)?;
         let index = named_type(&ledger, type_name)?;
         let field = ledger
             .find_field(index, field_name)
@@ -42,7 +43,7 @@ pub fn column(
         }
         let count = ledger.types[index].objects as usize;
         let front = out.get_mut(..count).ok_or(Refusal::of_call(ROOM))?;
-        columns::fill(&ledger, field, front);
+        values.fill(&ledger, field, front);
         Ok(count)
     })
 }
@@ -50,8 +51,8 @@ pub fn column(
 /// Writes a file's listing to the front of `out`; answers its length.
 pub fn listing(file: &[u8], work: &mut [u32], out: &mut [u8]) -> Result<usize, Refusal> {
     with_table(work, || {
-        let ledger = reader::read(file)?;
-        let text = listings::print(&ledger, out.len()).ok_or(Refusal::of_call(ROOM))?;
+        let text = listings::print(file, out.len())?;
+        let text = text.ok_or(Refusal::of_call(ROOM))?;
         put(&text, out)
     })
 }
@@ -61,18 +62,10 @@ pub fn listing(file: &[u8], work: &mut [u32], out: &mut [u8]) -> Result<usize, R
 pub fn build(text: &[u8], work: &mut [u32], out: &mut [u8]) -> Result<usize, Refusal> {
     with_table(work, || {
         let file = builder::candidate(text)
-            .filter(|file| has_listing(file, text))
+            .filter(|file| reader::read(file).is_ok())
             .ok_or(Refusal::of_call(LISTING))?;
         put(&file, out)
     })
-}
-
-/// Whether a file is accepted and its listing is this text.
-fn has_listing(file: &[u8], text: &[u8]) -> bool {
-    match reader::read(file) {
-        Ok(ledger) => listings::print(&ledger, text.len()).as_deref() == Some(text),
-        Err(_) => false,
-    }
 }
 
 /// Copies the whole output to the front of the lent one, or nothing.

@@ -1,8 +1,10 @@
 //! One field's values as signed 64-bit numbers.
 
+use std::ops::Range;
+
 use crate::kind::{signed, Element, Form, Kind, REFERENCE};
-use crate::ledger::Ledger;
-use crate::v64;
+use crate::ledger::{Chunk, Ledger, Pair};
+use crate::sink::Sink;
 
 /// Whether a field of this kind answers to the number asked for.
 pub fn answers(kind: Kind, asked: u64) -> bool {
@@ -18,24 +20,103 @@ pub fn answers(kind: Kind, asked: u64) -> bool {
     }
 }
 
-/// Writes a field's values into `out`, which has one number for each object.
-/// The field's kind must be one that a column can be asked of.
-pub fn fill(ledger: &Ledger<'_>, field: usize, out: &mut [i64]) {
-    let element = match ledger.fields[field].kind {
-        Kind::Constant { value, .. } => return out.fill(value),
-        Kind::Stored { element, .. } => element,
-        Kind::Map(_) => unreachable!("no column is asked of maps"),
-    };
-    let mut rest = out;
-    for chunk in ledger.chunks.iter().filter(|chunk| chunk.field == field) {
-        let (front, behind) = rest.split_at_mut(chunk.values as usize);
-        decode(ledger.part(chunk), element, front);
-        rest = behind;
+/// The values of the field that is asked for, as far as the file is read.
+///
+/// Numbers of no fixed width are stored as they are checked. Those of a fixed
+/// width are not looked at to check them, so it is enough to remember where
+/// they stand.
+pub struct Column<'q> {
+    type_name: &'q [u8],
+    field_name: &'q [u8],
+    kind: u64,
+    /// The field, once it is declared.
+    field: Option<usize>,
+    /// How many fields were declared when it was looked for.
+    fields: usize,
+    numbers: Vec<i64>,
+    parts: Vec<Range<usize>>,
+}
+
+impl<'q> Column<'q> {
+    pub fn new(type_name: &'q [u8], field_name: &'q [u8], kind: u64) -> Self {
+        Column {
+            type_name,
+            field_name,
+            kind,
+            field: None,
+            fields: 0,
+            numbers: Vec::new(),
+            parts: Vec::new(),
+        }
+    }
+
+    /// Writes the values of the field, which must be the one that was asked
+    /// for, into `out`, which has one number for each object.
+    pub fn fill(&self, ledger: &Ledger<'_>, field: usize, out: &mut [i64]) {
+        let element = match ledger.fields[field].kind {
+            Kind::Constant { value, .. } => return out.fill(value),
+            Kind::Stored { element, .. } => element,
+            Kind::Map(_) => unreachable!("no column is asked of maps"),
+        };
+        if !is_fixed(element) {
+            return out.copy_from_slice(&self.numbers);
+        }
+        let mut rest = out;
+        for part in &self.parts {
+            rest = decode(&ledger.file[part.clone()], element, rest);
+        }
     }
 }
 
-/// Decodes a checked chunk.
-fn decode(part: &[u8], element: Element, out: &mut [i64]) {
+impl Sink for Column<'_> {
+    fn pair(&mut self, ledger: &Ledger<'_>, _pair: &Pair) {
+        if self.field.is_none() && ledger.fields.len() > self.fields {
+            self.fields = ledger.fields.len();
+            let owner = ledger.find_type(self.type_name);
+            self.field = owner.and_then(|owner| ledger.find_field(owner, self.field_name));
+        }
+    }
+
+    fn wants(&mut self, ledger: &Ledger<'_>, chunk: &Chunk) -> bool {
+        let kind = ledger.fields[chunk.field].kind;
+        if self.field != Some(chunk.field) || !answers(kind, self.kind) {
+            return false;
+        }
+        match kind {
+            Kind::Stored { element, .. } if !is_fixed(element) => {
+                self.numbers.reserve(chunk.values as usize);
+                true
+            }
+            _ => {
+                self.parts.push(chunk.part.clone());
+                false
+            }
+        }
+    }
+
+    #[inline(always)]
+    fn v64(&mut self, value: i64) {
+        self.numbers.push(value);
+    }
+
+    #[inline(always)]
+    fn number(&mut self, number: u64) {
+        self.numbers.push(number as i64);
+    }
+}
+
+/// Whether all elements of a kind have the same width.
+fn is_fixed(element: Element) -> bool {
+    match element {
+        Element::V64 | Element::Text | Element::Object(_) | Element::Annotation => false,
+        Element::Bool | Element::I8 | Element::I16 | Element::I32 => true,
+        Element::I64 | Element::F32 | Element::F64 => true,
+    }
+}
+
+/// Decodes a checked chunk of elements of a fixed width; answers what is left
+/// of `out`.
+fn decode<'o>(part: &[u8], element: Element, out: &'o mut [i64]) -> &'o mut [i64] {
     match element {
         Element::Bool => wide::<1>(part, out, |byte| i64::from(byte != 0)),
         Element::I8 => wide::<1>(part, out, |bits| signed(bits, 1)),
@@ -43,24 +124,22 @@ fn decode(part: &[u8], element: Element, out: &mut [i64]) {
         Element::I32 => wide::<4>(part, out, |bits| signed(bits, 4)),
         Element::F32 => wide::<4>(part, out, |bits| bits as i64),
         Element::I64 | Element::F64 => wide::<8>(part, out, |bits| bits as i64),
-        Element::V64 | Element::Text | Element::Object(_) => numbers(part, out),
-        Element::Annotation => unreachable!("no column is asked of annotations"),
+        Element::V64 | Element::Text | Element::Object(_) | Element::Annotation => {
+            unreachable!("these have no fixed width")
+        }
     }
 }
 
-fn wide<const WIDTH: usize>(part: &[u8], out: &mut [i64], meaning: impl Fn(u64) -> i64) {
-    for (slot, bytes) in out.iter_mut().zip(part.chunks_exact(WIDTH)) {
+fn wide<'o, const WIDTH: usize>(
+    part: &[u8],
+    out: &'o mut [i64],
+    meaning: impl Fn(u64) -> i64,
+) -> &'o mut [i64] {
+    let (front, behind) = out.split_at_mut(part.len() / WIDTH);
+    for (slot, bytes) in front.iter_mut().zip(part.chunks_exact(WIDTH)) {
         let mut low = [0; 8];
         low[8 - WIDTH..].copy_from_slice(bytes);
         *slot = meaning(u64::from_be_bytes(low));
     }
-}
-
-fn numbers(part: &[u8], out: &mut [i64]) {
-    let mut at = 0;
-    for slot in out {
-        let (value, next) = v64::read(part, at).expect("the chunk is checked");
-        *slot = value as i64;
-        at = next;
-    }
+    behind
 }

@@ -51,6 +51,7 @@ impl<'f> Cursor<'f> {
     }
 
     /// Reads a v64.
+    #[inline(always)]
     pub fn v64(&mut self) -> Result<Found, Refusal> {
         let place = self.position;
         let (value, next) = v64::read(self.file, place).map_err(|Cut| Refusal::at(SHORT, place))?;

@@ -1,8 +1,10 @@
 //! What an accepted file holds.
 
+use std::cell::OnceCell;
 use std::ops::Range;
 
 use crate::kind::Kind;
+use crate::mixing::Mixed;
 use crate::names::{Name, Names};
 
 /// A type and its objects over all blocks.
@@ -21,6 +23,65 @@ pub struct Type {
     /// Its objects' numbers in the base pool; sorted, apart from each other
     /// and merged where one ends as the next begins.
     pub ranges: Vec<Range<u64>>,
+    /// The same objects one by one, once they were asked for.
+    pub members: OnceCell<Members>,
+}
+
+impl Type {
+    /// Adds a range of objects behind those that are there.
+    pub fn add(&mut self, added: Range<u64>) {
+        match self.ranges.last_mut() {
+            Some(last) if last.end == added.start => last.end = added.end,
+            _ => self.ranges.push(added),
+        }
+        self.members = OnceCell::new();
+    }
+
+    /// Its objects one by one.
+    pub fn members(&self) -> &Members {
+        self.members.get_or_init(|| Members::of(&self.ranges))
+    }
+}
+
+/// A bit for each object of a base pool: whether it is of a type. Ranges need
+/// not be searched for an object then.
+#[derive(Clone, Debug)]
+pub struct Members {
+    bits: Vec<u64>,
+}
+
+impl Members {
+    fn of(ranges: &[Range<u64>]) -> Members {
+        let past = ranges.last().map_or(0, |last| last.end);
+        let mut bits = vec![0; past as usize / 64 + 1];
+        for range in ranges {
+            set(&mut bits, range);
+        }
+        Members { bits }
+    }
+
+    #[inline(always)]
+    pub fn has(&self, object: u64) -> bool {
+        let word = self.bits.get((object / 64) as usize);
+        word.is_some_and(|word| word >> (object % 64) & 1 == 1)
+    }
+}
+
+/// Sets the bits of a range, which is not empty, a word at a time.
+fn set(bits: &mut [u64], range: &Range<u64>) {
+    let (first, last) = (range.start / 64, (range.end - 1) / 64);
+    let words = &mut bits[first as usize..=last as usize];
+    let from = u64::MAX << (range.start % 64);
+    let up_to = u64::MAX >> (63 - (range.end - 1) % 64);
+    match words {
+        [only] => *only |= from & up_to,
+        [first, between @ .., last] => {
+            *first |= from;
+            between.fill(u64::MAX);
+            *last |= up_to;
+        }
+        [] => {}
+    }
 }
 
 /// A field of a type.
@@ -77,6 +138,11 @@ pub struct Ledger<'f> {
     pub pairs: Vec<Pair>,
     pub entries: Vec<Entry>,
     pub chunks: Vec<Chunk>,
+    /// The type of each name that is a type's. Names are small numbers, so a
+    /// list has them all.
+    type_by_name: Vec<Option<u8>>,
+    /// The field of a type and a name.
+    field_by_name: Mixed<(usize, Name), usize>,
 }
 
 impl<'f> Ledger<'f> {
@@ -89,28 +155,53 @@ impl<'f> Ledger<'f> {
             pairs: Vec::new(),
             entries: Vec::new(),
             chunks: Vec::new(),
+            type_by_name: Vec::new(),
+            field_by_name: Mixed::default(),
         }
+    }
+
+    /// Adds a type; answers its index.
+    pub fn add_type(&mut self, own: Type) -> usize {
+        let index = self.types.len();
+        let name = own.name as usize;
+        if self.type_by_name.len() <= name {
+            self.type_by_name.resize(name + 1, None);
+        }
+        self.type_by_name[name] = Some(index as u8);
+        self.types.push(own);
+        index
+    }
+
+    /// Adds a field to a type; answers its index.
+    pub fn add_field(&mut self, type_index: usize, own: Field) -> usize {
+        let index = self.fields.len();
+        self.field_by_name.insert((type_index, own.name), index);
+        self.types[type_index].fields.push(index);
+        self.fields.push(own);
+        index
     }
 
     /// The type of a name.
     pub fn type_of(&self, name: Name) -> Option<usize> {
-        self.types.iter().position(|known| known.name == name)
+        let index = *self.type_by_name.get(name as usize)?;
+        index.map(usize::from)
+    }
+
+    /// The field of a type, its super types aside, that has a name.
+    pub fn field_of(&self, type_index: usize, name: Name) -> Option<usize> {
+        self.field_by_name.get(&(type_index, name)).copied()
     }
 
     /// The type whose name has these bytes.
     pub fn find_type(&self, name: &[u8]) -> Option<usize> {
-        self.types
-            .iter()
-            .position(|known| self.names.bytes(known.name) == name)
+        let name = self.names.find(name)?;
+        self.type_of(name)
     }
 
     /// The field of a type, its super types aside, whose name has these bytes.
     pub fn find_field(&self, type_index: usize, name: &[u8]) -> Option<usize> {
-        self.types[type_index]
-            .fields
-            .iter()
-            .copied()
-            .find(|&field| self.names.bytes(self.fields[field].name) == name)
+        let name = self.names.find(name)?;
+        self.field_of(type_index, name)
     }
 
     /// The bytes of a chunk.

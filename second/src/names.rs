@@ -4,23 +4,37 @@
 //! over, each string that serves as a name is looked up once and from then on
 //! known by the number of the first such string with the same bytes.
 
-use std::collections::HashMap;
+use std::cell::Cell;
+
+use crate::mixing::Mixed;
 
 /// A name: the number of the first string used as a name with these bytes.
 pub type Name = u32;
 
 #[derive(Default)]
 pub struct Names<'a> {
-    strings: Vec<&'a [u8]>,
-    /// The name of each string, 0 as long as it was not used as one.
-    found: Vec<Name>,
-    first: HashMap<&'a [u8], Name>,
+    strings: Vec<Known<'a>>,
+    first: Mixed<&'a [u8], Name>,
+}
+
+/// A string.
+struct Known<'a> {
+    bytes: &'a [u8],
+    /// Its name, 0 as long as it was not used as one.
+    name: Cell<Name>,
 }
 
 impl<'a> Names<'a> {
+    /// Makes room for more strings.
+    pub fn reserve(&mut self, count: usize) {
+        self.strings.reserve(count);
+    }
+
     pub fn push(&mut self, string: &'a [u8]) {
-        self.strings.push(string);
-        self.found.push(0);
+        self.strings.push(Known {
+            bytes: string,
+            name: Cell::new(0),
+        });
     }
 
     /// How many strings there are.
@@ -34,21 +48,37 @@ impl<'a> Names<'a> {
 
     /// The bytes of a string by its number from 1.
     pub fn bytes(&self, number: u32) -> &'a [u8] {
-        self.strings[number as usize - 1]
+        self.strings[number as usize - 1].bytes
     }
 
-    /// The name a string number stands for; none if it is 0 or too large.
+    /// The name a string number stands for; none if it is 0 or too large. The
+    /// string is a name from now on.
     pub fn name(&mut self, number: u64) -> Option<Name> {
-        let index = usize::try_from(number.checked_sub(1)?).ok()?;
-        let known = *self.found.get(index)?;
-        if known != 0 {
-            return Some(known);
+        let string = self.strings.get(index(number))?;
+        if string.name.get() == 0 {
+            let name = *self.first.entry(string.bytes).or_insert(number as Name);
+            string.name.set(name);
         }
-        let name = *self
-            .first
-            .entry(self.strings[index])
-            .or_insert(number as Name);
-        self.found[index] = name;
-        Some(name)
+        Some(string.name.get())
     }
+
+    /// The name a string number stands for, if a string of these bytes is one
+    /// already.
+    pub fn known(&self, number: u64) -> Option<Name> {
+        let string = self.strings.get(index(number))?;
+        if string.name.get() == 0 {
+            string.name.set(self.find(string.bytes)?);
+        }
+        Some(string.name.get())
+    }
+
+    /// The name of these bytes, if a string of these bytes is one already.
+    pub fn find(&self, bytes: &[u8]) -> Option<Name> {
+        self.first.get(bytes).copied()
+    }
+}
+
+/// Where the string of a number stands in the list; null stands nowhere.
+fn index(number: u64) -> usize {
+    usize::try_from(number.wrapping_sub(1)).unwrap_or(usize::MAX)
 }

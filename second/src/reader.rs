@@ -1,5 +1,9 @@
-//! Reading a file front to back, in the paper's order, into a [`Ledger`].
+//! Reading a file front to back, in the paper's order.
+//!
+//! What is read of the heads of pairs and entries comes into a [`Ledger`],
+//! values go to a [`Sink`] as they are checked.
 
+use std::cell::OnceCell;
 use std::ops::Range;
 
 use crate::bounds;
@@ -9,10 +13,16 @@ use crate::ledger::{Chunk, Entry, Field, Ledger, Pair, Type};
 use crate::names::Name;
 use crate::pools::Pools;
 use crate::refusal::*;
+use crate::sink::{Nothing, Sink};
 use crate::values;
 
 /// Reads and checks a whole file.
 pub fn read(file: &[u8]) -> Result<Ledger<'_>, Refusal> {
+    read_into(file, &mut Nothing)
+}
+
+/// Reads and checks a whole file, with a sink for what it holds.
+pub fn read_into<'f, S: Sink>(file: &'f [u8], sink: &mut S) -> Result<Ledger<'f>, Refusal> {
     if file.len() > bounds::FILE {
         return Err(Refusal::of_call(LIMIT));
     }
@@ -20,6 +30,7 @@ pub fn read(file: &[u8]) -> Result<Ledger<'_>, Refusal> {
         cursor: Cursor::new(file),
         ledger: Ledger::empty(file),
         objects: 0,
+        sink,
     };
     while !reader.cursor.at_end() {
         reader.pair()?;
@@ -27,11 +38,12 @@ pub fn read(file: &[u8]) -> Result<Ledger<'_>, Refusal> {
     Ok(reader.ledger)
 }
 
-struct Reader<'f> {
+struct Reader<'f, 's, S> {
     cursor: Cursor<'f>,
     ledger: Ledger<'f>,
     /// Objects of all base pools so far.
     objects: u64,
+    sink: &'s mut S,
 }
 
 /// What has to be kept while the entries of one block are read.
@@ -55,7 +67,7 @@ struct Local {
     count: u64,
 }
 
-impl<'f> Reader<'f> {
+impl<S: Sink> Reader<'_, '_, S> {
     fn pair(&mut self) -> Result<(), Refusal> {
         if self.ledger.pairs.len() == bounds::PAIRS {
             return Err(Refusal::at(LIMIT, self.cursor.position()));
@@ -71,14 +83,16 @@ impl<'f> Reader<'f> {
         }
         self.region(first_chunk, &block.ends)?;
         self.reference_kinds(&block.references)?;
-        let pools = self.pools(first_chunk);
-        for chunk in &self.ledger.chunks[first_chunk..] {
-            values::check(&self.ledger, &pools, chunk)?;
-        }
-        self.ledger.pairs.push(Pair {
+        let pair = Pair {
             strings,
             entries: first_entry..self.ledger.entries.len(),
-        });
+        };
+        self.sink.pair(&self.ledger, &pair);
+        let pools = self.pools(first_chunk);
+        for chunk in &self.ledger.chunks[first_chunk..] {
+            values::check(&self.ledger, &pools, chunk, self.sink)?;
+        }
+        self.ledger.pairs.push(pair);
         Ok(())
     }
 
@@ -87,9 +101,10 @@ impl<'f> Reader<'f> {
         let before = self.ledger.names.len();
         let count = self.cursor.v64()?;
         count.refuse_if(count.value > (bounds::STRINGS - before) as u64, LIMIT)?;
-        let mut ends = Vec::with_capacity(count.value as usize);
+        let count = count.value as usize;
+        let mut ends = Vec::with_capacity(count);
         let mut last = 0;
-        for _ in 0..count.value {
+        for _ in 0..count {
             let end = self.cursor.wide(4)?;
             end.refuse_if(end.value < last, ENDS)?;
             last = end.value;
@@ -100,6 +115,7 @@ impl<'f> Reader<'f> {
             .cursor
             .take(last as usize)
             .ok_or(Refusal::at(SHORT, place))?;
+        self.ledger.names.reserve(count);
         let mut start = 0;
         for end in ends {
             self.ledger.names.push(&bytes[start..end]);
@@ -159,16 +175,17 @@ impl<'f> Reader<'f> {
                 Some(found.ok_or(Refusal::at(SUPER, super_name.place))?)
             }
         };
-        self.ledger.types.push(Type {
+        let base = super_type.map_or(index, |upper| self.ledger.types[upper].base);
+        Ok(self.ledger.add_type(Type {
             name,
             super_type,
-            base: super_type.map_or(index, |upper| self.ledger.types[upper].base),
+            base,
             fields: Vec::new(),
             objects: 0,
             before: 0,
             ranges: Vec::new(),
-        });
-        Ok(index)
+            members: OnceCell::new(),
+        }))
     }
 
     fn local_start(&mut self, index: usize) -> Result<Option<u64>, Refusal> {
@@ -218,11 +235,7 @@ impl<'f> Reader<'f> {
             return;
         }
         let first = before + local.start + 1;
-        let past = first + local.count;
-        match owner.ranges.last_mut() {
-            Some(last) if last.end == first => last.end = past,
-            _ => owner.ranges.push(first..past),
-        }
+        owner.add(first..first + local.count);
     }
 
     fn no_restrictions(&mut self) -> Result<(), Refusal> {
@@ -257,14 +270,10 @@ impl<'f> Reader<'f> {
         let kind = self.kind(block)?;
         let number = self.cursor.v64()?;
         let name = self.name(number)?;
-        let fields = &self.ledger.fields;
-        let owner = &self.ledger.types[index];
-        let used = owner.fields.iter().any(|&field| fields[field].name == name);
+        let used = self.ledger.field_of(index, name).is_some();
         number.refuse_if(used, TWICE)?;
-        let objects = owner.objects;
-        let field = self.ledger.fields.len();
-        self.ledger.fields.push(Field { name, kind });
-        self.ledger.types[index].fields.push(field);
+        let objects = self.ledger.types[index].objects;
+        let field = self.ledger.add_field(index, Field { name, kind });
         self.chunk(block, field, number.value, objects)
     }
 
@@ -356,12 +365,12 @@ impl<'f> Reader<'f> {
 
     /// What annotations in the chunks of this block can lead to. All types
     /// and objects of the block are known by now, and no later ones.
-    fn pools(&mut self, first_chunk: usize) -> Pools {
+    fn pools(&self, first_chunk: usize) -> Pools {
         let chunks = &self.ledger.chunks[first_chunk..];
         let fields = &self.ledger.fields;
         let mut kinds = chunks.iter().map(|chunk| fields[chunk.field].kind);
         match kinds.any(|kind| kind.elements().contains(&Element::Annotation)) {
-            true => Pools::of(&mut self.ledger),
+            true => Pools::of(&self.ledger),
             false => Pools::default(),
         }
     }

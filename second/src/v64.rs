@@ -8,32 +8,95 @@
 #[derive(Clone, Copy, Debug, PartialEq, Eq)]
 pub struct Cut;
 
+/// The top bit of each byte of a word: another byte follows.
+const CONTINUES: u64 = 0x8080_8080_8080_8080;
+
 /// Reads the coding that begins at `at`; answers its value and where the next
 /// thing begins.
-#[inline]
+#[inline(always)]
 pub fn read(bytes: &[u8], at: usize) -> Result<(u64, usize), Cut> {
-    match bytes.get(at) {
-        // Most numbers of a file are small, so one byte has its own way out.
-        Some(&byte) if byte < 0x80 => Ok((u64::from(byte), at + 1)),
-        Some(_) => read_long(bytes, at),
-        None => Err(Cut),
+    // Most numbers of a file are small, so up to three bytes have their own
+    // ways out. A processor guesses which one it will be and goes on, where it
+    // would have to wait for a length that is worked out.
+    match *bytes.get(at..).unwrap_or(&[]) {
+        [one, ..] if one < 0x80 => Ok((u64::from(one), at + 1)),
+        [one, two, ..] if two < 0x80 => Ok((low(one) | u64::from(two) << 7, at + 2)),
+        [one, two, three, ..] if three < 0x80 => {
+            Ok((low(one) | low(two) << 7 | u64::from(three) << 14, at + 3))
+        }
+        ref rest => read_long(rest, at),
     }
 }
 
-/// Reads a coding whose first byte says that another one follows.
-fn read_long(bytes: &[u8], at: usize) -> Result<(u64, usize), Cut> {
-    let mut value = 0u64;
-    for (index, &byte) in bytes[at..].iter().take(8).enumerate() {
-        value |= u64::from(byte & 0x7F) << (7 * index);
-        if byte < 0x80 {
-            return Ok((value, at + index + 1));
-        }
+/// The seven bits that a byte carries if another follows.
+#[inline(always)]
+fn low(byte: u8) -> u64 {
+    u64::from(byte & 0x7F)
+}
+
+/// Reads a coding of more than three bytes, which stands at the front of `rest`.
+#[inline]
+fn read_long(rest: &[u8], at: usize) -> Result<(u64, usize), Cut> {
+    let &nine = match rest.first_chunk::<9>() {
+        Some(nine) => nine,
+        None => &continued(rest),
+    };
+    let [eight @ .., ninth] = nine;
+    let word = u64::from_le_bytes(eight);
+    let last = (!word & CONTINUES).trailing_zeros() / 8;
+    if last < 8 {
+        let value = joined(word & u64::MAX >> (56 - 8 * last));
+        return Ok((value, at + last as usize + 1));
     }
-    let &ninth = bytes.get(at + 8).ok_or(Cut)?;
+    if rest.len() < 9 {
+        return Err(Cut);
+    }
+    let value = joined(word);
     Ok((value | u64::from(ninth) << 56, at + 9))
 }
 
+/// The first bytes of a coding, of which fewer than nine are there. Those
+/// that are missing say that another follows, so that no coding ends in them.
+#[cold]
+fn continued(rest: &[u8]) -> [u8; 9] {
+    let mut nine = [0x80; 9];
+    nine[..rest.len()].copy_from_slice(rest);
+    nine
+}
+
+/// The low seven bits of each byte, the first byte's lowest, side by side:
+/// joined in twos, then in fours, then all eight.
+#[inline]
+fn joined(word: u64) -> u64 {
+    let ones = word & 0x7F7F_7F7F_7F7F_7F7F;
+    let twos = ones & 0x007F_007F_007F_007F | ones >> 1 & 0x3F80_3F80_3F80_3F80;
+    let fours = twos & 0x0000_3FFF_0000_3FFF | twos >> 2 & 0x0FFF_C000_0FFF_C000;
+    fours & 0x0000_0000_0FFF_FFFF | fours >> 4 & 0x00FF_FFFF_F000_0000
+}
+
+/// Passes over codings from `at` on whose values nobody asks for, `count` of
+/// them or as many as can be told apart quickly; answers how many are left and
+/// where the next one begins.
+#[inline(always)]
+pub fn pass(bytes: &[u8], mut at: usize, count: u64) -> (u64, usize) {
+    let mut left = count;
+    while let Some([eight @ .., _]) = bytes.get(at..).and_then(|rest| rest.first_chunk::<9>()) {
+        let ends = !u64::from_le_bytes(*eight) & CONTINUES;
+        let (codings, length) = match left {
+            0 => break,
+            _ if ends == 0 => (1, 9),
+            // No more than eight can end in eight bytes.
+            8.. => (ends.count_ones(), 8 - ends.leading_zeros() / 8),
+            _ => (1, ends.trailing_zeros() / 8 + 1),
+        };
+        left -= u64::from(codings);
+        at += length as usize;
+    }
+    (left, at)
+}
+
 /// Appends the shortest coding of `value`.
+#[inline]
 pub fn write(out: &mut Vec<u8>, value: u64) {
     let mut rest = value;
     for _ in 0..8 {

@@ -4,13 +4,12 @@
 //! and the form of the kind says which runs the chunk holds. A map is read
 //! by itself, its types one after the other.
 
-use std::ops::Range;
-
 use crate::bounds;
 use crate::kind::{Element, Form, Kind};
-use crate::ledger::{Chunk, Ledger};
+use crate::ledger::{Chunk, Ledger, Type};
 use crate::pools::Pools;
 use crate::refusal::*;
+use crate::sink::{Nothing, Sink};
 use crate::v64::{self, Cut};
 
 /// A refusal at an offset within the chunk.
@@ -27,13 +26,31 @@ impl Fault {
 
 type Step = Result<usize, Fault>;
 
-/// Checks the values of one chunk.
-pub fn check(ledger: &Ledger<'_>, pools: &Pools, chunk: &Chunk) -> Result<(), Refusal> {
+/// Checks the values of one chunk and gives them to a sink that wants them.
+pub fn check<S: Sink>(
+    ledger: &Ledger<'_>,
+    pools: &Pools,
+    chunk: &Chunk,
+    sink: &mut S,
+) -> Result<(), Refusal> {
+    match sink.wants(ledger, chunk) {
+        true => read(ledger, pools, chunk, sink),
+        false => read(ledger, pools, chunk, &mut Nothing),
+    }
+}
+
+fn read<S: Sink>(
+    ledger: &Ledger<'_>,
+    pools: &Pools,
+    chunk: &Chunk,
+    sink: &mut S,
+) -> Result<(), Refusal> {
     let part = ledger.part(chunk);
-    let values = Values {
+    let mut values = Values {
         ledger,
         pools,
         part,
+        sink,
     };
     let outcome = match ledger.fields[chunk.field].kind {
         Kind::Constant { .. } => filled(part, 0),
@@ -43,25 +60,29 @@ pub fn check(ledger: &Ledger<'_>, pools: &Pools, chunk: &Chunk) -> Result<(), Re
     outcome.map_err(|fault| Refusal::at(fault.number, chunk.part.start + fault.at))
 }
 
-/// The bytes of a chunk, and what its values are held against.
-struct Values<'a> {
+/// The bytes of a chunk, what its values are held against, and where they go.
+struct Values<'a, S> {
     ledger: &'a Ledger<'a>,
     pools: &'a Pools,
     part: &'a [u8],
+    sink: &'a mut S,
 }
 
-impl Values<'_> {
+impl<S: Sink> Values<'_, S> {
     /// Reads all values of a chunk: elements, or arrays of them.
-    fn stored(&self, form: Form, element: Element, values: u64) -> Result<(), Fault> {
+    fn stored(&mut self, form: Form, element: Element, values: u64) -> Result<(), Fault> {
         let at = match form {
             Form::Single => self.run(element, 0, values)?,
+            Form::Fixed(length) if S::BY_VALUE => self.fixed_arrays(element, length, values)?,
             // Values of a fixed length stand side by side, one long run.
             Form::Fixed(length) => self.run(element, 0, values * length)?,
             Form::Sized(_) => {
                 let mut at = 0;
                 for _ in 0..values {
                     let (length, next) = size(self.part, at)?;
+                    self.sink.begin();
                     at = self.run(element, next, length)?;
+                    self.sink.end();
                 }
                 at
             }
@@ -69,23 +90,37 @@ impl Values<'_> {
         filled(self.part, at)
     }
 
-    /// Reads all values of a chunk of maps.
-    fn maps(&self, types: &[Element], values: u64) -> Result<(), Fault> {
+    /// Reads values of a fixed length one by one.
+    fn fixed_arrays(&mut self, element: Element, length: u64, values: u64) -> Step {
         let mut at = 0;
         for _ in 0..values {
+            self.sink.begin();
+            at = self.run(element, at, length)?;
+            self.sink.end();
+        }
+        Ok(at)
+    }
+
+    /// Reads all values of a chunk of maps.
+    fn maps(&mut self, types: &[Element], values: u64) -> Result<(), Fault> {
+        let mut at = 0;
+        for _ in 0..values {
+            self.sink.begin();
             at = self.map(types, at)?;
+            self.sink.end();
         }
         filled(self.part, at)
     }
 
     /// Reads what stands for the types that are left: a map as long as there
     /// are two, and the last one by itself is an element.
-    fn map(&self, types: &[Element], start: usize) -> Step {
+    fn map(&mut self, types: &[Element], start: usize) -> Step {
         let (&first, rest) = types.split_first().expect("a type is left");
         if rest.is_empty() {
             return self.run(first, start, 1);
         }
         let (keys, mut at) = size(self.part, start)?;
+        self.sink.size(keys);
         for _ in 0..keys {
             at = self.run(first, at, 1)?;
             at = self.map(rest, at)?;
@@ -94,61 +129,87 @@ impl Values<'_> {
     }
 
     /// Reads a given number of elements.
-    fn run(&self, element: Element, at: usize, count: u64) -> Step {
+    fn run(&mut self, element: Element, at: usize, count: u64) -> Step {
         let part = self.part;
         match element {
-            Element::Annotation => annotations(part, at, count, self.pools),
-            Element::Bool => bools(part, at, count),
-            Element::I8 => fixed::<1>(part, at, count),
-            Element::I16 => fixed::<2>(part, at, count),
-            Element::I32 | Element::F32 => fixed::<4>(part, at, count),
-            Element::I64 | Element::F64 => fixed::<8>(part, at, count),
-            Element::V64 => numbers(part, at, count, |_| true),
+            Element::Annotation => self.annotations(at, count),
+            Element::Bool => {
+                let next = bools(part, at, count)?;
+                self.sink.bools(&part[at..next]);
+                Ok(next)
+            }
+            Element::I8 => self.whole::<1>(at, count),
+            Element::I16 => self.whole::<2>(at, count),
+            Element::I32 => self.whole::<4>(at, count),
+            Element::I64 => self.whole::<8>(at, count),
+            Element::F32 => self.floats::<4>(at, count),
+            Element::F64 => self.floats::<8>(at, count),
+            Element::V64 if S::IS_IDLE => passed(part, at, count),
+            Element::V64 => {
+                let give = |value| self.sink.v64(value as i64);
+                numbers(part, at, count, |_| true, give)
+            }
             Element::Text => {
                 let last = self.ledger.names.len() as u64;
-                numbers(part, at, count, |number| number <= last)
+                let give = |number| self.sink.number(number);
+                numbers(part, at, count, |number| number <= last, give)
             }
             Element::Object(index) => {
-                let ranges = &self.ledger.types[index as usize].ranges[..];
-                references(part, at, count, ranges)
+                let owner = &self.ledger.types[index as usize];
+                let give = |number| self.sink.number(number);
+                references(part, at, count, owner, give)
             }
         }
+    }
+
+    /// A run of whole numbers of a fixed width.
+    fn whole<const WIDTH: usize>(&mut self, at: usize, count: u64) -> Step {
+        let next = fixed::<WIDTH>(self.part, at, count)?;
+        self.sink.whole::<WIDTH>(&self.part[at..next]);
+        Ok(next)
+    }
+
+    /// A run of floats.
+    fn floats<const WIDTH: usize>(&mut self, at: usize, count: u64) -> Step {
+        let next = fixed::<WIDTH>(self.part, at, count)?;
+        self.sink.floats::<WIDTH>(&self.part[at..next]);
+        Ok(next)
+    }
+
+    /// Annotations, each of which is null or leads to an object. Nothing is
+    /// said of the first number before the second is read.
+    fn annotations(&mut self, start: usize, count: u64) -> Step {
+        let (part, pools) = (self.part, self.pools);
+        let mut at = start;
+        for _ in 0..count {
+            let (name, second) = number(part, at)?;
+            let (object, next) = number(part, second)?;
+            let null = name == 0 && object == 0;
+            if !null && !pools.has(self.ledger, name, object) {
+                return Err(Fault::new(REFERENCE, at));
+            }
+            self.sink.annotation(name, object);
+            at = next;
+        }
+        Ok(at)
     }
 }
 
 /// References to a type; one range is by far the most common case.
-fn references(part: &[u8], at: usize, count: u64, ranges: &[Range<u64>]) -> Step {
-    match ranges {
-        [] => numbers(part, at, count, |object| object == 0),
-        [only] => numbers(part, at, count, |object| {
-            object == 0 || only.contains(&object)
-        }),
-        several => numbers(part, at, count, |object| {
-            object == 0 || within(several, object)
-        }),
-    }
-}
-
-/// Annotations, each of which is null or leads to an object. Nothing is said
-/// of the first number before the second is read.
-fn annotations(part: &[u8], start: usize, count: u64, pools: &Pools) -> Step {
-    let mut at = start;
-    for _ in 0..count {
-        let (name, second) = number(part, at)?;
-        let (object, next) = number(part, second)?;
-        let null = name == 0 && object == 0;
-        if !null && !pools.has(name, object) {
-            return Err(Fault::new(REFERENCE, at));
+#[inline(always)]
+fn references(part: &[u8], at: usize, count: u64, owner: &Type, give: impl FnMut(u64)) -> Step {
+    match &owner.ranges[..] {
+        [] => numbers(part, at, count, |object| object == 0, give),
+        [only] => {
+            let admits = |object| object == 0 || only.contains(&object);
+            numbers(part, at, count, admits, give)
         }
-        at = next;
+        _ => {
+            let members = owner.members();
+            let admits = |object| object == 0 || members.has(object);
+            numbers(part, at, count, admits, give)
+        }
     }
-    Ok(at)
-}
-
-/// Whether one of the sorted ranges has the number.
-fn within(ranges: &[Range<u64>], number: u64) -> bool {
-    let next = ranges.partition_point(|range| range.end <= number);
-    ranges.get(next).is_some_and(|range| range.start <= number)
 }
 
 /// The chunk must end where its last value did.
@@ -170,20 +231,34 @@ fn size(part: &[u8], at: usize) -> Result<(u64, usize), Fault> {
 }
 
 /// Reads a v64 that has to lie within the chunk, its padding too.
-#[inline]
+#[inline(always)]
 fn number(part: &[u8], at: usize) -> Result<(u64, usize), Fault> {
     v64::read(part, at).map_err(|Cut| Fault::new(CHUNK, at))
 }
 
+/// A run of v64 numbers of which nothing is asked but that they are there.
+#[inline(always)]
+fn passed(part: &[u8], start: usize, count: u64) -> Step {
+    let (left, at) = v64::pass(part, start, count);
+    numbers(part, at, left, |_| true, |_| ())
+}
+
 /// A run of v64 numbers that all have to be admitted.
-#[inline]
-fn numbers(part: &[u8], start: usize, count: u64, admits: impl Fn(u64) -> bool) -> Step {
+#[inline(always)]
+fn numbers(
+    part: &[u8],
+    start: usize,
+    count: u64,
+    admits: impl Fn(u64) -> bool,
+    mut give: impl FnMut(u64),
+) -> Step {
     let mut at = start;
     for _ in 0..count {
         let (value, next) = number(part, at)?;
         if !admits(value) {
             return Err(Fault::new(REFERENCE, at));
         }
+        give(value);
         at = next;
     }
     Ok(at)
@@ -201,12 +276,20 @@ fn fixed<const WIDTH: usize>(part: &[u8], at: usize, count: u64) -> Step {
 fn bools(part: &[u8], at: usize, count: u64) -> Step {
     let rest = &part[at..];
     let there = rest.len().min(usize::try_from(count).unwrap_or(usize::MAX));
-    let wrong = rest[..there]
-        .iter()
-        .position(|&byte| byte != 0x00 && byte != 0xFF);
-    match wrong {
+    match wrong_bool(&rest[..there]) {
         Some(index) => Err(Fault::new(VALUE, at + index)),
         None if (there as u64) < count => Err(Fault::new(CHUNK, at + there)),
         None => Ok(at + there),
     }
+}
+
+/// Where the first byte is that is no bool.
+fn wrong_bool(bytes: &[u8]) -> Option<usize> {
+    let is_wrong = |byte: u8| byte != 0x00 && byte != 0xFF;
+    // To look at all of a block is quicker than to stop within it.
+    let is_right = |block: &&[u8; 64]| !block.iter().fold(false, |any, &byte| any | is_wrong(byte));
+    let (blocks, _) = bytes.as_chunks();
+    let passed = 64 * blocks.iter().take_while(is_right).count();
+    let wrong = bytes[passed..].iter().position(|&byte| is_wrong(byte))?;
+    Some(passed + wrong)
 }

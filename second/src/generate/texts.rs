@@ -5,7 +5,6 @@ use super::{annotations, good, maps, neighbours, rules, Case};
 use crate::bounds;
 use crate::draft;
 use crate::listing;
-use crate::reader;
 use crate::v64;
 
 /// The listing of file E.
@@ -17,8 +16,7 @@ const BAD: u8 = 20;
 
 /// The listing of a file, if it is accepted and not too long to be of use.
 pub fn listing_of(file: &[u8]) -> Option<Vec<u8>> {
-    let ledger = reader::read(file).ok()?;
-    listing::print(&ledger, 8 << 20)
+    listing::print(file, 8 << 20).ok()?
 }
 
 /// Listings with a known answer.

@@ -5,9 +5,9 @@ use super::{fault, Fault};
 
 pub const PLACES: &[Fault] = &[
     fault!("14 at an annotation: its first number's start, not the second's",
-        "values.rs": "if !null && !pools.has(name, object) {\n            return Err(Fault::new(REFERENCE, «at»));" => "second"),
+        "values.rs": "if !null && !pools.has(self.ledger, name, object) {\n                return Err(Fault::new(REFERENCE, «at»));" => "second"),
     fault!("14 at an annotation: its own start, not that of the array",
-        "values.rs": "if !null && !pools.has(name, object) {\n            return Err(Fault::new(REFERENCE, «at»));" => "start"),
+        "values.rs": "if !null && !pools.has(self.ledger, name, object) {\n                return Err(Fault::new(REFERENCE, «at»));" => "start"),
     fault!("12 at an annotation's second number: that number's start, not the first's",
         "values.rs": "let (object, next) = «number(part, second)?»;" => "number(part, second).map_err(|fault| Fault::new(fault.number, at))?"),
     fault!("3 at a size: that number's start, not the chunk's",
@@ -17,9 +17,9 @@ pub const PLACES: &[Fault] = &[
     fault!("a fault in what a key leads to: where it is, not where the key begins",
         "values.rs": "«at = self.run(first, at, 1)?;\n            at = self.map(rest, at)?;»" => "let key = at; at = self.run(first, at, 1)?; at = self.map(rest, at).map_err(|fault| Fault::new(fault.number, key))?;"),
     fault!("a fault in a map: where it is, not where the map begins",
-        "values.rs": "for _ in 0..values {\n            at = «self.map(types, at)?»;" => "self.map(types, at).map_err(|fault| Fault::new(fault.number, at))?"),
+        "values.rs": "self.sink.begin();\n            at = «self.map(types, at)?»;" => "self.map(types, at).map_err(|fault| Fault::new(fault.number, at))?"),
     fault!("left-over bytes behind maps: the first of them, not the chunk's start",
-        "values.rs": "at = self.map(types, at)?;\n        }\n        «filled(self.part, at)»" => "filled(self.part, at).map_err(|_| Fault::new(CHUNK, 0))"),
+        "values.rs": "at = self.map(types, at)?;\n            self.sink.end();\n        }\n        «filled(self.part, at)»" => "filled(self.part, at).map_err(|_| Fault::new(CHUNK, 0))"),
     fault!("a wrong number of types: that number's start, not the kind's",
         "reader.rs": "20 => «return self.map(block)»," => "return self.map(block).map_err(|refusal| match refusal.number { KIND if refusal.place == number.place as u64 + 1 => Refusal::at(KIND, number.place), _ => refusal })"),
     fault!("an element kind of a map that is none: its own start, not the number of types'",
