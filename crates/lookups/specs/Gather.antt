@@ -6,11 +6,12 @@ use mathlib.Core.List.{List, [], _∷_, _++_}
 use Prim.Native.Nat.{ℕ, zero, suc, _+_, _-_, _≤_, _<_}
 use native.Mathlib.Numerals.{add-one}
 use native.Mathlib.Omega.{arith}
-use native.Mathlib.Nat.{add-zero}
+use native.Mathlib.Nat.{lt-of-not-le}
+use native.Mathlib.Decide.{decLe}
 use lib.Dec.{leb}
 use lib.ListN.{length, getD, take, drop, set, length-set, length-take, length-drop}
-use lib.Seq.{length-take-le, take-suc-set, take-set-le, drop-set-add, drop-cons}
-use borrow.Author.Tests.{eq-eqb, ne-eqb}
+use lib.Seq.{length-take-le, take-suc-set, take-set-le, drop-set-add, drop-cons, set-getD}
+use borrow.Author.Tests.{eq-eqb, ne-eqb, le-leb, lt-leb}
 use Rattle.paper.specs.Reader.{if_then_else_}
 use Rattle.paper.specs.Lists.{any, total}
 use Rattle.paper.specs.Ledger.{Range, of?, holds?}
@@ -49,7 +50,8 @@ pub record GatheredFrom (t : ℕ) (log : List Range) (from : ℕ) (first₀ last
   pub last-long : length last ≡ 1024
   pub first-kept : take from first ≡ take from first₀
   pub last-kept : take from last ≡ take from last₀
-  pub count : k ≡ from + countOf t log
+  pub begins : from ≤ k
+  pub count : k ≤ from + countOf t log
   pub objects-are : (n : ℕ) → inRanges (between from k first) (between from k last) n ≡ any (holds? t n) log
 
 -- at the front
@@ -87,7 +89,7 @@ pub record Gathering (t : ℕ) (log : List Range) (from : ℕ) (first₀ last₀
   pub last-kept : take from last ≡ take from last₀
   pub begins : from ≤ k
   pub room : from + countOf t log ≤ 1024
-  pub count : k + countOf t (drop i log) ≡ from + countOf t log
+  pub count : k + countOf t (drop i log) ≤ from + countOf t log
   pub whole : (n : ℕ) → (inRanges (between from k first) (between from k last) n || any (holds? t n) (drop i log)) ≡ any (holds? t n) log
 
 or-false : (x : Bool) → (x || false) ≡ x
@@ -120,7 +122,7 @@ gathering-start t log from first last p q few =
       last-kept = refl;
       begins = omega arith;
       room = few;
-      count = refl;
+      count = omega arith;
       whole = λ n. ap (λ (l : List ℕ). inRanges l (between from from last) n || any (holds? t n) log) (between-none from first);
     }
 
@@ -133,6 +135,76 @@ between-more l from k x h lt =
     rw (one, ap (λ (i : ℕ). drop from (set l i x)) at, drop-set-add from l j x)
     (take-suc-set (drop from l) j x (rw length-drop (omega arith)))
 
+-- ── a range more, which may go on from the one before it ──
+
+-- it stands behind those from a place on up to k, or within the last of them
+pub record RangeAdded (from k begin end : ℕ) (first₀ last₀ first last : List ℕ) (k′ : ℕ) : Type 0 where
+  pub first-long : length first ≡ 1024
+  pub last-long : length last ≡ 1024
+  pub first-kept : take from first ≡ take from first₀
+  pub last-kept : take from last ≡ take from last₀
+  pub begins : from ≤ k′
+  pub count : k′ ≤ k + 1
+  pub objects-are : (n : ℕ) → inRanges (between from k′ first) (between from k′ last) n ≡ (inRanges (between from k first₀) (between from k last₀) n || (leb (begin + 1) n && leb n end))
+
+-- the objects up to b and those behind it are all of them
+joined : (a b d n : ℕ) → a ≤ b → b ≤ d → ((leb (a + 1) n && leb n b) || (leb (b + 1) n && leb n d)) ≡ (leb (a + 1) n && leb n d)
+joined a b d n h l =
+    elim (decLe (a + 1) n) [
+      | yes behind ↦ rw (le-leb (a + 1) n behind)
+          (elim (decLe n b) [
+            | yes up ↦ rw (le-leb n b up, le-leb n d (omega arith))
+            | no over ↦ rw (lt-leb n b (lt-of-not-le over), le-leb (b + 1) n (omega (arith, lt-of-not-le over)))
+          ])
+      | no before ↦ rw (lt-leb (a + 1) n (lt-of-not-le before), lt-leb (b + 1) n (omega (arith, lt-of-not-le before)))
+    ]
+
+module _ (from k begin end : ℕ) (first last : List ℕ) (p : length first ≡ 1024) (q : length last ≡ 1024) (begins : from ≤ k) (room : k < 1024) (up : begin ≤ end) where
+  same-long : (j : ℕ) → j ≤ 1024 → length (between from j first) ≡ length (between from j last)
+  same-long j h = between-length from j first (omega arith) ∙ sym (between-length from j last (omega arith))
+
+  pub added-behind : RangeAdded from k begin end first last (set first k begin) (set last k end) (k + 1)
+  added-behind =
+      record {
+        first-long = length-set first k _ ∙ p;
+        last-long = length-set last k _ ∙ q;
+        first-kept = take-set-le from first k _ begins;
+        last-kept = take-set-le from last k _ begins;
+        begins = omega arith;
+        count = omega arith;
+        objects-are = λ n. rw (between-more first from k begin begins (omega arith), between-more last from k end begins (omega arith)) (ranges-snoc (between from k first) (between from k last) begin end n (same-long k (omega arith)));
+      }
+
+  module _ (some : from < k) (on : getD last (k - 1) 0 ≡ begin) (low : getD first (k - 1) 0 ≤ begin) where
+    last-one : (l : List ℕ) (x : ℕ) → length l ≡ 1024 → between from k (set l (k - 1) x) ≡ between from (k - 1) l ++ x ∷ []
+    last-one l x long = let one : k - 1 + 1 ≡ k = omega arith in rw one at (between-more l from (k - 1) x (omega arith) (omega arith))
+
+    as-it-was : (l : List ℕ) → length l ≡ 1024 → between from k l ≡ between from (k - 1) l ++ getD l (k - 1) 0 ∷ []
+    as-it-was l long = ap (between from k) (sym (set-getD l (k - 1) 0)) ∙ last-one l (getD l (k - 1) 0) long
+
+    pub added-longer : RangeAdded from k begin end first last first (set last (k - 1) end) k
+    added-longer =
+        record {
+          first-long = p;
+          last-long = length-set last (k - 1) _ ∙ q;
+          first-kept = refl;
+          last-kept = take-set-le from last (k - 1) _ (omega arith);
+          begins = begins;
+          count = omega arith;
+          objects-are = λ n.
+              let a = getD first (k - 1) 0 in
+              let others = inRanges (between from (k - 1) first) (between from (k - 1) last) n in
+              let long = same-long (k - 1) (omega arith) in
+              let after : inRanges (between from k first) (between from k (set last (k - 1) end)) n ≡ (others || (leb (a + 1) n && leb n end)) =
+              rw (as-it-was first p, last-one last end q) (ranges-snoc (between from (k - 1) first) (between from (k - 1) last) a end n long) in
+              let before : inRanges (between from k first) (between from k last) n ≡ (others || (leb (a + 1) n && leb n begin)) =
+              rw (as-it-was first p, as-it-was last q, on) (ranges-snoc (between from (k - 1) first) (between from (k - 1) last) a begin n long) in
+              after
+              ∙ ap (λ (b : Bool). others || b) (sym (joined a begin end n low up))
+              ∙ sym (or-assoc others (leb (a + 1) n && leb n begin) (leb (begin + 1) n && leb n end))
+              ∙ ap (λ (b : Bool). b || (leb (begin + 1) n && leb n end)) (sym before);
+        }
+
 module _ {t : ℕ} {log : List Range} {from : ℕ} {first₀ last₀ first last : List ℕ} {i k : ℕ} (G : Gathering t log from first₀ last₀ first last i k) where
   pub gathered : length log ≤ i → GatheredFrom t log from first₀ last₀ first last k
   unfolding countOf
@@ -142,6 +214,7 @@ module _ {t : ℕ} {log : List Range} {from : ℕ} {first₀ last₀ first last 
         last-long = G .last-long;
         first-kept = G .first-kept;
         last-kept = G .last-kept;
+        begins = G .begins;
         count = omega (arith, G .count, total-end (of? t) log i (λ r. 1) done);
         objects-are = λ n. sym (or-false _) ∙ rw (any-end (holds? t n) log i done) at (G .whole n);
       }
@@ -178,32 +251,22 @@ module _ {t : ℕ} {log : List Range} {from : ℕ} {first₀ last₀ first last 
       pub gather-room : k < 1024
       gather-room = omega (arith, G .count, G .room, one-more)
 
-      -- of the type: it goes behind those gathered so far
-      pub gathering-taken : Gathering t log from first₀ last₀ (set first k (x .first)) (set last k (x .first + x .count)) (i + 1) (k + 1)
+      -- of the type: it is added to those gathered so far
+      pub gathering-taken : {first₁ last₁ : List ℕ} {k₁ : ℕ} → RangeAdded from k (x .first) (x .first + x .count) first last first₁ last₁ k₁ → Gathering t log from first₀ last₀ first₁ last₁ (i + 1) k₁
       unfolding any holds? of?
-      gathering-taken =
+      gathering-taken A =
           record {
-            first-long = length-set first k _ ∙ G .first-long;
-            last-long = length-set last k _ ∙ G .last-long;
-            first-kept = take-set-le from first k _ (G .begins) ∙ G .first-kept;
-            last-kept = take-set-le from last k _ (G .begins) ∙ G .last-kept;
-            begins = omega (arith, G .begins);
+            first-long = A .first-long;
+            last-long = A .last-long;
+            first-kept = A .first-kept ∙ G .first-kept;
+            last-kept = A .last-kept ∙ G .last-kept;
+            begins = A .begins;
             room = G .room;
-            count = omega (arith, G .count, one-more);
-            whole = λ n. front n ∙ or-assoc (inRanges (between from k first) (between from k last) n) _ _ ∙ ap (λ (b : Bool). inRanges (between from k first) (between from k last) n || b) (sym (rest n)) ∙ G .whole n;
+            count = omega (arith, A .count, G .count, one-more);
+            whole = λ n. ap (λ (b : Bool). b || any (holds? t n) (drop (i + 1) log)) (A .objects-are n) ∙ or-assoc (inRanges (between from k first) (between from k last) n) _ _ ∙ ap (λ (b : Bool). inRanges (between from k first) (between from k last) n || b) (sym (rest n)) ∙ G .whole n;
           }
         where
           rest : (n : ℕ) → any (holds? t n) (drop i log) ≡ ((leb (x .first + 1) n && leb n (x .first + x .count)) || any (holds? t n) (drop (i + 1) log))
           rest n =
               let next : drop i log ≡ x ∷ drop (i + 1) log = drop-cons log i noRange lt ∙ rw (← is, add-one) refl in
               ap (any (holds? t n)) next ∙ rw (eq-eqb (x .type) t same)
-
-          front :
-              (n : ℕ)
-              → (inRanges (between from (k + 1) (set first k (x .first))) (between from (k + 1) (set last k (x .first + x .count))) n || any (holds? t n) (drop (i + 1) log))
-              ≡ ((inRanges (between from k first) (between from k last) n || (leb (x .first + 1) n && leb n (x .first + x .count))) || any (holds? t n) (drop (i + 1) log))
-          front n =
-              let a : k < length first = omega (arith, gather-room, G .first-long) in
-              let b : k < length last = omega (arith, gather-room, G .last-long) in
-              let long : length (between from k first) ≡ length (between from k last) = between-length from k first (omega arith) ∙ sym (between-length from k last (omega (arith, gather-room, G .last-long))) in
-              rw (between-more first from k (x .first) (G .begins) a, between-more last from k (x .first + x .count) (G .begins) b, ranges-snoc (between from k first) (between from k last) (x .first) (x .first + x .count) n long)

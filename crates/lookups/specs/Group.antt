@@ -15,7 +15,7 @@ use borrow.Author.Tests.{le-leb, lt-leb, lt-ltb, le-ltb, eq-eqb, ne-eqb}
 use Rattle.paper.specs.Reader.{if_then_else_}
 use Rattle.paper.specs.Lists.{any, total}
 use Rattle.paper.specs.Ledger.{Range, of?, holds?}
-use Rattle.table.specs.Rows.{cells, seg}
+use Rattle.table.specs.Segs.{cells, seg}
 use Rattle.table.specs.RowLaws.{length-tab, getD-tab}
 use Rattle.table.specs.View.{rangeOf, logOf}
 use Rattle.table.specs.Answers.{noRange}
@@ -100,7 +100,7 @@ module _ {log : List Range} {starts first last : List ℕ} {t k : ℕ} (G : Grou
 
   pub group-on : t < 32 → {first₁ last₁ : List ℕ} {k₁ : ℕ} → GatheredFrom t log k first last first₁ last₁ k₁ → Grouping log (set starts (t + 1) k₁) first₁ last₁ (t + 1) k₁
   group-on lt {first₁} {last₁} {k₁} F =
-      let more : k ≤ k₁ = omega (arith, F .count) in
+      let more : k ≤ k₁ = F .begins in
       record {
         starts-long = length-set starts (t + 1) k₁ ∙ G .starts-long;
         first-long = F .first-long;

@@ -1,13 +1,41 @@
 // The ranges of a type, and of all types, in two lists: the i-th range begins behind object first[i] and ends with object last[i].
 ghost use mathlib.Core.Path.{_≡_};
-ghost use Prim.Native.Nat.{_+_, _≤_};
+ghost use Prim.Native.Nat.{_+_, _<_, _≤_};
 ghost use lib.ListN.{length};
 ghost use Rattle.table.specs.View.{logOf, Ok};
 ghost use Rattle.lookups.specs.Low.{Low};
-ghost use Rattle.lookups.specs.Gather.{countOf, GatheredFrom, Gathered};
+ghost use Rattle.lookups.specs.Gather.{countOf, RangeAdded, GatheredFrom, Gathered};
 ghost use Rattle.lookups.specs.Group.{AllGrouped};
 use table::rows::range_at;
 use table::rows::ranges;
+
+// The range of the objects behind number `begin` up to number `end`, behind those that stand from a place on up to k: the place
+// behind the last. Where it goes on from the one before it, that one is made longer. The ranges of a base type all do, block after
+// block, and so make one.
+fn add_range(
+    first: &mut [u32],
+    last: &mut [u32],
+    from: usize,
+    k: usize,
+    begin: u32,
+    end: u32,
+) -> usize
+    requires { ⌜ (length (now first) ≡ 1024) × (length (now last) ≡ 1024) × (from ≤ k) × (k < 1024) × (begin ≤ end) ⌝ }
+    ensures { λ r. ⌜ RangeAdded from k begin end (now (first .entry)) (now (last .entry)) (now (first .exit)) (now (last .exit)) r ⌝ }
+{
+    if from < k {
+        let j = k - 1;
+        if last[j] == begin {
+            if first[j] <= begin {
+                last[j] = end;
+                return k;
+            }
+        }
+    }
+    first[k] = begin;
+    last[k] = end;
+    k + 1
+}
 
 // The ranges of type t, which come from a place on in the log's order: the place behind them. What stands before is left alone.
 fn gather_from(work: &[u32], t: u64, first: &mut [u32], last: &mut [u32], from: usize) -> usize
@@ -21,9 +49,7 @@ fn gather_from(work: &[u32], t: u64, first: &mut [u32], last: &mut [u32], from: 
     while i < n {
         let r = range_at(work, i);
         if r.typ as u64 == t {
-            first[k] = r.first;
-            last[k] = r.first + r.count;
-            k += 1;
+            k = add_range(first, last, from, k, r.first, r.first + r.count);
         }
         i += 1;
     }

@@ -24,18 +24,14 @@ gather-from-spec =
     (λ c. (omega arith, gathering-start _ _ _ _ _ (c .before .before .before .before .pre .1 .0) (c .before .before .before .before .pre .1 .1) (c .before .before .before .before .pre .1 .2)))
     (λ c κs. search needs)
     (λ c. search needs)
-    (λ c. search needs)
-    (λ c. let room = gather-room (c .before .before .before .before .loop .inv .1) (omega arith) (c .before .before .range-at .ensures .0) (c .if1 .taken) in omega (arith, c .before .before .before .before .loop .inv .1 .first-long))
-    (λ c. omega (arith, end-fits (c .before .before .before .before .before .loop .inv .1) (omega arith) (c .before .before .before .range-at .ensures .0) (c .before .before .before .before .before .before .before .before .before .before .pre .0 .1) (omega arith)))
-    (λ c. search needs)
-    (λ c. let room = gather-room (c .before .before .before .before .before .loop .inv .1) (omega arith) (c .before .before .before .range-at .ensures .0) (c .before .if1 .taken) in omega (arith, c .before .before .before .before .before .loop .inv .1 .last-long))
-    (λ c. search needs)
+    (λ c. omega (arith, end-fits (c .before .before .before .before .before .before .before .loop .inv .1) (omega arith) (c .before .before .before .before .before .range-at .ensures .0) (c .before .before .before .before .before .before .before .before .before .before .before .before .pre .0 .1) (omega arith)))
+    (λ c κs. let g = c .before .before .before .before .before .before .before .loop .inv .1 in (g .first-long, g .last-long, g .begins, gather-room g (omega arith) (c .before .before .before .before .before .range-at .ensures .0) (c .before .before .before .if1 .taken), omega arith))
     (λ c. search needs)
     (λ c. search needs)
     (λ c. (
       omega arith,
       ⊎-elim
-          (λ w. rw (w .2, w .3, w .4) (gathering-taken (c .before .before .before .before .loop .inv .1) (omega arith) (c .before .before .range-at .ensures .0) (w .0 .taken)))
+          (λ w. rw (w .9, w .10, w .11) (gathering-taken (c .before .before .before .before .loop .inv .1) (omega arith) (c .before .before .range-at .ensures .0) (w .0 .taken) (w .4 .ensures)))
           (λ w. rw (w .1, w .2, w .3) (gathering-passed (c .before .before .before .before .loop .inv .1) (omega arith) (c .before .before .range-at .ensures .0) (w .0 .left)))
           (c .if1 .came),
     ))
