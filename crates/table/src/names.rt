@@ -1,12 +1,13 @@
 // Types and fields by their names. A name is lent, or is itself a part of the source.
 ghost use mathlib.Core.Path.{_≡_};
 ghost use mathlib.Core.Bool.{true};
-ghost use Prim.Native.Nat.{_-_, _≤_};
-ghost use lib.ListN.{length, drop};
+ghost use Prim.Native.Nat.{_+_, _-_, _*_, _%_, _<_, _≤_};
+ghost use mathlib.Core.List.{[]};
+ghost use lib.ListN.{length, getD, drop};
 ghost use lib.Seq.{slice};
 ghost use Rattle.paper.specs.Lists.{same, place, placeNamed, places};
 ghost use Rattle.paper.specs.Ledger.{owns?, called?};
-ghost use Rattle.table.specs.View.{namesOf, titlesOf, fldsOf, Ok, Holds};
+ghost use Rattle.table.specs.View.{strsOf, namesOf, titlesOf, fldsOf, Ok, sumOf, Holds};
 ghost use Rattle.table.specs.Answers.{fieldIn};
 ghost use Rattle.table.specs.Asks.{found, Standing, Spotted};
 use super::rows::FieldRow;
@@ -15,8 +16,10 @@ use super::rows::field_at;
 use super::rows::fields;
 use super::rows::range_at;
 use super::rows::ranges;
+use super::rows::string_at;
 use super::rows::type_at;
 use super::rows::types;
+use std::num::wrapping_add_u16;
 
 // A place among the types or the fields.
 pub enum Found {
@@ -33,7 +36,29 @@ fn length_of(start: u32, end: u32) -> usize
     (end - start) as usize
 }
 
-// The part of the source has the name's bytes: it is as long, and no byte differs.
+// A byte, times its place in 256.
+fn weighed(b: u8, i: usize) -> u16
+    ensures { λ r. ⌜ r ≡ b * (1 + i % 256) ⌝ }
+{
+    (b as u16) * (1 + (i % 256) as u16)
+}
+
+// The sum of a name's bytes, each times its place, by which most names are told apart without a look at their bytes. It is
+// kept with each type and field. A compiler can take many bytes at a time.
+pub fn name_sum(name: &[u8]) -> u32
+    ensures { λ r. ⌜ r ≡ sumOf (now (name .entry)) ⌝ }
+{
+    let mut sum = 0;
+    let mut i = 0;
+    while i < name.len() {
+        sum = wrapping_add_u16(sum, weighed(name[i], i));
+        i += 1;
+    }
+    sum as u32
+}
+
+// The part of the source has the name's bytes: it is as long, and no byte differs. All are looked at, many at a time: where the
+// sums are equal the names mostly are.
 fn is_name(src: &[u8], start: u32, end: u32, name: &[u8]) -> bool
     requires { ⌜ end ≤ length (now src) ⌝ }
     ensures { λ r. ⌜ r ≡ same (now (name .entry)) (slice start end (now (src .entry))) ⌝ }
@@ -42,14 +67,25 @@ fn is_name(src: &[u8], start: u32, end: u32, name: &[u8]) -> bool
         return false;
     }
     let from = start as usize;
+    let mut alike = true;
     let mut i = 0;
     while i < name.len() {
         if name[i] != src[from + i] {
-            return false;
+            alike = false;
         }
         i += 1;
     }
-    true
+    alike
+}
+
+// The part of the source, with this sum, has the bytes of the name with that sum. Equal names have equal sums.
+fn has_name(src: &[u8], start: u32, end: u32, there: u32, name: &[u8], sum: u32) -> bool
+    requires { ⌜ end ≤ length (now src) ⌝ }
+    requires { ⌜ there ≡ sumOf (slice start end (now src)) ⌝ }
+    requires { ⌜ sum ≡ sumOf (now name) ⌝ }
+    ensures { λ r. ⌜ r ≡ same (now (name .entry)) (slice start end (now (src .entry))) ⌝ }
+{
+    there == sum && is_name(src, start, end, name)
 }
 
 // The type with a lent name.
@@ -58,10 +94,11 @@ pub fn find_type_called(src: &[u8], work: &[u32], name: &[u8]) -> Found
     ensures { λ r. ⌜ found r ≡ place (same (now (name .entry))) 0 (namesOf (now (src .entry)) (now (work .entry))) ⌝ }
 {
     let n = types(work);
+    let sum = name_sum(name);
     let mut i = 0;
     while i < n {
         let row = type_at(work, i);
-        if is_name(src, row.start, row.end, name) {
+        if has_name(src, row.start, row.end, row.sum, name, sum) {
             return Found::At(i);
         }
         i += 1;
@@ -131,11 +168,13 @@ pub fn find_type(src: &[u8], work: &[u32], name: Span) -> Found
     find_type_called(src, work, &src[from..to])
 }
 
-fn is_called(src: &[u8], row: FieldRow, t: u32, name: &[u8]) -> bool
+fn is_called(src: &[u8], row: FieldRow, t: u32, name: &[u8], sum: u32) -> bool
     requires { ⌜ row .end ≤ length (now src) ⌝ }
+    requires { ⌜ row .sum ≡ sumOf (slice (row .start) (row .end) (now src)) ⌝ }
+    requires { ⌜ sum ≡ sumOf (now name) ⌝ }
     ensures { λ r. ⌜ r ≡ called? t (now (name .entry)) (fieldIn row) (slice (row .start) (row .end) (now (src .entry))) ⌝ }
 {
-    row.owner == t && is_name(src, row.start, row.end, name)
+    row.owner == t && has_name(src, row.start, row.end, row.sum, name, sum)
 }
 
 // The field of type t with a lent name.
@@ -144,10 +183,11 @@ pub fn find_field_called(src: &[u8], work: &[u32], t: u32, name: &[u8]) -> Found
     ensures { λ r. ⌜ found r ≡ placeNamed (called? t (now (name .entry))) 0 (fldsOf (now (work .entry))) (titlesOf (now (src .entry)) (now (work .entry))) ⌝ }
 {
     let n = fields(work);
+    let sum = name_sum(name);
     let mut i = 0;
     while i < n {
         let row = field_at(work, i);
-        if is_called(src, row, t, name) {
+        if is_called(src, row, t, name, sum) {
             return Found::At(i);
         }
         i += 1;
@@ -199,4 +239,16 @@ pub fn fields_of(work: &[u32], t: u32) -> u32
         i += 1;
     }
     k
+}
+
+// The sum of string n, counted from 1, for the row of what it names.
+pub fn string_sum(src: &[u8], work: &[u32], n: u64) -> u32
+    requires { ⌜ Holds (now src) (now work) ⌝ }
+    requires { ⌜ (0 < n) × (n ≤ getD (now work) 0 0) ⌝ }
+    ensures { λ r. ⌜ r ≡ sumOf (getD (strsOf (now (src .entry)) (now (work .entry))) (n - 1) []) ⌝ }
+{
+    let name = string_at(work, (n - 1) as u32);
+    let to = name.end as usize;
+    let from = to - length_of(name.start, name.end);
+    name_sum(&src[from..to])
 }
