@@ -1,6 +1,6 @@
 -- A name held against a part of the bytes, from the front. Assumes nothing.
 use mathlib.Core.Path.{_≡_, refl, sym, ap, ap₂, _∙_, subst}
-use mathlib.Core.Option.{some}
+use mathlib.Core.Option.{none, some}
 use mathlib.Core.Bool.{Bool, true, false, false≢true, _&&_, and-false, and-true}
 use mathlib.Core.Logic.{⊎-elim}
 use mathlib.Core.List.{List, [], _∷_}
@@ -16,10 +16,11 @@ use Rattle.paper.specs.Lists.{same, place}
 use Rattle.table.specs.RowLaws.{lt-or-ge}
 use Rattle.table.specs.View.{namesOf, summed, sumOf, Holds}
 use Rattle.table.specs.Answers.{Named}
-use Rattle.table.specs.Asks.{Standing, Spotted}
+use Rattle.table.specs.Asks.{Standing, Other, Unseen, Missing, Spotted}
+use Rattle.table.specs.Loops.{place-on, place-end}
 use Rattle.table.specs.declared.rows.Span.{Span}
-use Rattle.table.specs.declared.names.Found.{Found}
-use Rattle.table.specs.declared.names.Found.the-variants.{At}
+use Rattle.table.specs.declared.names.Spot.{Spot}
+use Rattle.table.specs.declared.names.Spot.the-variants.{At, Nothing}
 
 -- lists of different lengths are not the same
 pub lengths-differ : (xs ys : List ℕ) → (length xs ≡ length ys → ⊥) → same xs ys ≡ false
@@ -130,5 +131,35 @@ standing {l} {i} {a} {b} {sum} {name} lt row p q =
           sym (ap (λ (x : List ℕ). place (same x) 0 (namesOf f l)) (sym (row .is f ∙ rw (p, q) refl)) ∙ h .names-apart .first i (omega (arith, h .names-count)));
     }
 
-pub spotted : {f l : List ℕ} (name : Span) → Holds f l → {r : Found} {i : ℕ} → Spotted l name r → r ≡ At i → some i ≡ place (same (slice (name .start) (name .end) f)) 0 (namesOf f l)
-spotted {f} {l} name h s e = subst (Spotted l name) e s .is f h
+module _ {f l : List ℕ} (name : Span) (h : Holds f l) {r : Spot} (told : Spotted l name r) where
+  pub spotted : {i : ℕ} → r ≡ At i → some i ≡ place (same (slice (name .start) (name .end) f)) 0 (namesOf f l)
+  spotted e = subst (Spotted l name) e told .is f h
+
+  pub not-spotted : name .end ≤ length f → r ≡ Nothing → none ≡ place (same (slice (name .start) (name .end) f)) 0 (namesOf f l)
+  not-spotted in-f e = subst (Spotted l name) e told .is f h in-f
+
+-- ── types whose names are as long ──
+
+pub other-length : {l : List ℕ} {i a b sum n : ℕ} → Named namesOf l i a b sum → (b - a ≡ n → ⊥) → Other l i n
+other-length {l} {i} {a} {b} row ne =
+    record {
+      is = λ f h name e.
+          sym (ap (same name) (row .is f) ∙ name-length name f a b (row .within f h) (λ q. ne (sym q ∙ e)));
+    }
+
+pub unseen-start : {l : List ℕ} {n : ℕ} → Unseen l n 0
+unseen-start = record { is = λ f h name e. refl }
+
+pub unseen-on : {l : List ℕ} {n i : ℕ} → i < getD l 1 0 → Other l i n → Unseen l n i → Unseen l n (i + 1)
+unseen-on {l} {n} {i} lt other before =
+    record {
+      is = λ f h name e. before .is f h name e ∙ place-on (same name) (namesOf f l) i [] (omega (arith, h .names-count)) refl (other .is f h name e) refl;
+    }
+
+pub missing : {l : List ℕ} {n i : ℕ} {name : Span} → n ≡ name .end - name .start → getD l 1 0 ≤ i → Unseen l n i → Missing l name
+missing {l} {n} {i} {name} is all before =
+    record {
+      is = λ f h in-f.
+          let x = slice (name .start) (name .end) f in
+          sym (before .is f h x (length-slice (name .start) (name .end) f in-f ∙ sym is) ∙ place-end (same x) (namesOf f l) i (omega (arith, h .names-count)));
+    }

@@ -1,6 +1,6 @@
 // Types and fields by their names. A name is lent, or is itself a part of the source.
 ghost use mathlib.Core.Path.{_≡_};
-ghost use mathlib.Core.Bool.{true};
+ghost use mathlib.Core.Bool.{true, false};
 ghost use Prim.Native.Nat.{_+_, _-_, _*_, _%_, _<_, _≤_};
 ghost use mathlib.Core.List.{[]};
 ghost use lib.ListN.{length, getD, drop};
@@ -9,7 +9,7 @@ ghost use Rattle.paper.specs.Lists.{same, place, placeNamed, places};
 ghost use Rattle.paper.specs.Ledger.{owns?, called?};
 ghost use Rattle.table.specs.View.{strsOf, namesOf, titlesOf, fldsOf, Ok, sumOf, Holds};
 ghost use Rattle.table.specs.Answers.{fieldIn};
-ghost use Rattle.table.specs.Asks.{found, Standing, Spotted};
+ghost use Rattle.table.specs.Asks.{found, Standing, Other, Spotted};
 use super::rows::FieldRow;
 use super::rows::Span;
 use super::rows::field_at;
@@ -24,6 +24,13 @@ use std::num::wrapping_add_u16;
 // A place among the types or the fields.
 pub enum Found {
     At(u32),
+    Nothing,
+}
+
+// What the places of the types' names say of a name: the type that it is, that some type's name is as long, or that none is.
+pub enum Spot {
+    At(u32),
+    Alike,
     Nothing,
 }
 
@@ -115,7 +122,13 @@ fn stands_at(work: &[u32], i: u32, name: Span) -> bool
         return false;
     }
     let row = type_at(work, i);
-    row.start == name.start && row.end == name.end
+    if row.start != name.start {
+        return false;
+    }
+    if row.end != name.end {
+        return false;
+    }
+    true
 }
 
 // The type behind the one that was entered last. Entries mostly come in the order of the block before.
@@ -134,38 +147,59 @@ fn likely_type(work: &[u32]) -> u32
     0
 }
 
-// The type whose name stands at this place, if there is one.
-fn find_place(work: &[u32], name: Span) -> Found
+// Whether the name of type i has n bytes.
+fn is_long(work: &[u32], i: u32, n: usize) -> bool
+    requires { ⌜ Ok (now work) ⌝ }
+    requires { ⌜ i < getD (now work) 1 0 ⌝ }
+    ensures { λ r. ⌜ (r ≡ false → Other (now (work .entry)) i n) ⌝ }
+{
+    let row = type_at(work, i);
+    length_of(row.start, row.end) == n
+}
+
+// The type whose name stands at this place, if there is one. No byte is read.
+fn find_place(work: &[u32], name: Span) -> Spot
     requires { ⌜ Ok (now work) ⌝ }
     ensures { λ r. ⌜ Spotted (now (work .entry)) name r ⌝ }
 {
     let likely = likely_type(work);
     if stands_at(work, likely, name) {
-        return Found::At(likely);
+        return Spot::At(likely);
     }
     let n = types(work);
+    let long = length_of(name.start, name.end);
+    let mut alike = false;
     let mut i = 0;
     while i < n {
         if stands_at(work, i, name) {
-            return Found::At(i);
+            return Spot::At(i);
+        }
+        if is_long(work, i, long) {
+            alike = true;
         }
         i += 1;
     }
-    Found::Nothing
+    if alike {
+        return Spot::Alike;
+    }
+    Spot::Nothing
 }
 
-// The type whose name has the bytes of a part of the source.
+// The type whose name has the bytes of a part of the source. They are read only where a type's name is as long.
 pub fn find_type(src: &[u8], work: &[u32], name: Span) -> Found
     requires { ⌜ Holds (now src) (now work) ⌝ }
     requires { ⌜ name .end ≤ length (now src) ⌝ }
     ensures { λ r. ⌜ found r ≡ place (same (slice (name .start) (name .end) (now (src .entry)))) 0 (namesOf (now (src .entry)) (now (work .entry))) ⌝ }
 {
-    if let Found::At(i) = find_place(work, name) {
-        return Found::At(i);
+    match find_place(work, name) {
+        Spot::At(i) => Found::At(i),
+        Spot::Nothing => Found::Nothing,
+        Spot::Alike => {
+            let to = name.end as usize;
+            let from = to - length_of(name.start, name.end);
+            find_type_called(src, work, &src[from..to])
+        }
     }
-    let to = name.end as usize;
-    let from = to - length_of(name.start, name.end);
-    find_type_called(src, work, &src[from..to])
 }
 
 fn is_called(src: &[u8], row: FieldRow, t: u32, name: &[u8], sum: u32) -> bool
