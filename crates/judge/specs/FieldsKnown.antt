@@ -43,7 +43,7 @@ module _ (l : List ℕ) {t i : ℕ} (lt : i < fieldsIn l) {d : Field} (is : d �
     pub old-has-room : Ready l t i → duesIn l < 128
     old-has-room r = room-over (r .names) (r .holds) (r .still-open)
 
-    module _ {v : ℕ} (v-is : v ≡ valuesDue (d .kind) added) {l′ : List ℕ} (p : Pushed 4 7312 4 (dueCells i v 0) l l′) where
+    module _ {v : ℕ} (v-is : v ≡ valuesDue (d .kind) added) {l′ : List ℕ} (p : Pushed 4 7344 4 (dueCells i v 0) l l′) where
       is-step : (f : List ℕ) → addDue (said f l) (record { field = i; values = v }) 0 ≡ oldStep added t i (said f l)
       unfolding addDue oldStep addOld unsized oldDue owns? fieldAt if_then_else_
       is-step f = rw (← is, eq-eqb (d .owner) t mine, v-is)

@@ -91,7 +91,7 @@ module _ {f l : List ℕ} (h : Holds f l) (t n : ℕ) {at : ℕ} {a : NewRead} (
     unfolding if_then_else_
     new-unnamed broken = record { holds = h; says = sym (step-is ∙ rw (← read .first, ← called, broken)); still-open = tt }
 
-    module _ (kept : number? (fieldNameRules t (view f l)) (x .name) ≡ true) {l′ : List ℕ} (added : FieldAdded t n (x .name) (record { first = x .k; bits = x .a; last = x .e }) 0 l l′) where
+    module _ (kept : number? (fieldNameRules t (view f l)) (x .name) ≡ true) {l′ : List ℕ} (added : FieldAdded f t n (x .name) (record { first = x .k; bits = x .a; last = x .e }) 0 l l′) where
       got-is : newStep t n (said f l) f at ≡ got (addText t n (said f l) (read .value)) (c .at)
       unfolding if_then_else_
       got-is = step-is ∙ rw (← read .first, ← called, kept)
@@ -99,7 +99,7 @@ module _ {f l : List ℕ} (h : Holds f l) (t n : ℕ) {at : ℕ} {a : NewRead} (
       now-says : Now f l′ (addNew t n (said f l) (read .value) 0)
       now-says =
           let whole : record { kind = read .value .kind; name = x .name } ≡ read .value = λ i. record { kind = read .value .kind; name = called i } in
-          subst (λ (g : New). Now f l′ (addNew t n (said f l) g 0)) whole (added .says f h (read .value .kind) (sym (ap (λ (g : New). g .kind) (read .is))))
+          subst (λ (g : New). Now f l′ (addNew t n (said f l) g 0)) whole (added .says (read .value .kind) (sym (ap (λ (g : New). g .kind) (read .is))))
 
       pub new-got : {i : ℕ} → Open (said f l) t i → fieldsIn l < 128 → Stepped f l′ t (To c) (newStep t n (said f l) f at)
       unfolding addText

@@ -26,12 +26,11 @@ use Rattle.parse.specs.Answers.{headOf as listed, outType}
 use Rattle.parse.specs.declared.TypeLine.{TypeLine}
 use Rattle.parse.specs.declared.TypeRead.{TypeRead}
 use Rattle.parse.specs.declared.TypeRead.the-variants as type
-use Rattle.reader.specs.Sound.{Sound}
 use Rattle.reader.specs.Ruled.{Judged, refused-not-got, held}
 use Rattle.reader.specs.Keeping.{rules-hold, rules-break, number-as, judged-keeps, judged-breaks}
 use Rattle.reader.specs.CountLaws.{given-none}
 use Rattle.reader.specs.TopLaws.{or-due}
-use Rattle.reader.specs.Heads.{due, Resolved, outName, NameJudged, outAbove, SuperJudged, CountJudged, Placed, Enterable, Entered}
+use Rattle.reader.specs.Heads.{due, Resolved, outName, NameJudged, outAbove, SuperJudged, CountJudged, Placed, Entered}
 use Rattle.reader.specs.declared.heads.Name.{Name}
 use Rattle.reader.specs.declared.heads.Named.{Named}
 use Rattle.reader.specs.declared.heads.Named.the-variants as named
@@ -297,15 +296,15 @@ module _ {t l : List ℕ} (holds : Holds t l) (at : ℕ) {a : TypeRead} (read : 
         let S : HeadJudged (view t l) (listed line) head.Bad = rw isb at judged in
         record { told = record { read = rw (line-read, S .told) refl; holds = holds } }
 
-    module _ {top : Top} (isb : b ≡ head.Got top) (sound : Sound (said t l)) where
+    module _ {top : Top} (isb : b ≡ head.Got top) where
       kept : HeadKept (view t l) (listed line) top
       kept = let S : HeadJudged (view t l) (listed line) (head.Got top) = rw isb at judged in S .told
 
-      pub text-enterable : Enterable l top
-      text-enterable = record { names = t; holds = holds; sound = sound; placed = kept .placed }
+      pub text-placed : Placed (view t l) top
+      text-placed = kept .placed
 
-      pub text-entered : {l′ : List ℕ} → ((f : List ℕ) → Holds f l → Sound (said f l) → Placed (view f l) top → Entered f l l′ top) → HeadTold t l at (text.Got top (line .fields) c) l′
-      text-entered all =
+      pub text-entered : {l′ : List ℕ} → Entered t l l′ top → HeadTold t l at (text.Got top (line .fields) c) l′
+      text-entered entry =
           record {
-            told = record { head = listed line; read = line-read; keeps = kept .keeps; same = kept .same; entered = all t holds sound (kept .placed) };
+            told = record { head = listed line; read = line-read; keeps = kept .keeps; same = kept .same; entered = entry };
           }

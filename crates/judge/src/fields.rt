@@ -73,7 +73,7 @@ fn new_text(text: &[u8], p: Place, work: &mut [u32], t: u32, objects: u32) -> St
         bits: line.a,
         last: line.e,
     };
-    add_field(work, t, kind, name, objects, 0);
+    add_field(text, work, t, kind, name, objects, 0);
     Step::To(next)
 }
 

@@ -146,6 +146,6 @@ pub fn head_text(text: &[u8], p: Place, work: &mut [u32]) -> HeadText
     let Judgement::Got(top) = b else {
         return HeadText::Bad;
     };
-    enter_top(work, top);
+    enter_top(text, work, top);
     HeadText::Got(top, line.fields, next)
 }

@@ -163,8 +163,8 @@ none-far : (l : List ℕ) (t n : ℕ) → 32 ≤ t → any (holds? t n) (logOf l
 unfolding logOf seg holds? of?
 none-far l t n h =
     any-none (holds? t n) (logOf l) (λ i lt.
-    let row = getD-tab (getD l 3 0) (λ j. rangeOf (cells l (4240 + 3 * j) 3)) i noRange (omega (arith, length-tab (getD l 3 0) (λ j. rangeOf (cells l (4240 + 3 * j) 3)))) in
-    rw row (rw (ne-eqb (getD (cells l (4240 + 3 * i) 3) 0 0 % 32) t (λ e. omega (arith, mod-lt (getD (cells l (4240 + 3 * i) 3) 0 0) {m = 32} (omega arith))))))
+    let row = getD-tab (getD l 3 0) (λ j. rangeOf (cells l (4272 + 3 * j) 3)) i noRange (omega (arith, length-tab (getD l 3 0) (λ j. rangeOf (cells l (4272 + 3 * j) 3)))) in
+    rw row (rw (ne-eqb (getD (cells l (4272 + 3 * i) 3) 0 0 % 32) t (λ e. omega (arith, mod-lt (getD (cells l (4272 + 3 * i) 3) 0 0) {m = 32} (omega arith))))))
 
 module _ (l : List ℕ) {starts first last : List ℕ} (A : AllGrouped (logOf l) starts first last) where
   pub ranges-are : (k : ℕ) → 32 ≤ k → (n : ℕ) → inRanges (ranges starts k first) (ranges starts k last) n ≡ any (holds? (k - 32) n) (logOf l)

@@ -5,14 +5,14 @@ use mathlib.Core.List.{List, [], _∷_, _++_, append-nil}
 use mathlib.Core.Option.{Option, none, some}
 use Prim.Native.Nat.{ℕ, zero, suc, _+_, _-_, _≤_, _<_}
 use native.Mathlib.Omega.{arith}
-use lib.ListN.{length, length-append}
+use lib.ListN.{length, getD, length-append}
 use Rattle.paper.specs.Reader.{if_then_else_}
 use Rattle.paper.specs.Lists.{same, place, given?, or}
 use Rattle.paper.specs.Ledger.{State, Head, Range, Typ, typeNamed, typeIn, text, poolBefore}
 use Rattle.paper.specs.Rules.{entered?, new?, typeOf, superOf, baseUnder, baseOf, newName, newType, newRange, afterHead}
 use Rattle.numbers.specs.declared.Cursor.{Cursor}
 use Rattle.numbers.specs.declared.Refusal.{Refusal}
-use Rattle.table.specs.View.{view, Said, said, maybe, typesOf, strsOf, namesOf, Ok, Holds, rangesIn}
+use Rattle.table.specs.View.{view, Said, said, maybe, typesOf, strsOf, namesOf, sumOf, Ok, Holds, rangesIn}
 use Rattle.table.specs.Adds.{addType, addRange}
 use Rattle.table.specs.Answers.{Stands, rangeIn, Small}
 use Rattle.table.specs.Packed.{rangeCells}
@@ -25,7 +25,7 @@ use Rattle.reader.specs.declared.heads.Topped.{Topped}
 use Rattle.reader.specs.declared.heads.Topped.the-variants as topped
 use Rattle.reader.specs.Sound.{Sound, Headed, Open, log-room, entered-new, opened}
 use Rattle.reader.specs.Going.{Going, goHead}
-use Rattle.reader.specs.Heads.{Placed, headOf, TopRead, addHead, rangeFor, Declares, addNew, TypeEntered, Enterable, Entered, leftTop, TopEntered}
+use Rattle.reader.specs.Heads.{Placed, headOf, TopRead, addHead, rangeFor, Declares, addNew, TypeEntered, Entered, leftTop, TopEntered}
 use Rattle.reader.specs.HeadLaws.{differ, named-below}
 use Rattle.reader.specs.TopLaws.{or-due}
 
@@ -42,18 +42,20 @@ base-some ts t (suc u) ne = let z : suc u - 1 ≡ u = omega arith in rw z refl
 
 -- ── a new type ──
 
-module _ {l : List ℕ} {x : Name} (up base : ℕ) where
-  pub type-known : x .fresh ≡ false → TypeEntered x up base l l
-  type-known e = record { ranges = refl; says = λ f h none-has. record { holds = h; says = rw e refl } }
+module _ {f l : List ℕ} (h : Holds f l) {x : Name} (up base : ℕ) where
+  pub type-known : x .fresh ≡ false → TypeEntered f x up base l l
+  type-known e = record { ranges = refl; says = λ none-has. record { holds = h; says = rw e refl } }
 
-  pub type-new : {a b : ℕ} {l′ : List ℕ} → Declares l x → x .fresh ≡ true → Stands strsOf l (x .number - 1) a b → Pushed 1 2064 4 (a ∷ b ∷ up ∷ base ∷ []) l l′ → TypeEntered x up base l l′
+  pub type-new :
+      {a b sum : ℕ} {l′ : List ℕ} → Declares l x → x .fresh ≡ true → Stands strsOf l (x .number - 1) a b → sum ≡ sumOf (getD (strsOf f l) (x .number - 1) [])
+      → Pushed 1 2064 5 (a ∷ b ∷ up ∷ base ∷ sum ∷ []) l l′ → TypeEntered f x up base l l′
   unfolding text typeNamed
-  type-new {a} {b} declares e row pushed =
+  type-new {a} {b} {sum} declares e row sums pushed =
       record {
         ranges = omega (arith, pushed .ranges);
-        says = λ f h none-has.
+        says = λ none-has.
             rw (e, row .is f)
-            (pushed-type h (record { start = a; end = b; sup = up; base = base }) (declares .room e) (row .within f h)
+            (pushed-type h (record { start = a; end = b; sup = up; base = base; sum = sum }) (declares .room e) (row .within f h) (sums ∙ ap sumOf (row .is f))
             (ap (λ (name : List ℕ). place (same name) 0 (namesOf f l)) (sym (row .is f)) ∙ none-has e)
             (pushed .push));
       }
@@ -154,27 +156,27 @@ no-up (suc u) e = differ (cc e)
 
 -- ── the steps of `enter_top` ──
 
-pub declares : {l : List ℕ} {t : Top} → Enterable l t → Declares l (t .name)
-declares e =
-    record {
-      low = e .placed .name .low;
-      high = omega (arith, e .placed .name .high, e .holds .strs-count);
-      room = λ w. omega (arith, e .placed .name .room w, e .holds .names-count);
-    }
-
-module _ {l : List ℕ} {t : Top} {base : ℕ} (isb : base ≡ baseUnder (typesOf l) (t .name .typ) (maybe (t .above .up))) {r : RangeRow} (isr : rangeIn r ≡ rangeFor l t base) {l₁ : List ℕ} (typed : TypeEntered (t .name) (t .above .up) base l l₁) where
-  pub range-fits : Enterable l t → Ok l₁ × ((rangesIn l₁ < 1024) × Small r)
-  range-fits e =
-      let small : Small r =
+module _ {f l : List ℕ} (h : Holds f l) {t : Top} (placed : Placed (view f l) t) where
+  pub declares : Declares l (t .name)
+  declares =
       record {
-        typ-fits = omega (arith, ap (λ (x : Range). x .type) isr, e .placed .name .few);
-        block-fits = omega (arith, ap (λ (x : Range). x .block) isr, e .sound .block);
-        start-fits = omega (arith, ap (λ (x : Range). x .start) isr, e .placed .start);
-        count-fits = omega (arith, ap (λ (x : Range). x .count) isr, e .placed .count);
-      } in
-      (typed .says (e .names) (e .holds) (nameless (e .sound) (e .placed)) .holds .ok, (omega (arith, typed .ranges, head-room (e .sound) (e .placed), e .holds .ok .log-count), small))
+        low = placed .name .low;
+        high = omega (arith, placed .name .high, h .strs-count);
+        room = λ w. omega (arith, placed .name .room w, h .names-count);
+      }
 
-  module _ {f : List ℕ} (h : Holds f l) (k : Sound (said f l)) (placed : Placed (view f l) t) where
+  module _ (k : Sound (said f l)) {base : ℕ} (isb : base ≡ baseUnder (typesOf l) (t .name .typ) (maybe (t .above .up))) {r : RangeRow} (isr : rangeIn r ≡ rangeFor l t base) {l₁ : List ℕ} (typed : TypeEntered f (t .name) (t .above .up) base l l₁) where
+    pub range-fits : Ok l₁ × ((rangesIn l₁ < 1024) × Small r)
+    range-fits =
+        let small : Small r =
+        record {
+          typ-fits = omega (arith, ap (λ (x : Range). x .type) isr, placed .name .few);
+          block-fits = omega (arith, ap (λ (x : Range). x .block) isr, k .block);
+          start-fits = omega (arith, ap (λ (x : Range). x .start) isr, placed .start);
+          count-fits = omega (arith, ap (λ (x : Range). x .count) isr, placed .count);
+        } in
+        (typed .says (nameless k placed) .holds .ok, (omega (arith, typed .ranges, head-room k placed, h .ok .log-count), small))
+
     base-is : baseOf (view f l) (headOf t) ≡ base
     unfolding baseOf
     base-is = rw (← placed .name .typ, ← placed .up) (sym isb)
@@ -184,10 +186,10 @@ module _ {l : List ℕ} {t : Top} {base : ℕ} (isb : base ≡ baseUnder (typesO
     range-is =
         rw (or-due (given? (maybe (t .above .up))) (t .start) (λ g. placed .none (no-up (t .above .up) g)), base-is, ← placed .name .typ) (sym isr)
 
-    pub entered : {l′ : List ℕ} → Pushed 3 4240 3 (rangeCells r) l₁ l′ → Entered f l l′ t
+    pub entered : {l′ : List ℕ} → Pushed 3 4272 3 (rangeCells r) l₁ l′ → Entered f l l′ t
     entered pushed =
-        let room = range-fits (record { names = f; holds = h; sound = k; placed = placed }) in
-        let first = typed .says f h (nameless k placed) in
+        let room = range-fits in
+        let first = typed .says (nameless k placed) in
         let second = pushed-range (first .holds) r (room .1 .0) (room .1 .1) (pushed .push) in
         let now : said f _ ≡ addHead (said f l) (headOf t) =
         second .says ∙ ap (λ (g : Said). addRange g (rangeIn r)) (first .says)
@@ -204,8 +206,8 @@ module _ {f l : List ℕ} (h : Holds f l) {at : ℕ} {a : Topped} (read : TopRea
     top-read : TopRead (view f l) f at (topped.Got t c)
     top-read = rw is at read
 
-    pub enterable : Sound (said f l) → Enterable l t
-    enterable k = record { names = f; holds = h; sound = k; placed = top-read .told }
+    pub top-placed : Placed (view f l) t
+    top-placed = top-read .told
 
-    pub entered-top : Sound (said f l) → {l′ : List ℕ} → ((g : List ℕ) → Holds g l → Sound (said g l) → Placed (view g l) t → Entered g l l′ t) → TopEntered f l l′ at (topped.Got t c)
-    entered-top k all = record { says = top-read .says; inside = top-read .inside; left = all f h k (top-read .told) }
+    pub entered-top : {l′ : List ℕ} → Entered f l l′ t → TopEntered f l l′ at (topped.Got t c)
+    entered-top entry = record { says = top-read .says; inside = top-read .inside; left = entry }

@@ -77,8 +77,8 @@ addNew t n s x size =
     }
 
 -- the field's name is that of string number `name`, and k is what is kept of its kind
-pub record FieldAdded (t n name : ℕ) (k : KindRow) (size : ℕ) (l l′ : List ℕ) : Type 0 where
-  pub says : (f : List ℕ) → Holds f l → (x : Kind) → noted x ≡ kindIn k → Now f l′ (addNew t n (said f l) (record { kind = x; name = name }) size)
+pub record FieldAdded (f : List ℕ) (t n name : ℕ) (k : KindRow) (size : ℕ) (l l′ : List ℕ) : Type 0 where
+  pub says : (x : Kind) → noted x ≡ kindIn k → Now f l′ (addNew t n (said f l) (record { kind = x; name = name }) size)
 
 -- ── answers ──
 

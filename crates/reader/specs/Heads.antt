@@ -236,16 +236,9 @@ addNew true g name t = addType g name t
 addNew false g name t = g
 
 -- where a new one's name is no type's
-pub record TypeEntered (x : Name) (up base : ℕ) (l l′ : List ℕ) : Type 0 where
+pub record TypeEntered (f : List ℕ) (x : Name) (up base : ℕ) (l l′ : List ℕ) : Type 0 where
   pub ranges : rangesIn l′ ≡ rangesIn l
-  pub says : (f : List ℕ) → Holds f l → (x .fresh ≡ true → typeNamed (view f l) (text (view f l) (x .number)) ≡ none) → Now f l′ (addNew (x .fresh) (said f l) (text (view f l) (x .number)) (record { super = maybe up; base = base }))
-
--- there are bytes with which the table finds room for the head h
-pub record Enterable (l : List ℕ) (h : Top) : Type 0 where
-  pub names : List ℕ
-  pub holds : Holds names l
-  pub sound : Sound (said names l)
-  pub placed : Placed (view names l) h
+  pub says : (x .fresh ≡ true → typeNamed (view f l) (text (view f l) (x .number)) ≡ none) → Now f l′ (addNew (x .fresh) (said f l) (text (view f l) (x .number)) (record { super = maybe up; base = base }))
 
 -- the head h was entered, and the table l became l′: the entry's type is open for its fields
 pub record Entered (f l l′ : List ℕ) (h : Top) : Type 0 where

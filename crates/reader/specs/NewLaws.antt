@@ -67,14 +67,14 @@ module _ {f l : List ℕ} (h : Holds f l) (named : ℕ → Bool) (t n end : ℕ)
             let R = was-refused ended is in
             rw is (refused-new h t (length (fldsOf l)) (λ lo. R .inside (R₃ .inside (R₂ .inside (R₁ .inside lo)))) (rw (R₁ .says, R₂ .says, R₃ .says, R .says)))
 
-        module _ {e : ℕ} {c₄ : Cursor} (is₄ : d ≡ Got e c₄) {l′ : List ℕ} (added : FieldAdded t n m row (e - end) l l′) {i : ℕ} (o : Open (said f l) t i) (room : fieldsIn l < 128) where
+        module _ {e : ℕ} {c₄ : Cursor} (is₄ : d ≡ Got e c₄) {l′ : List ℕ} (added : FieldAdded f t n m row (e - end) l l′) {i : ℕ} (o : Open (said f l) t i) (room : fieldsIn l < 128) where
           -- the kind that was read
           own : Kind
           own = kind-was-got kinded is₂ .own
 
           now : Now f l′ (addNew t n (said f l) (record { kind = own; name = m }) (e - end))
           unfolding own
-          now = added .says f h own (kind-was-got kinded is₂ .kept)
+          now = added .says own (kind-was-got kinded is₂ .kept)
 
           new-is : newGo named t n (going f l end) f at ≡ got (goNew t n (going f l end) (record { kind = own; name = m }, e)) (c₄ .at)
           unfolding own newGo newField _>>=_ give

@@ -1,15 +1,15 @@
 -- The rows of a new field, for which there is room. Assumes nothing.
 use mathlib.Core.Path.{_≡_, refl, sym, ap, _∙_}
-use mathlib.Core.List.{List}
+use mathlib.Core.List.{List, []}
 use Prim.Native.Nat.{ℕ, _+_, _-_, _<_}
 use native.Mathlib.Omega.{arith}
 use native.Mathlib.Nat.{le-refl}
-use lib.ListN.{length}
+use lib.ListN.{length, getD}
 use lib.Seq.{slice}
 use Rattle.paper.specs.Ledger.{Kind, plain, New, text}
 use Rattle.paper.specs.Rules.{noted, afterNew, valuesDue}
 use Rattle.laws.specs.Count.{noted-due}
-use Rattle.table.specs.View.{strsOf, fldsOf, duesOf, view, Ok, Holds, Said, said, Now, fieldsIn, duesIn}
+use Rattle.table.specs.View.{strsOf, fldsOf, duesOf, view, sumOf, Holds, Said, said, Now, fieldsIn, duesIn}
 use Rattle.table.specs.Answers.{Stands, fieldIn}
 use Rattle.table.specs.Adds.{addField, addDue}
 use Rattle.table.specs.Packed.{fieldCells, dueCells}
@@ -23,29 +23,29 @@ use Rattle.reader.specs.Fields.{addNew, FieldAdded}
 
 -- ── the rows ──
 
--- of type t and of kind k, with a name that stands from `start` to `end`
-abbrev pub rowOf : ℕ → KindRow → ℕ → ℕ → FieldRow
-rowOf t k start end = record { start = start; end = end; owner = t; kind = k .first; a = k .bits; e = k .last }
+-- of type t and of kind k, with a name that stands from `start` to `end` and its sum
+abbrev pub rowOf : ℕ → KindRow → ℕ → ℕ → ℕ → FieldRow
+rowOf t k start end sum = record { start = start; end = end; owner = t; kind = k .first; a = k .bits; e = k .last; sum = sum }
 
-module _ {l : List ℕ} (ok : Ok l) (room : fieldsIn l < 128) (due-room : duesIn l < 128) (t n name : ℕ) (k : KindRow) (size : ℕ) {start end i v : ℕ} {l₁ l₂ : List ℕ} (stands : Stands strsOf l (name - 1) start end) (i-is : i ≡ fieldsIn l) (p : Pushed 2 2192 16 (fieldCells (rowOf t k start end)) l l₁) (v-is : v ≡ valuesDue (kindIn k) n) (q : Pushed 4 7312 4 (dueCells i v size) l₁ l₂) where
+module _ {f l : List ℕ} (h : Holds f l) (room : fieldsIn l < 128) (due-room : duesIn l < 128) (t n name : ℕ) (k : KindRow) (size : ℕ) {start end sum i v : ℕ} {l₁ l₂ : List ℕ} (stands : Stands strsOf l (name - 1) start end) (sums : sum ≡ sumOf (getD (strsOf f l) (name - 1) [])) (i-is : i ≡ fieldsIn l) (p : Pushed 2 2224 16 (fieldCells (rowOf t k start end sum)) l l₁) (v-is : v ≡ valuesDue (kindIn k) n) (q : Pushed 4 7344 4 (dueCells i v size) l₁ l₂) where
   rows-are :
-      (f : List ℕ) (x : Kind) → noted x ≡ kindIn k
-      → addDue (addField (said f l) (slice start end f) (fieldIn (rowOf t k start end))) (record { field = i; values = v }) size
+      (x : Kind) → noted x ≡ kindIn k
+      → addDue (addField (said f l) (slice start end f) (fieldIn (rowOf t k start end sum))) (record { field = i; values = v }) size
       ≡ addNew t n (said f l) (record { kind = x; name = name }) size
   unfolding addDue addField addNew afterNew text
-  rows-are f x kept =
-      let j : i ≡ length (fldsOf l) = i-is ∙ sym (ok .flds-count) in
+  rows-are x kept =
+      let j : i ≡ length (fldsOf l) = i-is ∙ sym (h .ok .flds-count) in
       let due : v ≡ valuesDue x n = v-is ∙ ap (λ (y : Kind). valuesDue y n) (sym kept) ∙ noted-due x n in
       rw (j, due, kept, stands .is f) refl
 
-  pub field-added-by : FieldAdded t n name k size l l₂
+  pub field-added-by : FieldAdded f t n name k size l l₂
   field-added-by =
       let more-room : duesIn l₁ < 128 = omega (arith, p .dues) in
       record {
-        says = λ f h x kept.
-            let first = pushed-field h (rowOf t k start end) room (stands .within f h) (p .push) in
+        says = λ x kept.
+            let first = pushed-field h (rowOf t k start end sum) room (stands .within f h) (sums ∙ ap sumOf (stands .is f)) (p .push) in
             let last = pushed-due (first .holds) i v size more-room (q .push) in
-            record { holds = last .holds; says = last .says ∙ ap (λ (s : Said). addDue s (record { field = i; values = v }) size) (first .says) ∙ rows-are f x kept };
+            record { holds = last .holds; says = last .says ∙ ap (λ (s : Said). addDue s (record { field = i; values = v }) size) (first .says) ∙ rows-are x kept };
       }
 
 -- ── there is room, and the table stays as it must ──

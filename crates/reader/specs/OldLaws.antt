@@ -63,7 +63,7 @@ module _ {f l : List ℕ} (h : Holds f l) {t i : ℕ} (o : Open (said f l) t i) 
           let R = was-refused read no-is in
           rw no-is (record { holds = h; says = sym (old-is ∙ rw (R .says)); inside = R .inside; still-open = tt })
 
-      module _ {e : ℕ} {c : Cursor} (got-is : a ≡ Got e c) {l′ : List ℕ} {v : ℕ} (due-is : v ≡ valuesDue (d .kind) added) (p : Pushed 4 7312 4 (dueCells i v (e - end)) l l′) where
+      module _ {e : ℕ} {c : Cursor} (got-is : a ≡ Got e c) {l′ : List ℕ} {v : ℕ} (due-is : v ≡ valuesDue (d .kind) added) (p : Pushed 4 7344 4 (dueCells i v (e - end)) l l′) where
         now : Now f l′ (addDue (said f l) (record { field = i; values = v }) (e - end))
         now = pushed-due h i v (e - end) old-has-room (p .push)
 

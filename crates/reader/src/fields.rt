@@ -196,14 +196,23 @@ fn field_name(file: &[u8], c: Cursor, work: &[u32], t: u32) -> Number
 
 // A field more of type t, whose name is string number `name`, and its chunk, which is due with a value for each of the
 // type's objects.
-pub fn add_field(work: &mut [u32], t: u32, kind: Kind, name: u64, objects: u32, size: u64)
-    requires { ⌜ Ok (now work) ⌝ }
+pub fn add_field(
+    names: &[u8],
+    work: &mut [u32],
+    t: u32,
+    kind: Kind,
+    name: u64,
+    objects: u32,
+    size: u64,
+)
+    requires { ⌜ Holds (now names) (now work) ⌝ }
     requires { ⌜ (1 ≤ name) × (name ≤ stringsIn (now work)) ⌝ }
     requires { ⌜ kind .first ≤ 32 ⌝ }
     requires { ⌜ (fieldsIn (now work) < mostFields) × (duesIn (now work) < mostFields) ⌝ }
-    ensures { λ _. ⌜ FieldAdded t objects name kind size (now (work .entry)) (now (work .exit)) ⌝ }
+    ensures { λ _. ⌜ FieldAdded (now (names .entry)) t objects name kind size (now (work .entry)) (now (work .exit)) ⌝ }
 {
     let text = table::rows::string_at(work, (name - 1) as u32);
+    let sum = table::names::string_sum(names, work, name);
     let first = kind.first as u32;
     let i = table::rows::fields(work);
     let row = FieldRow {
@@ -213,6 +222,7 @@ pub fn add_field(work: &mut [u32], t: u32, kind: Kind, name: u64, objects: u32, 
         kind: first,
         a: kind.bits,
         e: kind.last,
+        sum,
     };
     table::pushes::push_field(work, row);
     let values = values_due(first, objects);
@@ -251,7 +261,7 @@ fn new_field(
         return d;
     };
     let size = e - end;
-    add_field(work, t, kind, name, objects, size);
+    add_field(file, work, t, kind, name, objects, size);
     Number::Got(e, next)
 }
 

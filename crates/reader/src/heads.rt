@@ -15,7 +15,7 @@ ghost use Rattle.table.specs.View.{view, said, maybe, typesOf, Ok, Holds, strin
 ghost use Rattle.table.specs.Answers.{rangeIn};
 ghost use Rattle.table.specs.Asks.{found};
 ghost use Rattle.reader.specs.Sound.{Sound};
-ghost use Rattle.reader.specs.Heads.{foundBelow, Known, Resolved, NamePlaced, NameJudged, NameRead, noName, SuperPlaced, SuperJudged, SuperRead, AboveRead, noAbove, DueRead, CountJudged, TopRead, Placed, noTop, rangeFor, Declares, TypeEntered, Enterable, Entered, TopEntered};
+ghost use Rattle.reader.specs.Heads.{foundBelow, Known, Resolved, NamePlaced, NameJudged, NameRead, noName, SuperPlaced, SuperJudged, SuperRead, AboveRead, noAbove, DueRead, CountJudged, TopRead, Placed, noTop, rangeFor, Declares, TypeEntered, Entered, TopEntered};
 use super::ruled::no_restrictions;
 use numbers::Cursor;
 use numbers::Number;
@@ -24,6 +24,7 @@ use numbers::refused;
 use paper::Ledger;
 use table::names::Found;
 use table::names::find_type;
+use table::names::string_sum;
 use table::pushes::push_range;
 use table::pushes::push_type;
 use table::ranges::around;
@@ -420,36 +421,40 @@ fn range_for(work: &[u32], top: Top, base: u32) -> RangeRow
 }
 
 // A new type, under its name; of a known one there is nothing to keep.
-fn enter_type(work: &mut [u32], name: Name, up: u32, base: u32)
-    requires { ⌜ Ok (now work) ⌝ }
+fn enter_type(names: &[u8], work: &mut [u32], name: Name, up: u32, base: u32)
+    requires { ⌜ Holds (now names) (now work) ⌝ }
     requires { ⌜ Declares (now work) name ⌝ }
-    ensures { λ _. ⌜ TypeEntered name up base (now (work .entry)) (now (work .exit)) ⌝ }
+    ensures { λ _. ⌜ TypeEntered (now (names .entry)) name up base (now (work .entry)) (now (work .exit)) ⌝ }
 {
     if !name.fresh {
         return;
     }
     let n = name.number;
     let s = string_at(work, (n - 1) as u32);
+    let sum = string_sum(names, work, n);
     let row = TypeRow {
         start: s.start,
         end: s.end,
         sup: up,
         base,
+        sum,
     };
     push_type(work, row);
 }
 
 // Enters the type and the range of a head in the table.
-pub fn enter_top(work: &mut [u32], top: Top)
-    requires { ⌜ Enterable (now work) top ⌝ }
-    ensures { λ _. ⌜ ((f : List ℕ) → Holds f (now (work .entry)) → Sound (said f (now (work .entry))) → Placed (view f (now (work .entry))) top → Entered f (now (work .entry)) (now (work .exit)) top) ⌝ }
+pub fn enter_top(names: &[u8], work: &mut [u32], top: Top)
+    requires { ⌜ Holds (now names) (now work) ⌝ }
+    requires { ⌜ Sound (said (now names) (now work)) ⌝ }
+    requires { ⌜ Placed (view (now names) (now work)) top ⌝ }
+    ensures { λ _. ⌜ Entered (now (names .entry)) (now (work .entry)) (now (work .exit)) top ⌝ }
 {
     let name = top.name;
     let above = top.above;
     let up = above.up;
     let base = base_for(work, name.typ, up);
     let range = range_for(work, top, base);
-    enter_type(work, name, up, base);
+    enter_type(names, work, name, up, base);
     push_range(work, range);
 }
 
@@ -463,6 +468,6 @@ pub fn enter_head(file: &[u8], c: Cursor, work: &mut [u32]) -> Topped
     let Topped::Got(top, next) = a else {
         return a;
     };
-    enter_top(work, top);
+    enter_top(file, work, top);
     Topped::Got(top, next)
 }

@@ -7,7 +7,7 @@ use lib.Seq.{slice}
 use Rattle.paper.specs.Lists.{places}
 use Rattle.paper.specs.Ledger.{Typ, Field, Range, Due, owns?}
 use Rattle.paper.specs.Places.{Spot}
-use Rattle.table.specs.View.{maybe, kindFrom, Holds}
+use Rattle.table.specs.View.{maybe, kindFrom, sumOf, Holds}
 use Rattle.table.specs.declared.rows.TypeRow.{TypeRow}
 use Rattle.table.specs.declared.rows.FieldRow.{FieldRow}
 use Rattle.table.specs.declared.rows.RangeRow.{RangeRow}
@@ -19,6 +19,12 @@ use Rattle.table.specs.declared.rows.Stretch.{Stretch}
 pub record Stands (texts : List ℕ → List ℕ → List (List ℕ)) (l : List ℕ) (i start end : ℕ) : Type 0 where
   pub is : (f : List ℕ) → getD (texts f l) i [] ≡ slice start end f
   pub within : (f : List ℕ) → Holds f l → end ≤ length f
+
+-- the same of a type's or a field's name, with its sum
+pub record Named (texts : List ℕ → List ℕ → List (List ℕ)) (l : List ℕ) (i start end sum : ℕ) : Type 0 where
+  pub is : (f : List ℕ) → getD (texts f l) i [] ≡ slice start end f
+  pub within : (f : List ℕ) → Holds f l → end ≤ length f
+  pub sums : (f : List ℕ) → Holds f l → sum ≡ sumOf (slice start end f)
 
 abbrev pub typIn : TypeRow → Typ
 typIn r = record { super = maybe (r .sup); base = r .base }

@@ -136,7 +136,7 @@ module _ {n : Counts} {b : ℕ} {l l′ : List ℕ} (r : Recounted n b l l′) (
       ∙ ap (λ (m : ℕ). take m (tab (getD l k 0) (λ i. of (cells l (starts k + width k * i) (width k))))) e
 
   in-cut : (f : List ℕ) → In f l k → In f l′ k
-  in-cut f all = record { row = λ i lt. subst (Within f) (sym (row-kept i)) (all .row i (omega arith)) }
+  in-cut f all = record { row = λ i lt. subst (Within f k) (sym (row-kept i)) (all .row i (omega arith)) }
 
 -- ── from counts to what is said ──
 
@@ -173,7 +173,7 @@ module _ (n : Counts) {b : ℕ} {l l′ : List ℕ} (r : Recounted n b l l′) (
             log = seg-cut r 3 (omega arith) rangeOf (r .ranges) i;
             block = r .block i;
           };
-          due = seg-none dueOf 4 7312 4 l′ (r .dues) i;
+          due = seg-none dueOf 4 7344 4 l′ (r .dues) i;
           chunks = seg-cut r 5 (omega arith) spotOf (r .chunks) i;
         };
       }
@@ -205,7 +205,7 @@ all-kept f {l} h = λ i. record {
 told-next : {b : ℕ} {l l′ : List ℕ} → Ok l → Recounted (countsIn l) b l l′ → getD l′ 7 0 ≡ getD l 7 0 → Telling l′
 unfolding starts width most typesOf logOf
 told-next {b} {l} {l′} ok r flag on =
-    let cells-same : tally l′ ≡ tally l = λ i t k. r .rest (16016 + 8 * t + k) (omega arith) i in
+    let cells-same : tally l′ ≡ tally l = λ i t k. r .rest (16048 + 8 * t + k) (omega arith) i in
     let types-same : typesOf l′ ≡ typesOf l = seg-cut r 1 (omega (arith, r .types)) typOf (r .types) ∙ take-all (getD l 1 0) (typesOf l) (omega (arith, ok .types-count)) in
     let log-same : logOf l′ ≡ logOf l = seg-cut r 3 (omega (arith, r .ranges)) rangeOf (r .ranges) ∙ take-all (getD l 3 0) (logOf l) (omega (arith, ok .log-count)) in
     subst (λ (x : (ℕ → ℕ → ℕ) × (List Typ × List Range)). Told (x .0) (x .1 .0) (x .1 .1)) (λ i. (sym cells-same i, (sym types-same i, sym log-same i))) (ok .telling (sym flag ∙ on))
@@ -213,7 +213,7 @@ told-next {b} {l} {l′} ok r flag on =
 owned-next : {b : ℕ} {l l′ : List ℕ} → Ok l → Recounted (countsIn l) b l l′ → getD l′ 7 0 ≡ getD l 7 0 → Owning l′
 unfolding starts width most fldsOf
 owned-next {b} {l} {l′} ok r flag on =
-    let cells-same : tally l′ ≡ tally l = λ i t k. r .rest (16016 + 8 * t + k) (omega arith) i in
+    let cells-same : tally l′ ≡ tally l = λ i t k. r .rest (16048 + 8 * t + k) (omega arith) i in
     let fields-same : fldsOf l′ ≡ fldsOf l = seg-cut r 2 (omega (arith, r .fields)) fldOf (r .fields) ∙ take-all (getD l 2 0) (fldsOf l) (omega (arith, ok .flds-count)) in
     subst (λ (x : (ℕ → ℕ → ℕ) × List Field). Owned (x .0) (x .1)) (λ i. (sym cells-same i, sym fields-same i)) (ok .owning (sym flag ∙ on))
 
@@ -229,32 +229,32 @@ next-of {l} ok r flag =
     }
 
 -- no rows at all, whatever stood in the table
-pub begun-of : {l l′ : List ℕ} → length l ≡ 16384 → ((j : ℕ) → 16016 ≤ j → j < 16384 → getD l j 0 ≡ 0) → Recounted (record { strings = 0; types = 0; fields = 0; ranges = 0; chunks = 0 }) 0 l l′ → Begun l′
+pub begun-of : {l l′ : List ℕ} → length l ≡ 16384 → ((j : ℕ) → 16048 ≤ j → j < 16384 → getD l j 0 ≡ 0) → Recounted (record { strings = 0; types = 0; fields = 0; ranges = 0; chunks = 0 }) 0 l l′ → Begun l′
 unfolding starts width most strsOf namesOf typesOf titlesOf fldsOf logOf duesOf chunksOf begun nothing
 begun-of {l} {l′} long zeros r =
     let telling : Telling l′ = λ on.
-    subst (λ (x : List Typ × List Range). Told (tally l′) (x .0) (x .1)) (λ i. (sym (seg-none typOf 1 2064 4 l′ (r .types)) i, sym (seg-none rangeOf 3 4240 3 l′ (r .ranges)) i))
-    (told-none (λ t k lt few. r .rest (16016 + 8 * t + k) (omega arith) ∙ zeros (16016 + 8 * t + k) (omega arith) (omega arith)) (r .rest 16272 (omega arith) ∙ zeros 16272 (omega arith) (omega arith))) in
+    subst (λ (x : List Typ × List Range). Told (tally l′) (x .0) (x .1)) (λ i. (sym (seg-none typOf 1 2064 5 l′ (r .types)) i, sym (seg-none rangeOf 3 4272 3 l′ (r .ranges)) i))
+    (told-none (λ t k lt few. r .rest (16048 + 8 * t + k) (omega arith) ∙ zeros (16048 + 8 * t + k) (omega arith) (omega arith)) (r .rest 16304 (omega arith) ∙ zeros 16304 (omega arith) (omega arith))) in
     let owning : Owning l′ = λ on.
-    subst (λ (x : List Field). Owned (tally l′) x) (sym (seg-none fldOf 2 2192 16 l′ (r .fields)))
-    (owned-none (λ t k lt few. r .rest (16016 + 8 * t + k) (omega arith) ∙ zeros (16016 + 8 * t + k) (omega arith) (omega arith))) in
+    subst (λ (x : List Field). Owned (tally l′) x) (sym (seg-none fldOf 2 2224 16 l′ (r .fields)))
+    (owned-none (λ t k lt few. r .rest (16048 + 8 * t + k) (omega arith) ∙ zeros (16048 + 8 * t + k) (omega arith) (omega arith))) in
     let fine : Ok l′ = ok-of (r .long ∙ long) (fits-of l′ (omega arith) (omega arith) (omega arith) (omega arith) (omega arith) (omega arith)) telling owning in
     record {
       ok = fine;
       says = λ f small. record {
-        holds = holds-of fine small (record { row = λ i lt. absurd (omega arith) }) (record { row = λ i lt. absurd (omega arith) }) (record { row = λ i lt. absurd (omega arith) }) (subst Apart (sym (seg-none (textOf f) 1 2064 4 l′ (r .types))) apart-none);
+        holds = holds-of fine small (record { row = λ i lt. absurd (omega arith) }) (record { row = λ i lt. absurd (omega arith) }) (record { row = λ i lt. absurd (omega arith) }) (subst Apart (sym (seg-none (textOf f) 1 2064 5 l′ (r .types))) apart-none);
         says = λ i. record {
           state = record {
             strings = seg-none (textOf f) 0 16 2 l′ (r .strings) i;
-            typeNames = seg-none (textOf f) 1 2064 4 l′ (r .types) i;
-            types = seg-none typOf 1 2064 4 l′ (r .types) i;
-            fieldNames = seg-none (textOf f) 2 2192 16 l′ (r .fields) i;
-            fields = seg-none fldOf 2 2192 16 l′ (r .fields) i;
-            log = seg-none rangeOf 3 4240 3 l′ (r .ranges) i;
+            typeNames = seg-none (textOf f) 1 2064 5 l′ (r .types) i;
+            types = seg-none typOf 1 2064 5 l′ (r .types) i;
+            fieldNames = seg-none (textOf f) 2 2224 16 l′ (r .fields) i;
+            fields = seg-none fldOf 2 2224 16 l′ (r .fields) i;
+            log = seg-none rangeOf 3 4272 3 l′ (r .ranges) i;
             block = r .block i;
           };
-          due = seg-none dueOf 4 7312 4 l′ (r .dues) i;
-          chunks = seg-none spotOf 5 7824 2 l′ (r .chunks) i;
+          due = seg-none dueOf 4 7344 4 l′ (r .dues) i;
+          chunks = seg-none spotOf 5 7856 2 l′ (r .chunks) i;
         };
       };
     }
@@ -269,11 +269,11 @@ noughts-of l e = ap (λ (n : ℕ). replicate n 0) e
 -- those before cell i are 0
 pub record Zeroed (i : ℕ) (l : List ℕ) : Type 0 where
   pub long : length l ≡ 16384
-  pub from : 16016 ≤ i
+  pub from : 16048 ≤ i
   pub upto : i ≤ 16384
-  pub zeros : (j : ℕ) → 16016 ≤ j → j < i → getD l j 0 ≡ 0
+  pub zeros : (j : ℕ) → 16048 ≤ j → j < i → getD l j 0 ≡ 0
 
-pub zeroed-start : {l : List ℕ} → length l ≡ 16384 → Zeroed 16016 l
+pub zeroed-start : {l : List ℕ} → length l ≡ 16384 → Zeroed 16048 l
 zeroed-start long = record { long = long; from = omega arith; upto = omega arith; zeros = λ j a b. absurd (omega arith) }
 
 pub zeroed-on : {i : ℕ} {l : List ℕ} → Zeroed i l → i < 16384 → Zeroed (i + 1) (set l i 0)

@@ -11,7 +11,7 @@ use Rattle.table.specs.RowLaws.{lt-or-ge}
 
 -- the numbers of a row, and the most rows
 unfoldable pub width : ℕ → ℕ
-width k = getD (2 ∷ 4 ∷ 16 ∷ 3 ∷ 4 ∷ 2 ∷ []) k 0
+width k = getD (2 ∷ 5 ∷ 16 ∷ 3 ∷ 4 ∷ 2 ∷ []) k 0
 
 unfoldable pub most : ℕ → ℕ
 most k = getD (1024 ∷ 32 ∷ 128 ∷ 1024 ∷ 128 ∷ 4096 ∷ []) k 0
@@ -37,7 +37,7 @@ unfolding starts
 next-starts k = refl
 
 -- the rows end where the tallies begin
-all-end : starts 6 ≤ 16016
+all-end : starts 6 ≤ 16048
 unfolding starts width most
 all-end = omega arith
 
@@ -52,11 +52,11 @@ module _ (k c n : ℕ) (other : k ≢ c) (fits : n < most c) where
       (lt-or-ge k c)
 
 -- and stands within the table
-pub row-fits : (c n : ℕ) → c < 6 → n < most c → starts c + width c * n + width c ≤ 16016
+pub row-fits : (c n : ℕ) → c < 6 → n < most c → starts c + width c * n + width c ≤ 16048
 row-fits c n few fits =
     let row = mul-le-mul-left (width c) fits in
     let below = starts-le (suc c) 6 few in
     omega (arith, next-starts c, all-end)
 
-pub kind-fits : (k : ℕ) → k < 6 → starts k + width k * most k ≤ 16016
+pub kind-fits : (k : ℕ) → k < 6 → starts k + width k * most k ≤ 16048
 kind-fits k few = let below = starts-le (suc k) 6 few in omega (arith, next-starts k, all-end)

@@ -17,12 +17,12 @@ abbrev pub upper : ℕ → ℕ
 upper n = n / 4294967296
 
 abbrev pub typeCells : TypeRow → List ℕ
-typeCells r = r .start ∷ r .end ∷ r .sup ∷ r .base ∷ []
+typeCells r = r .start ∷ r .end ∷ r .sup ∷ r .base ∷ r .sum ∷ []
 
--- half of a field's row is not used
+-- seven cells of a field's row are not used
 abbrev pub fieldCells : FieldRow → List ℕ
 fieldCells r =
-    r .start ∷ r .end ∷ r .owner ∷ r .kind ∷ lower (r .a) ∷ upper (r .a) ∷ lower (r .e) ∷ upper (r .e) ∷ 0 ∷ 0 ∷ 0 ∷ 0 ∷ 0 ∷ 0 ∷ 0 ∷ 0 ∷ []
+    r .start ∷ r .end ∷ r .owner ∷ r .kind ∷ lower (r .a) ∷ upper (r .a) ∷ lower (r .e) ∷ upper (r .e) ∷ r .sum ∷ 0 ∷ 0 ∷ 0 ∷ 0 ∷ 0 ∷ 0 ∷ 0 ∷ []
 
 abbrev pub rangeCells : RangeRow → List ℕ
 rangeCells r = (r .typ + 32 * r .block) ∷ (r .start + 65536 * r .count) ∷ r .first ∷ []

@@ -124,7 +124,7 @@ module _ {c base w : ℕ} {vs l l′ : List ℕ} (p : Laid c base w vs l l′) w
   abbrev at : ℕ
   at = base + w * getD l c 0
 
-  pub push-other : (j : ℕ) → j < 16016 → (j ≡ 7 → ⊥) → j ≢ c → (base + w * getD l c 0 ≤ j → base + w * getD l c 0 + w ≤ j) → getD l′ j 0 ≡ getD l j 0
+  pub push-other : (j : ℕ) → j < 16048 → (j ≡ 7 → ⊥) → j ≢ c → (base + w * getD l c 0 ≤ j → base + w * getD l c 0 + w ≤ j) → getD l′ j 0 ≡ getD l j 0
   push-other j lt n7 ne apart =
       p .near j lt n7
       ∙ getD-set-other (sets l at vs) c j (getD l c 0 + 1) 0 ne
@@ -153,7 +153,7 @@ module _ {c base w : ℕ} {vs l l′ : List ℕ} (p : Laid c base w vs l l′) w
   push-each P new h = each-more c base w l l′ own-kept P vs push-count push-cells new h
 
   -- another segment, of at most cap rows, that the push does not reach
-  module _ (c′ base′ w′ cap : ℕ) (ne : c′ ≢ c) (low′ : c′ < 7) (high : 16 ≤ base′) (few : getD l c′ 0 ≤ cap) (inside : base′ + w′ * cap ≤ 16016) (apart : base′ < base + w * getD l c 0 + w → base′ + w′ * cap ≤ base + w * getD l c 0) where
+  module _ (c′ base′ w′ cap : ℕ) (ne : c′ ≢ c) (low′ : c′ < 7) (high : 16 ≤ base′) (few : getD l c′ 0 ≤ cap) (inside : base′ + w′ * cap ≤ 16048) (apart : base′ < base + w * getD l c 0 + w → base′ + w′ * cap ≤ base + w * getD l c 0) where
     kept-cells : (j : ℕ) → base′ ≤ j → j < base′ + w′ * getD l c′ 0 → getD l′ j 0 ≡ getD l j 0
     kept-cells j a b =
         push-other j (omega (arith, mul-le-mul-left w′ few)) (λ e. omega arith) (λ e. omega (arith, p .low))

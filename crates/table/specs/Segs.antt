@@ -24,12 +24,12 @@ pub record Each (P : List ℕ → Type 0) (c base w : ℕ) (l : List ℕ) : Type
   pub row : (i : ℕ) → i < getD l c 0 → P (cells l (base + w * i) w)
 
 -- the row vs is laid: l′ is l with vs past the last row of the segment, and one row more in the count. The tallies, cell 7 and
--- those from 16016 on, may change too
+-- those from 16048 on, may change too
 pub record Laid (c base w : ℕ) (vs l l′ : List ℕ) : Type 0 where
   pub wide : length vs ≡ w
   pub low : c < 7
   pub head : 16 ≤ base
-  pub room : base + w * getD l c 0 + w ≤ 16016
-  pub full : 16016 ≤ length l
+  pub room : base + w * getD l c 0 + w ≤ 16048
+  pub full : 16048 ≤ length l
   pub long : length l′ ≡ length l
-  pub near : (j : ℕ) → j < 16016 → (j ≡ 7 → ⊥) → getD l′ j 0 ≡ getD (set (sets l (base + w * getD l c 0) vs) c (getD l c 0 + 1)) j 0
+  pub near : (j : ℕ) → j < 16048 → (j ≡ 7 → ⊥) → getD l′ j 0 ≡ getD (set (sets l (base + w * getD l c 0) vs) c (getD l c 0 + 1)) j 0

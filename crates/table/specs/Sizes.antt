@@ -31,12 +31,12 @@ pub record DueSized (i size : ℕ) (l l′ : List ℕ) : Type 0 where
   pub says : (f : List ℕ) → Holds f l → Now f l′ (record { state = view f l; due = resized i size (duesOf l); chunks = chunksOf l })
 
 -- two cells of the row are stored
-module _ (i size : ℕ) {l l′ : List ℕ} (ok : Ok l) (lt : i < getD l 4 0) (is : l′ ≡ sets l (7312 + 4 * i + 2) (lower size ∷ upper size ∷ [])) where
-  other : (j : ℕ) → (7312 + 4 * i + 2 ≤ j → 7312 + 4 * i + 4 ≤ j) → getD l′ j 0 ≡ getD l j 0
-  other j apart = rw is (sets-other (lower size ∷ upper size ∷ []) l (7312 + 4 * i + 2) j (λ p. omega (arith, apart p)))
+module _ (i size : ℕ) {l l′ : List ℕ} (ok : Ok l) (lt : i < getD l 4 0) (is : l′ ≡ sets l (7344 + 4 * i + 2) (lower size ∷ upper size ∷ [])) where
+  other : (j : ℕ) → (7344 + 4 * i + 2 ≤ j → 7344 + 4 * i + 4 ≤ j) → getD l′ j 0 ≡ getD l j 0
+  other j apart = rw is (sets-other (lower size ∷ upper size ∷ []) l (7344 + 4 * i + 2) j (λ p. omega (arith, apart p)))
 
   long-kept : length l′ ≡ length l
-  long-kept = ap length is ∙ length-sets l (7312 + 4 * i + 2) (lower size ∷ upper size ∷ [])
+  long-kept = ap length is ∙ length-sets l (7344 + 4 * i + 2) (lower size ∷ upper size ∷ [])
 
   -- no other kind's rows are reached
   rows-same : (k : ℕ) → k < 6 → k ≢ 4 → (j : ℕ) → starts k ≤ j → j < starts k + width k * getD l k 0 → getD l′ j 0 ≡ getD l j 0
@@ -45,9 +45,9 @@ module _ (i size : ℕ) {l l′ : List ℕ} (ok : Ok l) (lt : i < getD l 4 0) (i
       let within = mul-le-mul-left (width k) (ok-fits ok k few) in
       other j
       (λ r. ⊎-elim
-      (λ (s : starts k < 7312 + 4 * i + 4). let t : starts k + width k * most k ≤ 7312 + 4 * i = kinds-apart k 4 i ne (omega (arith, ok .dues-fit)) s in omega arith)
-      (λ (s : 7312 + 4 * i + 4 ≤ starts k). omega arith)
-      (lt-or-ge (starts k) (7312 + 4 * i + 4)))
+      (λ (s : starts k < 7344 + 4 * i + 4). let t : starts k + width k * most k ≤ 7344 + 4 * i = kinds-apart k 4 i ne (omega (arith, ok .dues-fit)) s in omega arith)
+      (λ (s : 7344 + 4 * i + 4 ≤ starts k). omega arith)
+      (lt-or-ge (starts k) (7344 + 4 * i + 4)))
 
   count-kept : (k : ℕ) → k < 16 → getD l′ k 0 ≡ getD l k 0
   count-kept k low = other k (λ r. omega arith)
@@ -56,13 +56,13 @@ module _ (i size : ℕ) {l l′ : List ℕ} (ok : Ok l) (lt : i < getD l 4 0) (i
   kept of k few ne = seg-kept k (starts k) (width k) l l′ (rows-same k few ne) of (count-kept k (omega arith))
 
   in-kept : (f : List ℕ) (k : ℕ) → k < 3 → In f l k → In f l′ k
-  in-kept f k few all = each-kept k (starts k) (width k) l l′ (rows-same k (omega arith) (omega arith)) (Within f) (count-kept k (omega arith)) all
+  in-kept f k few all = each-kept k (starts k) (width k) l l′ (rows-same k (omega arith) (omega arith)) (Within f k) (count-kept k (omega arith)) all
 
   fits-kept : Fits l′
   fits-kept k few = omega (arith, count-kept k (omega arith), ok-fits ok k few)
 
   tallies-kept : tally l′ ≡ tally l
-  tallies-kept = λ i t k. other (16016 + 8 * t + k) (λ r. omega (arith, ok .dues-fit)) i
+  tallies-kept = λ i t k. other (16048 + 8 * t + k) (λ r. omega (arith, ok .dues-fit)) i
 
   telling-kept : Telling l′
   unfolding starts width most typesOf logOf
@@ -80,21 +80,21 @@ module _ (i size : ℕ) {l l′ : List ℕ} (ok : Ok l) (lt : i < getD l 4 0) (i
   ok-kept = ok-of (long-kept ∙ ok .long) fits-kept telling-kept owning-kept
 
   -- the row itself
-  stored : cells l′ (7312 + 4 * i + 2) 2 ≡ lower size ∷ upper size ∷ []
-  stored = ap (λ (t : List ℕ). cells t (7312 + 4 * i + 2) 2) is ∙ cells-sets (lower size ∷ upper size ∷ []) l (7312 + 4 * i + 2) (omega (arith, ok .long, ok .dues-fit))
+  stored : cells l′ (7344 + 4 * i + 2) 2 ≡ lower size ∷ upper size ∷ []
+  stored = ap (λ (t : List ℕ). cells t (7344 + 4 * i + 2) 2) is ∙ cells-sets (lower size ∷ upper size ∷ []) l (7344 + 4 * i + 2) (omega (arith, ok .long, ok .dues-fit))
 
-  size-stored : size ≡ wide (getD l′ (7312 + 4 * i + 2) 0) (getD l′ (7312 + 4 * i + 2 + 1) 0)
+  size-stored : size ≡ wide (getD l′ (7344 + 4 * i + 2) 0) (getD l′ (7344 + 4 * i + 2 + 1) 0)
   unfolding cells
   size-stored =
-      let lo : getD l′ (7312 + 4 * i + 2) 0 ≡ lower size = ap (λ (xs : List ℕ). getD xs 0 0) stored in
-      let hi : getD l′ (7312 + 4 * i + 2 + 1) 0 ≡ upper size = rw add-one (ap (λ (xs : List ℕ). getD xs 1 0) stored) in
+      let lo : getD l′ (7344 + 4 * i + 2) 0 ≡ lower size = ap (λ (xs : List ℕ). getD xs 0 0) stored in
+      let hi : getD l′ (7344 + 4 * i + 2 + 1) 0 ≡ upper size = rw add-one (ap (λ (xs : List ℕ). getD xs 1 0) stored) in
       omega (arith, lo, hi, halves size)
 
   row-sized : getD (duesOf l′) i noDue ≡ (getD (duesOf l) i noDue .0, size)
   row-sized =
-      let first : getD l′ (7312 + 4 * i) 0 ≡ getD l (7312 + 4 * i) 0 = other (7312 + 4 * i) (λ r. omega arith) in
-      let second : getD l′ (7312 + 4 * i + 1) 0 ≡ getD l (7312 + 4 * i + 1) 0 = other (7312 + 4 * i + 1) (λ r. omega arith) in
-      let before : record { field = getD l (7312 + 4 * i) 0; values = getD l (7312 + 4 * i + 1) 0 } ≡ getD (duesOf l) i noDue .0 =
+      let first : getD l′ (7344 + 4 * i) 0 ≡ getD l (7344 + 4 * i) 0 = other (7344 + 4 * i) (λ r. omega arith) in
+      let second : getD l′ (7344 + 4 * i + 1) 0 ≡ getD l (7344 + 4 * i + 1) 0 = other (7344 + 4 * i + 1) (λ r. omega arith) in
+      let before : record { field = getD l (7344 + 4 * i) 0; values = getD l (7344 + 4 * i + 1) 0 } ≡ getD (duesOf l) i noDue .0 =
       ap (λ (d : Due × ℕ). d .0) (due-row l i lt refl) in
       sym (due-row l′ i (omega (arith, count-kept 4 (omega arith))) size-stored)
       ∙ (λ k. (record { field = first k; values = second k }, size))
@@ -103,9 +103,9 @@ module _ (i size : ℕ) {l l′ : List ℕ} (ok : Ok l) (lt : i < getD l 4 0) (i
   row-other : (j : ℕ) → j < getD l 4 0 → j ≢ i → getD (duesOf l′) j noDue ≡ getD (duesOf l) j noDue
   unfolding duesOf
   row-other j few ne =
-      seg-at dueOf 4 7312 4 l′ j noDue (omega (arith, count-dues l′, count-kept 4 (omega arith)))
-      ∙ ap dueOf (cells-cong l l′ (7312 + 4 * j) 4 (λ m a b. other m (λ r. omega arith)))
-      ∙ sym (seg-at dueOf 4 7312 4 l j noDue (omega (arith, count-dues l)))
+      seg-at dueOf 4 7344 4 l′ j noDue (omega (arith, count-dues l′, count-kept 4 (omega arith)))
+      ∙ ap dueOf (cells-cong l l′ (7344 + 4 * j) 4 (λ m a b. other m (λ r. omega arith)))
+      ∙ sym (seg-at dueOf 4 7344 4 l j noDue (omega (arith, count-dues l)))
 
   dues-sized : duesOf l′ ≡ resized i size (duesOf l)
   unfolding resized

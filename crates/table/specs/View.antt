@@ -28,13 +28,13 @@ use Rattle.table.specs.Told.{Told, Owned}
 --      6           number of blocks before this one
 --      7           1 where the tallies are told, 0 where they are not
 --     16 ..  2063  strings: first byte, end                                   1,024 x 2
---   2064 ..  2191  types: name's first byte, its end, super type + 1, base       32 x 4
---   2192 ..  4239  fields: name's first byte, its end, owner, kind, two numbers 128 x 16
---   4240 ..  7311  ranges: type and block, start and count, first             1,024 x 3
---   7312 ..  7823  chunks due: field, values, size in two                       128 x 4
---   7824 .. 16015  chunks: field and first byte, end                          4,096 x 2
---  16016 .. 16271  tallies of types, eight cells each (`Told`)
---  16272           objects in all base pools
+--   2064 ..  2223  types: name's first byte, its end, super type + 1, base, sum  32 x 5
+--   2224 ..  4271  fields: name's first byte, its end, owner, kind, two numbers, sum 128 x 16
+--   4272 ..  7343  ranges: type and block, start and count, first             1,024 x 3
+--   7344 ..  7855  chunks due: field, values, size in two                       128 x 4
+--   7856 .. 16047  chunks: field and first byte, end                          4,096 x 2
+--  16048 .. 16303  tallies of types, eight cells each (`Told`)
+--  16304           objects in all base pools
 
 -- ── how many rows there are of each kind, and how many blocks came before ──
 
@@ -111,25 +111,25 @@ unfoldable pub strsOf : List ℕ → List ℕ → List (List ℕ)
 strsOf f l = seg (textOf f) 0 16 2 l
 
 unfoldable pub namesOf : List ℕ → List ℕ → List (List ℕ)
-namesOf f l = seg (textOf f) 1 2064 4 l
+namesOf f l = seg (textOf f) 1 2064 5 l
 
 unfoldable pub typesOf : List ℕ → List Typ
-typesOf l = seg typOf 1 2064 4 l
+typesOf l = seg typOf 1 2064 5 l
 
 unfoldable pub titlesOf : List ℕ → List ℕ → List (List ℕ)
-titlesOf f l = seg (textOf f) 2 2192 16 l
+titlesOf f l = seg (textOf f) 2 2224 16 l
 
 unfoldable pub fldsOf : List ℕ → List Field
-fldsOf l = seg fldOf 2 2192 16 l
+fldsOf l = seg fldOf 2 2224 16 l
 
 unfoldable pub logOf : List ℕ → List Range
-logOf l = seg rangeOf 3 4240 3 l
+logOf l = seg rangeOf 3 4272 3 l
 
 unfoldable pub duesOf : List ℕ → List (Due × ℕ)
-duesOf l = seg dueOf 4 7312 4 l
+duesOf l = seg dueOf 4 7344 4 l
 
 unfoldable pub chunksOf : List ℕ → List Spot
-chunksOf l = seg spotOf 5 7824 2 l
+chunksOf l = seg spotOf 5 7856 2 l
 
 abbrev pub blockOf : List ℕ → ℕ
 blockOf l = getD l 6 0
@@ -151,7 +151,7 @@ view f l =
 
 -- the tally k of type t; of "type" 32, what is not of one type
 abbrev pub tally : List ℕ → ℕ → ℕ → ℕ
-tally l t k = getD l (16016 + 8 * t + k) 0
+tally l t k = getD l (16048 + 8 * t + k) 0
 
 -- what the tallies say is true where cell 7 is 1. It always is, but after a cut
 abbrev pub Telling : List ℕ → Type 0
@@ -177,9 +177,18 @@ pub record Ok (l : List ℕ) : Type 0 where
   pub telling : Telling l
   pub owning : Owning l
 
--- a part of the bytes
-abbrev pub Within : List ℕ → List ℕ → Type 0
-Within f r = getD r 1 0 ≤ length f
+-- the sum of bytes, each times its place, in 16 bits: s so far, for those before the i-th
+unfoldable pub summed : ℕ → ℕ → List ℕ → ℕ
+summed s i [] = s
+summed s i (b ∷ bs) = summed ((s + b * (1 + i % 256)) % 65536) (suc i) bs
+
+unfoldable pub sumOf : List ℕ → ℕ
+sumOf bs = summed 0 0 bs
+
+-- a row of kind k has a part of the bytes, and behind a name its sum: cell 4 of a type, cell 8 of a field
+pub record Within (f : List ℕ) (k : ℕ) (r : List ℕ) : Type 0 where
+  pub inside : getD r 1 0 ≤ length f
+  pub sum : 0 < k → getD r (4 * k) 0 ≡ sumOf (textOf f r)
 
 -- no name occurs twice: each is first found where it stands
 pub record Apart (names : List (List ℕ)) : Type 0 where
@@ -189,9 +198,9 @@ pub record Apart (names : List (List ℕ)) : Type 0 where
 pub record Holds (f l : List ℕ) : Type 0 where
   pub ok : Ok l
   pub small : length f < 4294967296
-  pub strs-in : Each (Within f) 0 16 2 l
-  pub names-in : Each (Within f) 1 2064 4 l
-  pub titles-in : Each (Within f) 2 2192 16 l
+  pub strs-in : Each (Within f 0) 0 16 2 l
+  pub names-in : Each (Within f 1) 1 2064 5 l
+  pub titles-in : Each (Within f 2) 2 2224 16 l
   pub names-apart : Apart (namesOf f l)
   pub strs-count : length (strsOf f l) ≡ getD l 0 0
   pub names-count : length (namesOf f l) ≡ getD l 1 0

@@ -14,7 +14,7 @@ use Rattle.table.specs.Segs.{seg, Each, Laid}
 use Rattle.table.specs.Rows.{Push}
 use Rattle.table.specs.RowLaws.{same-or-not, length-tab, push-other, push-long, push-count, push-mine, push-kept, push-each, push-each-kept}
 use Rattle.table.specs.Layout.{width, most, starts, head-le, kinds-apart, kind-fits}
-use Rattle.table.specs.View.{textOf, typOf, fldOf, rangeOf, dueOf, spotOf, strsOf, namesOf, typesOf, titlesOf, fldsOf, logOf, duesOf, chunksOf, said, Telling, Owning, Ok, Within, Holds, Now, Apart}
+use Rattle.table.specs.View.{textOf, typOf, fldOf, rangeOf, dueOf, spotOf, strsOf, namesOf, typesOf, titlesOf, fldsOf, logOf, duesOf, chunksOf, said, Telling, Owning, Ok, Within, Holds, Now, Apart, sumOf}
 use Rattle.table.specs.Answers.{typIn, fieldIn, rangeIn, Small}
 use Rattle.table.specs.Packed.{typeCells, fieldCells, rangeCells, dueCells, chunkCells, field-cells, range-cells, due-cells, chunk-cells}
 use Rattle.table.specs.declared.rows.TypeRow.{TypeRow}
@@ -95,7 +95,7 @@ ok-of {l} long fits telling owning =
 
 -- the texts of kind k, 0 to 2, lie within the bytes
 abbrev pub In : List ℕ → List ℕ → ℕ → Type 0
-In f l k = Each (Within f) k (starts k) (width k) l
+In f l k = Each (Within f k) k (starts k) (width k) l
 
 pub holds-of : {f l : List ℕ} → Ok l → length f < 4294967296 → In f l 0 → In f l 1 → In f l 2 → Apart (namesOf f l) → Holds f l
 unfolding starts width most
@@ -138,12 +138,12 @@ module _ {c : ℕ} {vs l l′ : List ℕ} (p : Laid c (starts c) (width c) vs l 
   kept of k lt ne =
       push-kept p k (starts k) (width k) (most k) ne (omega arith) (head-le k) (ok-fits ok k lt) (kind-fits k lt) (kinds-apart k c (getD l c 0) ne room) of
 
-  pub in-after : (f : List ℕ) (k : ℕ) → k < 3 → (k ≡ c → Within f vs) → In f l k → In f l′ k
+  pub in-after : (f : List ℕ) (k : ℕ) → k < 3 → (k ≡ c → Within f c vs) → In f l k → In f l′ k
   in-after f k lt new all =
       ⊎-elim
-      (λ (e : k ≡ c). subst (λ (j : ℕ). In f l j → In f l′ j) (sym e) (push-each p (Within f) (new e)) all)
+      (λ (e : k ≡ c). subst (λ (j : ℕ). In f l j → In f l′ j) (sym e) (push-each p (Within f c) (new e)) all)
       (λ (ne : k ≢ c).
-      push-each-kept p k (starts k) (width k) (most k) ne (omega arith) (head-le k) (ok-fits ok k (omega arith)) (kind-fits k (omega arith)) (kinds-apart k c (getD l c 0) ne room) (Within f) all)
+      push-each-kept p k (starts k) (width k) (most k) ne (omega arith) (head-le k) (ok-fits ok k (omega arith)) (kind-fits k (omega arith)) (kinds-apart k c (getD l c 0) ne room) (Within f k) all)
       (same-or-not k c)
 
   fits-after : Fits l′
@@ -184,7 +184,7 @@ module _ {c : ℕ} {vs l l′ : List ℕ} (p : Laid c (starts c) (width c) vs l 
       more e = push-mine (subst (λ (j : ℕ). Laid j (starts j) (width j) vs l l′) (sym e) p) (textOf f)
 
   -- a name lies within the bytes, and a type's is not one that a type has
-  pub holds-after : {f : List ℕ} → Holds f l → Ok l′ → (c < 3 → Within f vs) → (1 ≡ c → place (same (textOf f vs)) 0 (namesOf f l) ≡ none) → Holds f l′
+  pub holds-after : {f : List ℕ} → Holds f l → Ok l′ → (c < 3 → Within f c vs) → (1 ≡ c → place (same (textOf f vs)) 0 (namesOf f l) ≡ none) → Holds f l′
   holds-after {f} h ok′ new fresh =
       holds-of ok′ (h .small)
       (in-after f 0 (omega arith) (λ e. new (omega arith)) (holds-in h 0 (omega arith)))
@@ -198,7 +198,7 @@ module _ {f l l′ : List ℕ} (h : Holds f l) where
   pushed-string room within p =
       let other = others {c = 0} (p .laid) (h .ok) (omega arith) room f in
       record {
-        holds = holds-after {c = 0} (p .laid) (h .ok) (omega arith) room h (p .ok) (λ lt. within) (λ e. absurd (omega arith));
+        holds = holds-after {c = 0} (p .laid) (h .ok) (omega arith) room h (p .ok) (λ lt. record { inside = within; sum = λ named. absurd (omega arith) }) (λ e. absurd (omega arith));
         says = λ i. record {
           state = record {
             strings = push-mine (p .laid) (textOf f) i;
@@ -214,12 +214,12 @@ module _ {f l l′ : List ℕ} (h : Holds f l) where
         };
       }
 
-  pub pushed-type : (r : TypeRow) → getD l 1 0 < 32 → r .end ≤ length f → place (same (slice (r .start) (r .end) f)) 0 (namesOf f l) ≡ none → Push 1 2064 4 (typeCells r) l l′ → Now f l′ (addType (said f l) (slice (r .start) (r .end) f) (typIn r))
+  pub pushed-type : (r : TypeRow) → getD l 1 0 < 32 → r .end ≤ length f → r .sum ≡ sumOf (slice (r .start) (r .end) f) → place (same (slice (r .start) (r .end) f)) 0 (namesOf f l) ≡ none → Push 1 2064 5 (typeCells r) l l′ → Now f l′ (addType (said f l) (slice (r .start) (r .end) f) (typIn r))
   unfolding starts width most strsOf namesOf typesOf titlesOf fldsOf logOf duesOf chunksOf addType
-  pushed-type r room within fresh p =
+  pushed-type r room within sums fresh p =
       let other = others {c = 1} (p .laid) (h .ok) (omega arith) room f in
       record {
-        holds = holds-after {c = 1} (p .laid) (h .ok) (omega arith) room h (p .ok) (λ lt. within) (λ e. fresh);
+        holds = holds-after {c = 1} (p .laid) (h .ok) (omega arith) room h (p .ok) (λ lt. record { inside = within; sum = λ named. sums }) (λ e. fresh);
         says = λ i. record {
           state = record {
             strings = other .strings (omega arith) i;
@@ -235,13 +235,13 @@ module _ {f l l′ : List ℕ} (h : Holds f l) where
         };
       }
 
-  pub pushed-field : (r : FieldRow) → getD l 2 0 < 128 → r .end ≤ length f → Push 2 2192 16 (fieldCells r) l l′ → Now f l′ (addField (said f l) (slice (r .start) (r .end) f) (fieldIn r))
+  pub pushed-field : (r : FieldRow) → getD l 2 0 < 128 → r .end ≤ length f → r .sum ≡ sumOf (slice (r .start) (r .end) f) → Push 2 2224 16 (fieldCells r) l l′ → Now f l′ (addField (said f l) (slice (r .start) (r .end) f) (fieldIn r))
   unfolding starts width most strsOf namesOf typesOf titlesOf fldsOf logOf duesOf chunksOf addField
-  pushed-field r room within p =
+  pushed-field r room within sums p =
       let other = others {c = 2} (p .laid) (h .ok) (omega arith) room f in
       let mine = push-mine (p .laid) fldOf ∙ ap (λ (d : Field). fldsOf l ++ d ∷ []) (field-cells r) in
       record {
-        holds = holds-after {c = 2} (p .laid) (h .ok) (omega arith) room h (p .ok) (λ lt. within) (λ e. absurd (omega arith));
+        holds = holds-after {c = 2} (p .laid) (h .ok) (omega arith) room h (p .ok) (λ lt. record { inside = within; sum = λ named. sums }) (λ e. absurd (omega arith));
         says = λ i. record {
           state = record {
             strings = other .strings (omega arith) i;
@@ -257,7 +257,7 @@ module _ {f l l′ : List ℕ} (h : Holds f l) where
         };
       }
 
-  pub pushed-range : (r : RangeRow) → getD l 3 0 < 1024 → Small r → Push 3 4240 3 (rangeCells r) l l′ → Now f l′ (addRange (said f l) (rangeIn r))
+  pub pushed-range : (r : RangeRow) → getD l 3 0 < 1024 → Small r → Push 3 4272 3 (rangeCells r) l l′ → Now f l′ (addRange (said f l) (rangeIn r))
   unfolding starts width most strsOf namesOf typesOf titlesOf fldsOf logOf duesOf chunksOf addRange
   pushed-range r room small p =
       let other = others {c = 3} (p .laid) (h .ok) (omega arith) room f in
@@ -279,7 +279,7 @@ module _ {f l l′ : List ℕ} (h : Holds f l) where
         };
       }
 
-  pub pushed-due : (field values size : ℕ) → getD l 4 0 < 128 → Push 4 7312 4 (dueCells field values size) l l′ → Now f l′ (addDue (said f l) (record { field = field; values = values }) size)
+  pub pushed-due : (field values size : ℕ) → getD l 4 0 < 128 → Push 4 7344 4 (dueCells field values size) l l′ → Now f l′ (addDue (said f l) (record { field = field; values = values }) size)
   unfolding starts width most strsOf namesOf typesOf titlesOf fldsOf logOf duesOf chunksOf addDue
   pushed-due field values size room p =
       let other = others {c = 4} (p .laid) (h .ok) (omega arith) room f in
@@ -301,7 +301,7 @@ module _ {f l l′ : List ℕ} (h : Holds f l) where
         };
       }
 
-  pub pushed-chunk : (field start end : ℕ) → getD l 5 0 < 4096 → field < 128 → Push 5 7824 2 (chunkCells field start end) l l′ → Now f l′ (addChunk (said f l) (record { field = field; start = start; end = end }))
+  pub pushed-chunk : (field start end : ℕ) → getD l 5 0 < 4096 → field < 128 → Push 5 7856 2 (chunkCells field start end) l l′ → Now f l′ (addChunk (said f l) (record { field = field; start = start; end = end }))
   unfolding starts width most strsOf namesOf typesOf titlesOf fldsOf logOf duesOf chunksOf addChunk
   pushed-chunk field start end room small p =
       let other = others {c = 5} (p .laid) (h .ok) (omega arith) room f in

@@ -32,6 +32,17 @@ pub fn put4(work: &mut [u32], at: usize, a: u32, b: u32, d: u32, e: u32)
     work[at + 3] = e;
 }
 
+pub fn put5(work: &mut [u32], at: usize, a: u32, b: u32, d: u32, e: u32, g: u32)
+    requires { ⌜ at + 5 ≤ length (now work) ⌝ }
+    ensures { λ _. ⌜ now (work .exit) ≡ sets (now (work .entry)) at (a ∷ b ∷ d ∷ e ∷ g ∷ []) ⌝ }
+{
+    work[at] = a;
+    work[at + 1] = b;
+    work[at + 2] = d;
+    work[at + 3] = e;
+    work[at + 4] = g;
+}
+
 pub fn put8(
     work: &mut [u32],
     at: usize,

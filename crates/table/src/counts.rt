@@ -46,7 +46,7 @@ fn clear_tallies(work: &mut [u32])
     requires { ⌜ length (now work) ≡ 16384 ⌝ }
     ensures { λ _. ⌜ Zeroed 16384 (now (work .exit)) ⌝ }
 {
-    let mut i = 16016;
+    let mut i = 16048;
     while i < 16384 {
         work[i] = 0;
         i += 1;

@@ -1,16 +1,17 @@
 // Types and fields by their names. A name is lent, or is itself a part of the source.
 ghost use mathlib.Core.Path.{_≡_};
-ghost use mathlib.Core.Bool.{true};
-ghost use Prim.Native.Nat.{_-_, _≤_};
-ghost use lib.ListN.{length};
+ghost use mathlib.Core.Bool.{true, false};
+ghost use Prim.Native.Nat.{_-_, _≤_, _+_, _*_, _%_, _<_};
+ghost use lib.ListN.{length, getD, drop};
 ghost use lib.Seq.{slice};
 ghost use Rattle.paper.specs.Lists.{same, place, placeNamed, places};
 ghost use Rattle.paper.specs.Ledger.{owns?, called?};
-ghost use Rattle.table.specs.View.{namesOf, titlesOf, fldsOf, Ok, Holds};
+ghost use Rattle.table.specs.View.{namesOf, titlesOf, fldsOf, Ok, Holds, strsOf, sumOf};
 ghost use Rattle.table.specs.Answers.{fieldIn, Stretched};
-ghost use Rattle.table.specs.Asks.{found, Standing, Spotted};
+ghost use Rattle.table.specs.Asks.{found, Standing, Spotted, Other};
 use super::ranges::tally_at;
 use super::ranges::told;
+ghost use mathlib.Core.List.{[]};
 use super::rows::FieldRow;
 use super::rows::Span;
 use super::rows::Stretch;
@@ -18,12 +19,21 @@ use super::rows::field_at;
 use super::rows::fields;
 use super::rows::range_at;
 use super::rows::ranges;
+use super::rows::string_at;
 use super::rows::type_at;
 use super::rows::types;
+use std::num::wrapping_add_u16;
 
 // A place among the types or the fields.
 pub enum Found {
     At(u32),
+    Nothing,
+}
+
+// What the places of the types' names say of a name: the type that it is, that some type's name is as long, or that none is.
+pub enum Spot {
+    At(u32),
+    Alike,
     Nothing,
 }
 
@@ -36,7 +46,29 @@ fn length_of(start: u32, end: u32) -> usize
     (end - start) as usize
 }
 
-// The part of the source has the name's bytes: it is as long, and no byte differs.
+// A byte, times its place in 256.
+fn weighed(b: u8, i: usize) -> u16
+    ensures { λ r. ⌜ r ≡ b * (1 + i % 256) ⌝ }
+{
+    (b as u16) * (1 + (i % 256) as u16)
+}
+
+// The sum of a name's bytes, each times its place, by which most names are told apart without a look at their bytes. It is
+// kept with each type and field. A compiler can take many bytes at a time.
+pub fn name_sum(name: &[u8]) -> u32
+    ensures { λ r. ⌜ r ≡ sumOf (now (name .entry)) ⌝ }
+{
+    let mut sum = 0;
+    let mut i = 0;
+    while i < name.len() {
+        sum = wrapping_add_u16(sum, weighed(name[i], i));
+        i += 1;
+    }
+    sum as u32
+}
+
+// The part of the source has the name's bytes: it is as long, and no byte differs. All are looked at, many at a time: where the
+// sums are equal the names mostly are.
 fn is_name(src: &[u8], start: u32, end: u32, name: &[u8]) -> bool
     requires { ⌜ end ≤ length (now src) ⌝ }
     ensures { λ r. ⌜ r ≡ same (now (name .entry)) (slice start end (now (src .entry))) ⌝ }
@@ -45,14 +77,25 @@ fn is_name(src: &[u8], start: u32, end: u32, name: &[u8]) -> bool
         return false;
     }
     let from = start as usize;
+    let mut alike = true;
     let mut i = 0;
     while i < name.len() {
         if name[i] != src[from + i] {
-            return false;
+            alike = false;
         }
         i += 1;
     }
-    true
+    alike
+}
+
+// The part of the source, with this sum, has the bytes of the name with that sum. Equal names have equal sums.
+fn has_name(src: &[u8], start: u32, end: u32, there: u32, name: &[u8], sum: u32) -> bool
+    requires { ⌜ end ≤ length (now src) ⌝ }
+    requires { ⌜ there ≡ sumOf (slice start end (now src)) ⌝ }
+    requires { ⌜ sum ≡ sumOf (now name) ⌝ }
+    ensures { λ r. ⌜ r ≡ same (now (name .entry)) (slice start end (now (src .entry))) ⌝ }
+{
+    there == sum && is_name(src, start, end, name)
 }
 
 // The type with a lent name.
@@ -61,10 +104,11 @@ pub fn find_type_called(src: &[u8], work: &[u32], name: &[u8]) -> Found
     ensures { λ r. ⌜ found r ≡ place (same (now (name .entry))) 0 (namesOf (now (src .entry)) (now (work .entry))) ⌝ }
 {
     let n = types(work);
+    let sum = name_sum(name);
     let mut i = 0;
     while i < n {
         let row = type_at(work, i);
-        if is_name(src, row.start, row.end, name) {
+        if has_name(src, row.start, row.end, row.sum, name, sum) {
             return Found::At(i);
         }
         i += 1;
@@ -81,7 +125,13 @@ fn stands_at(work: &[u32], i: u32, name: Span) -> bool
         return false;
     }
     let row = type_at(work, i);
-    row.start == name.start && row.end == name.end
+    if row.start != name.start {
+        return false;
+    }
+    if row.end != name.end {
+        return false;
+    }
+    true
 }
 
 // The type behind the one that was entered last. Entries mostly come in the order of the block before.
@@ -100,45 +150,68 @@ fn likely_type(work: &[u32]) -> u32
     0
 }
 
-// The type whose name stands at this place, if there is one.
-fn find_place(work: &[u32], name: Span) -> Found
+// Whether the name of type i has n bytes.
+fn is_long(work: &[u32], i: u32, n: usize) -> bool
+    requires { ⌜ Ok (now work) ⌝ }
+    requires { ⌜ i < getD (now work) 1 0 ⌝ }
+    ensures { λ r. ⌜ (r ≡ false → Other (now (work .entry)) i n) ⌝ }
+{
+    let row = type_at(work, i);
+    length_of(row.start, row.end) == n
+}
+
+// The type whose name stands at this place, if there is one. No byte is read.
+fn find_place(work: &[u32], name: Span) -> Spot
     requires { ⌜ Ok (now work) ⌝ }
     ensures { λ r. ⌜ Spotted (now (work .entry)) name r ⌝ }
 {
     let likely = likely_type(work);
     if stands_at(work, likely, name) {
-        return Found::At(likely);
+        return Spot::At(likely);
     }
     let n = types(work);
+    let long = length_of(name.start, name.end);
+    let mut alike = false;
     let mut i = 0;
     while i < n {
         if stands_at(work, i, name) {
-            return Found::At(i);
+            return Spot::At(i);
+        }
+        if is_long(work, i, long) {
+            alike = true;
         }
         i += 1;
     }
-    Found::Nothing
+    if alike {
+        return Spot::Alike;
+    }
+    Spot::Nothing
 }
 
-// The type whose name has the bytes of a part of the source.
+// The type whose name has the bytes of a part of the source. They are read only where a type's name is as long.
 pub fn find_type(src: &[u8], work: &[u32], name: Span) -> Found
     requires { ⌜ Holds (now src) (now work) ⌝ }
     requires { ⌜ name .end ≤ length (now src) ⌝ }
     ensures { λ r. ⌜ found r ≡ place (same (slice (name .start) (name .end) (now (src .entry)))) 0 (namesOf (now (src .entry)) (now (work .entry))) ⌝ }
 {
-    if let Found::At(i) = find_place(work, name) {
-        return Found::At(i);
+    match find_place(work, name) {
+        Spot::At(i) => Found::At(i),
+        Spot::Nothing => Found::Nothing,
+        Spot::Alike => {
+            let to = name.end as usize;
+            let from = to - length_of(name.start, name.end);
+            find_type_called(src, work, &src[from..to])
+        }
     }
-    let to = name.end as usize;
-    let from = to - length_of(name.start, name.end);
-    find_type_called(src, work, &src[from..to])
 }
 
-fn is_called(src: &[u8], row: FieldRow, t: u32, name: &[u8]) -> bool
+fn is_called(src: &[u8], row: FieldRow, t: u32, name: &[u8], sum: u32) -> bool
     requires { ⌜ row .end ≤ length (now src) ⌝ }
+    requires { ⌜ row .sum ≡ sumOf (slice (row .start) (row .end) (now src)) ⌝ }
+    requires { ⌜ sum ≡ sumOf (now name) ⌝ }
     ensures { λ r. ⌜ r ≡ called? t (now (name .entry)) (fieldIn row) (slice (row .start) (row .end) (now (src .entry))) ⌝ }
 {
-    row.owner == t && is_name(src, row.start, row.end, name)
+    row.owner == t && has_name(src, row.start, row.end, row.sum, name, sum)
 }
 
 // The field of type t with a lent name.
@@ -147,10 +220,11 @@ pub fn find_field_called(src: &[u8], work: &[u32], t: u32, name: &[u8]) -> Found
     ensures { λ r. ⌜ found r ≡ placeNamed (called? t (now (name .entry))) 0 (fldsOf (now (work .entry))) (titlesOf (now (src .entry)) (now (work .entry))) ⌝ }
 {
     let n = fields(work);
+    let sum = name_sum(name);
     let mut i = 0;
     while i < n {
         let row = field_at(work, i);
-        if is_called(src, row, t, name) {
+        if is_called(src, row, t, name, sum) {
             return Found::At(i);
         }
         i += 1;
@@ -202,4 +276,16 @@ pub fn fields_of(work: &[u32], t: u32) -> u32
         i += 1;
     }
     k
+}
+
+// The sum of string n, counted from 1, for the row of what it names.
+pub fn string_sum(src: &[u8], work: &[u32], n: u64) -> u32
+    requires { ⌜ Holds (now src) (now work) ⌝ }
+    requires { ⌜ (0 < n) × (n ≤ getD (now work) 0 0) ⌝ }
+    ensures { λ r. ⌜ r ≡ sumOf (getD (strsOf (now (src .entry)) (now (work .entry))) (n - 1) []) ⌝ }
+{
+    let name = string_at(work, (n - 1) as u32);
+    let to = name.end as usize;
+    let from = to - length_of(name.start, name.end);
+    name_sum(&src[from..to])
 }

@@ -14,6 +14,7 @@ ghost use Rattle.table.specs.Sizes.{DueSized};
 use super::cells::put2;
 use super::cells::put3;
 use super::cells::put4;
+use super::cells::put5;
 use super::cells::put8;
 use super::rows::FieldRow;
 use super::rows::RangeRow;
@@ -33,14 +34,22 @@ pub fn push_string(work: &mut [u32], start: u32, end: u32)
 pub fn push_type(work: &mut [u32], t: TypeRow)
     requires { ⌜ Ok (now work) ⌝ }
     requires { ⌜ getD (now work) 1 0 < 32 ⌝ }
-    ensures { λ _. ⌜ Pushed 1 2064 4 (typeCells t) (now (work .entry)) (now (work .exit)) ⌝ }
+    ensures { λ _. ⌜ Pushed 1 2064 5 (typeCells t) (now (work .entry)) (now (work .exit)) ⌝ }
 {
     let n = work[1];
-    put4(work, 2064 + 4 * (n as usize), t.start, t.end, t.sup, t.base);
+    put5(
+        work,
+        2064 + 5 * (n as usize),
+        t.start,
+        t.end,
+        t.sup,
+        t.base,
+        t.sum,
+    );
     work[1] = n + 1;
 }
 
-// Half of a field's row is not used, and cleared.
+// Seven cells of a field's row are not used, and cleared.
 fn put_field(work: &mut [u32], at: usize, d: FieldRow)
     requires { ⌜ at + 16 ≤ length (now work) ⌝ }
     ensures { λ _. ⌜ now (work .exit) ≡ sets (now (work .entry)) at (fieldCells d) ⌝ }
@@ -61,7 +70,7 @@ fn put_field(work: &mut [u32], at: usize, d: FieldRow)
         e_low,
         e_high,
     );
-    put8(work, at + 8, 0, 0, 0, 0, 0, 0, 0, 0);
+    put8(work, at + 8, d.sum, 0, 0, 0, 0, 0, 0, 0);
 }
 
 // Among the tallies of type t, that the n-th field is its own: the fields of t stand from the first such on and up to the last.
@@ -73,7 +82,7 @@ fn tally_field(work: &mut [u32], t: u32, n: u32)
     if 32 <= t {
         return;
     }
-    let at = 16016 + 8 * (t as usize);
+    let at = 16048 + 8 * (t as usize);
     if work[at + 7] != 0 {
         work[at + 7] = n + 1;
         return;
@@ -85,10 +94,10 @@ fn tally_field(work: &mut [u32], t: u32, n: u32)
 pub fn push_field(work: &mut [u32], d: FieldRow)
     requires { ⌜ Ok (now work) ⌝ }
     requires { ⌜ getD (now work) 2 0 < 128 ⌝ }
-    ensures { λ _. ⌜ Pushed 2 2192 16 (fieldCells d) (now (work .entry)) (now (work .exit)) ⌝ }
+    ensures { λ _. ⌜ Pushed 2 2224 16 (fieldCells d) (now (work .entry)) (now (work .exit)) ⌝ }
 {
     let n = work[2];
-    put_field(work, 2192 + 16 * (n as usize), d);
+    put_field(work, 2224 + 16 * (n as usize), d);
     work[2] = n + 1;
     tally_field(work, d.owner, n);
 }
@@ -105,14 +114,14 @@ fn regular(work: &[u32], r: RangeRow) -> bool
     if work[1] <= r.typ {
         return false;
     }
-    let at = 16016 + 8 * (r.typ as usize);
+    let at = 16048 + 8 * (r.typ as usize);
     if r.block < work[at + 2] {
         return false;
     }
     if 4294901760 < work[at + 1] {
         return false;
     }
-    work[16272] <= 4294901760
+    work[16304] <= 4294901760
 }
 
 fn share_of(up: u32, n: u32) -> u32
@@ -137,7 +146,7 @@ fn tally_above(work: &mut [u32], up: u32, b: u32, end: u32)
     if 32 < up {
         return;
     }
-    let at = 16016 + 8 * ((up - 1) as usize) + 5;
+    let at = 16048 + 8 * ((up - 1) as usize) + 5;
     let c = work[at];
     if c <= b {
         put2(work, at, b + 1, end);
@@ -163,11 +172,11 @@ fn tally_range(work: &mut [u32], r: RangeRow, up: u32, n: u32)
         work[7] = 0;
         return;
     }
-    let at = 16016 + 8 * (r.typ as usize) + 1;
+    let at = 16048 + 8 * (r.typ as usize) + 1;
     let sum = work[at];
-    let all = work[16272] + share_of(up, r.count);
+    let all = work[16304] + share_of(up, r.count);
     put4(work, at, sum + r.count, r.block + 1, sum, n);
-    work[16272] = all;
+    work[16304] = all;
     tally_above(work, up, r.block, r.start + r.count);
 }
 
@@ -175,13 +184,13 @@ pub fn push_range(work: &mut [u32], r: RangeRow)
     requires { ⌜ Ok (now work) ⌝ }
     requires { ⌜ getD (now work) 3 0 < 1024 ⌝ }
     requires { ⌜ Small r ⌝ }
-    ensures { λ _. ⌜ Pushed 3 4240 3 (rangeCells r) (now (work .entry)) (now (work .exit)) ⌝ }
+    ensures { λ _. ⌜ Pushed 3 4272 3 (rangeCells r) (now (work .entry)) (now (work .exit)) ⌝ }
 {
     let up = super_of(work, r.typ);
     let n = work[3];
     let whose = r.typ + 32 * r.block;
     let extent = r.start + 65536 * r.count;
-    put3(work, 4240 + 3 * (n as usize), whose, extent, r.first);
+    put3(work, 4272 + 3 * (n as usize), whose, extent, r.first);
     work[3] = n + 1;
     tally_range(work, r, up, n);
 }
@@ -189,12 +198,12 @@ pub fn push_range(work: &mut [u32], r: RangeRow)
 pub fn push_due(work: &mut [u32], field: u32, values: u32, size: u64)
     requires { ⌜ Ok (now work) ⌝ }
     requires { ⌜ getD (now work) 4 0 < 128 ⌝ }
-    ensures { λ _. ⌜ Pushed 4 7312 4 (dueCells field values size) (now (work .entry)) (now (work .exit)) ⌝ }
+    ensures { λ _. ⌜ Pushed 4 7344 4 (dueCells field values size) (now (work .entry)) (now (work .exit)) ⌝ }
 {
     let n = work[4];
     let low = (size % 4294967296) as u32;
     let high = (size / 4294967296) as u32;
-    put4(work, 7312 + 4 * (n as usize), field, values, low, high);
+    put4(work, 7344 + 4 * (n as usize), field, values, low, high);
     work[4] = n + 1;
 }
 
@@ -206,17 +215,17 @@ pub fn size_due(work: &mut [u32], i: u32, size: u64)
 {
     let low = (size % 4294967296) as u32;
     let high = (size / 4294967296) as u32;
-    put2(work, 7312 + 4 * (i as usize) + 2, low, high);
+    put2(work, 7344 + 4 * (i as usize) + 2, low, high);
 }
 
 pub fn push_chunk(work: &mut [u32], field: u32, start: u32, end: u32)
     requires { ⌜ Ok (now work) ⌝ }
     requires { ⌜ getD (now work) 5 0 < 4096 ⌝ }
     requires { ⌜ (field < 128) × (start < 33554432) ⌝ }
-    ensures { λ _. ⌜ Pushed 5 7824 2 (chunkCells field start end) (now (work .entry)) (now (work .exit)) ⌝ }
+    ensures { λ _. ⌜ Pushed 5 7856 2 (chunkCells field start end) (now (work .entry)) (now (work .exit)) ⌝ }
 {
     let n = work[5];
     let whose = field + 128 * start;
-    put2(work, 7824 + 2 * (n as usize), whose, end);
+    put2(work, 7856 + 2 * (n as usize), whose, end);
     work[5] = n + 1;
 }

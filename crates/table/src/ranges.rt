@@ -146,7 +146,7 @@ pub fn tally_at(work: &[u32], t: u32, k: u32) -> u32
     requires { ⌜ (t < 32) × (k < 8) ⌝ }
     ensures { λ r. ⌜ r ≡ tally (now (work .entry)) t k ⌝ }
 {
-    let at = 16016 + 8 * (t as usize) + (k as usize);
+    let at = 16048 + 8 * (t as usize) + (k as usize);
     work[at]
 }
 
@@ -291,7 +291,7 @@ pub fn objects_in_all(work: &[u32]) -> u32
     ensures { λ r. ⌜ r ≤ 67107840 ⌝ }
 {
     if work[7] == 1 {
-        let sum = work[16272];
+        let sum = work[16304];
         if sum <= 67107840 {
             return sum;
         }

@@ -4,7 +4,7 @@ ghost use Prim.Native.Nat.{_+_, _*_, _<_, _≤_};
 ghost use lib.ListN.{length, getD};
 ghost use Rattle.paper.specs.Ledger.{noType, noField};
 ghost use Rattle.table.specs.View.{strsOf, namesOf, titlesOf, typesOf, fldsOf, logOf, duesOf, chunksOf, Ok};
-ghost use Rattle.table.specs.Answers.{Stands, typIn, fieldIn, rangeIn, noRange, Small, dueIn, noDue, spotIn, noSpot, Near};
+ghost use Rattle.table.specs.Answers.{Stands, Named, typIn, fieldIn, rangeIn, noRange, Small, dueIn, noDue, spotIn, noSpot, Near};
 
 // A part of the source.
 pub struct Span {
@@ -12,15 +12,16 @@ pub struct Span {
     pub end: u32,
 }
 
-// A type: where its name stands; its super type, 0 for none and u + 1 for type u; the base type of its pool.
+// A type: where its name stands; its super type, 0 for none and u + 1 for type u; the base type of its pool; its name's sum.
 pub struct TypeRow {
     pub start: u32,
     pub end: u32,
     pub sup: u32,
     pub base: u32,
+    pub sum: u32,
 }
 
-// A field: where its name stands, its type, and its kind in three numbers (`kindFrom`).
+// A field: where its name stands, its type, its kind in three numbers (`kindFrom`), and its name's sum.
 pub struct FieldRow {
     pub start: u32,
     pub end: u32,
@@ -28,6 +29,7 @@ pub struct FieldRow {
     pub kind: u32,
     pub a: u64,
     pub e: u64,
+    pub sum: u32,
 }
 
 // The objects that a block adds to a type.
@@ -133,14 +135,15 @@ pub fn type_at(work: &[u32], i: u32) -> TypeRow
     requires { ⌜ Ok (now work) ⌝ }
     requires { ⌜ i < getD (now work) 1 0 ⌝ }
     ensures { λ r. ⌜ typIn r ≡ getD (typesOf (now (work .entry))) i noType ⌝ }
-    ensures { λ r. ⌜ Stands namesOf (now (work .entry)) i (r .start) (r .end) ⌝ }
+    ensures { λ r. ⌜ Named namesOf (now (work .entry)) i (r .start) (r .end) (r .sum) ⌝ }
 {
-    let at = 2064 + 4 * (i as usize);
+    let at = 2064 + 5 * (i as usize);
     TypeRow {
         start: work[at],
         end: work[at + 1],
         sup: work[at + 2],
         base: work[at + 3],
+        sum: work[at + 4],
     }
 }
 
@@ -158,9 +161,9 @@ pub fn field_at(work: &[u32], i: u32) -> FieldRow
     requires { ⌜ Ok (now work) ⌝ }
     requires { ⌜ i < getD (now work) 2 0 ⌝ }
     ensures { λ r. ⌜ fieldIn r ≡ getD (fldsOf (now (work .entry))) i noField ⌝ }
-    ensures { λ r. ⌜ Stands titlesOf (now (work .entry)) i (r .start) (r .end) ⌝ }
+    ensures { λ r. ⌜ Named titlesOf (now (work .entry)) i (r .start) (r .end) (r .sum) ⌝ }
 {
-    let at = 2192 + 16 * (i as usize);
+    let at = 2224 + 16 * (i as usize);
     let a = wide_at(work, at + 4);
     let e = wide_at(work, at + 6);
     FieldRow {
@@ -170,6 +173,7 @@ pub fn field_at(work: &[u32], i: u32) -> FieldRow
         kind: work[at + 3],
         a,
         e,
+        sum: work[at + 8],
     }
 }
 
@@ -179,7 +183,7 @@ pub fn range_at(work: &[u32], i: u32) -> RangeRow
     ensures { λ r. ⌜ rangeIn r ≡ getD (logOf (now (work .entry))) i noRange ⌝ }
     ensures { λ r. ⌜ Small r ⌝ }
 {
-    let at = 4240 + 3 * (i as usize);
+    let at = 4272 + 3 * (i as usize);
     let whose = work[at];
     let extent = work[at + 1];
     RangeRow {
@@ -196,7 +200,7 @@ pub fn due_at(work: &[u32], i: u32) -> DueRow
     requires { ⌜ i < getD (now work) 4 0 ⌝ }
     ensures { λ r. ⌜ dueIn r ≡ getD (duesOf (now (work .entry))) i noDue ⌝ }
 {
-    let at = 7312 + 4 * (i as usize);
+    let at = 7344 + 4 * (i as usize);
     let size = wide_at(work, at + 2);
     DueRow {
         field: work[at],
@@ -211,7 +215,7 @@ pub fn chunk_at(work: &[u32], i: u32) -> ChunkRow
     ensures { λ r. ⌜ spotIn r ≡ getD (chunksOf (now (work .entry))) i noSpot ⌝ }
     ensures { λ r. ⌜ Near r ⌝ }
 {
-    let at = 7824 + 2 * (i as usize);
+    let at = 7856 + 2 * (i as usize);
     let whose = work[at];
     ChunkRow {
         field: whose % 128,

@@ -121,7 +121,7 @@ module _ {f l pools : List ℕ} {at i : ℕ} (D : DueAt f l pools at i) {d : Due
     turned-no refused =
         record { says = says-due; holds = D .holds; puts = λ c got?. not-got (ap stepOf (sym refused ∙ got?)) }
 
-    pub turned-got : {c : Cursor} {l′ : List ℕ} → a ≡ Got c → Pushed 5 7824 2 (chunkCells (d .field) at (c .at)) l l′ → TurnDone f l at i (Got c) l′
+    pub turned-got : {c : Cursor} {l′ : List ℕ} → a ≡ Got c → Pushed 5 7856 2 (chunkCells (d .field) at (c .at)) l l′ → TurnDone f l at i (Got c) l′
     turned-got {c} {l′} got? P =
         let after = pushed-chunk (D .holds) (d .field) at (c .at) (D .room) (omega (arith, field-declared, D .holds .ok .flds-fit)) (P .push) in
         record {

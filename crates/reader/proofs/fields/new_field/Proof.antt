@@ -31,6 +31,6 @@ new-field-spec =
     (λ c. search needs)
     (λ c. new-unended (c .before .before .before .before .before .before .before .before .before .before .before .before .before .before .before .before .before .before .pre .0) _ _ _ _ (c .before .before .before .before .before .before .before .before .before .before .before .before .before .before .before .no-restrictions .ensures) (c .before .before .before .before .before .before .before .before .before .before .before .before .before .a .given .1) (c .before .before .before .before .before .before .before .before .before .before .before .read-kind .ensures) (c .before .before .before .before .before .before .before .before .before .k .given .1) (c .before .before .before .before .before .before .field-name .ensures) (c .before .before .before .before .b .given .1) (c .before .before .end-offset .ensures) (c .enum-told4 .given .1))
     (λ c. end-held (c .before .before .before .end-offset .ensures) (c .before .d .given .1))
-    (λ c κs. let start = c .before .before .before .before .before .before .before .before .before .before .before .before .before .before .before .before .before .before .before .before in (start .pre .0 .ok, (name-held (start .pre .0) (start .args .t) (c .before .before .before .before .before .before .before .before .field-name .ensures) (c .before .before .before .before .before .before .b .given .1), (kind-was-got (c .before .before .before .before .before .before .before .before .before .before .before .before .before .read-kind .ensures) (c .before .before .before .before .before .before .before .before .before .before .before .k .given .1) .first, (start .pre .1 .1, new-has-room (start .pre .0) (start .pre .1 .0) (start .pre .1 .1))))))
+    (λ c κs. let start = c .before .before .before .before .before .before .before .before .before .before .before .before .before .before .before .before .before .before .before .before in (start .pre .0, (name-held (start .pre .0) (start .args .t) (c .before .before .before .before .before .before .before .before .field-name .ensures) (c .before .before .before .before .before .before .b .given .1), (kind-was-got (c .before .before .before .before .before .before .before .before .before .before .before .before .before .read-kind .ensures) (c .before .before .before .before .before .before .before .before .before .before .before .k .given .1) .first, (start .pre .1 .1, new-has-room (start .pre .0) (start .pre .1 .0) (start .pre .1 .1))))))
     (λ c. search needs)
     (λ c. let start = c .before .before .before .before .before .before .before .before .before .before .before .before .before .before .before .before .before .before .before .before .before .before .before in new-got (start .pre .0) _ _ _ _ (c .before .before .before .before .before .before .before .before .before .before .before .before .before .before .before .before .before .before .before .before .no-restrictions .ensures) (c .before .before .before .before .before .before .before .before .before .before .before .before .before .before .before .before .before .before .a .given .1) (c .before .before .before .before .before .before .before .before .before .before .before .before .before .before .before .before .read-kind .ensures) (c .before .before .before .before .before .before .before .before .before .before .before .before .before .before .k .given .1) (c .before .before .before .before .before .before .before .before .before .before .before .field-name .ensures) (c .before .before .before .before .before .before .before .before .before .b .given .1) (c .before .before .before .before .before .before .before .end-offset .ensures) (c .before .before .before .before .before .d .given .1) (c .before .before .add-field .ensures) (start .pre .1 .0) (start .pre .1 .1)))

@@ -1,5 +1,5 @@
 -- `reader::heads::enter_head` meets its contract. Assumes nothing.
-use Rattle.reader.specs.EnterLaws.{entered-no, enterable, entered-top}
+use Rattle.reader.specs.EnterLaws.{entered-no, top-placed, entered-top}
 use borrow.Author.Needs.{needs}
 use Rattle.reader.proofs.heads.enter_head.Statement.{statement}
 use Rattle.reader.proofs.heads.enter_head.Tie as tie
@@ -13,6 +13,6 @@ enter-head-spec =
     (λ c. search needs)
     (λ c. search needs)
     (λ c. entered-no ((c .before .before .before .before .before .before) .pre .0) (c .before .before .read-head .ensures) (c .enum-told .given .1))
-    (λ c κs. enterable ((c .before .before .before .before .before .before .before .before) .pre .0) (c .before .before .before .before .read-head .ensures) (c .before .before .a .given .1) ((c .before .before .before .before .before .before .before .before) .pre .1))
+    (λ c κs. let start = c .before .before .before .before .before .before .before .before in (start .pre .0, (start .pre .1, top-placed (start .pre .0) (c .before .before .before .before .read-head .ensures) (c .before .before .a .given .1))))
     (λ c. search needs)
-    (λ c. entered-top ((c .before .before .before .before .before .before .before .before .before .before .before) .pre .0) (c .before .before .before .before .before .before .before .read-head .ensures) (c .before .before .before .before .before .a .given .1) ((c .before .before .before .before .before .before .before .before .before .before .before) .pre .1) (c .before .before .enter-top .ensures)))
+    (λ c. entered-top ((c .before .before .before .before .before .before .before .before .before .before .before) .pre .0) (c .before .before .before .before .before .before .before .read-head .ensures) (c .before .before .before .before .before .a .given .1) (c .before .before .enter-top .ensures)))

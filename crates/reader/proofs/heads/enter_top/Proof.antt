@@ -10,7 +10,7 @@ enter-top-spec =
     (tie.spec
     (λ c κs. search needs)
     (λ c κs. search needs)
-    (λ c κs. ((c .before .before .before .before .before .before .before .before) .pre .holds .ok, declares ((c .before .before .before .before .before .before .before .before) .pre)))
-    (λ c κs. range-fits (c .before .before .before .before .before .before .before .base-for .ensures) (c .before .before .before .before .before .range-for .ensures) (c .before .before .before .enter-type .ensures) ((c .before .before .before .before .before .before .before .before .before .before .before .before) .pre))
+    (λ c κs. let start = c .before .before .before .before .before .before .before .before .before in (start .pre .0, declares (start .pre .0) (start .pre .1 .1)))
+    (λ c κs. let start = c .before .before .before .before .before .before .before .before .before .before .before .before .before in range-fits (start .pre .0) (start .pre .1 .1) (start .pre .1 .0) (c .before .before .before .before .before .before .before .base-for .ensures) (c .before .before .before .before .before .range-for .ensures) (c .before .before .before .enter-type .ensures))
     (λ c. search needs)
-    (λ c. λ f h k placed. entered (c .before .before .before .before .before .before .before .before .before .before .base-for .ensures) (c .before .before .before .before .before .before .before .before .range-for .ensures) (c .before .before .before .before .before .before .enter-type .ensures) h k placed (c .before .before .push-range .ensures)))
+    (λ c. let start = c .before .before .before .before .before .before .before .before .before .before .before .before .before .before .before .before in entered (start .pre .0) (start .pre .1 .1) (start .pre .1 .0) (c .before .before .before .before .before .before .before .before .before .before .base-for .ensures) (c .before .before .before .before .before .before .before .before .range-for .ensures) (c .before .before .before .before .before .before .enter-type .ensures) (c .before .before .push-range .ensures)))

@@ -5,7 +5,7 @@ use Prim.Native.Nat.{ℕ}
 use Rattle.paper.specs.Lists.{same, place}
 use Rattle.table.specs.View.{namesOf}
 use Rattle.table.specs.Asks.{found}
-use Rattle.table.specs.NameLaws.{part-of, spotted}
+use Rattle.table.specs.NameLaws.{part-of, spotted, not-spotted}
 use borrow.Author.Needs.{needs}
 use Rattle.table.proofs.names.find_type.Statement.{statement}
 use Rattle.table.proofs.names.find_type.Tie as tie
@@ -16,13 +16,15 @@ find-type-spec =
     (tie.spec
     (λ c κs. search needs)
     (λ c. search needs)
-    (λ c. let c3 = c .before .before .before in let c6 = c3 .before .before .before in spotted (c6 .args .name) (c6 .pre .0) (c3 .find-place .ensures) (c .before .i .given .1))
-    (λ c. search needs)
-    (λ c. search needs)
-    (λ c κs. search needs)
-    (λ c. search needs)
     (λ c. search needs)
     (λ c. search needs)
     (λ c. search needs)
     (λ c κs. search needs)
-    (λ c. let c2 = c .before .before in let c9 = c2 .before .before .before .before .before .before .before in let a = c9 .args in subst (λ (x : List ℕ). found (c .find-type-called .result) ≡ place (same x) 0 (namesOf (a .src .now) (a .work .now))) (part-of (a .name .start) (a .name .end) (c2 .length-of .result) (a .src .now) (c2 .length-of .ensures) (c9 .pre .1)) (c .find-type-called .ensures)))
+    (λ c. search needs)
+    (λ c. search needs)
+    (λ c. search needs)
+    (λ c. search needs)
+    (λ c κs. search needs)
+    (λ c. let start = c .before .before .before .before .before .before in spotted (start .args .name) (start .pre .0) (c .before .before .before .find-place .ensures) (c .before .i .given .1))
+    (λ c. let start = c .before .before .before .before .before in not-spotted (start .args .name) (start .pre .0) (c .before .before .find-place .ensures) (start .pre .1) (c .enum-told .given .1))
+    (λ c. let start = c .before .before .before .before .before .before .before .before .before in let a = start .args in let long = c .before .before .length-of in subst (λ (x : List ℕ). found (c .find-type-called .result) ≡ place (same x) 0 (namesOf (a .src .now) (a .work .now))) (part-of (a .name .start) (a .name .end) (long .result) (a .src .now) (long .ensures) (start .pre .1)) (c .find-type-called .ensures)))

@@ -12,10 +12,10 @@ use Rattle.table.proofs.names.find_type_called.Statement.{statement}
 use Rattle.table.proofs.names.find_type_called.Tie as tie
 
 abbrev Inv-loop : tie.InvT-loop
-Inv-loop src work name n i₀ i = (i ≤ n) × (place (same name) 0 (namesOf src work) ≡ place (same name) i (drop i (namesOf src work)))
+Inv-loop src work name n sum i₀ i = (i ≤ n) × (place (same name) 0 (namesOf src work) ≡ place (same name) i (drop i (namesOf src work)))
 
 abbrev μ-loop : tie.MeasureT-loop
-μ-loop src work name n i₀ i = n - i
+μ-loop src work name n sum i₀ i = n - i
 
 pub find-type-called-spec : {M : Type 1} → statement M
 find-type-called-spec =
@@ -24,11 +24,12 @@ find-type-called-spec =
     Inv-loop
     μ-loop
     (λ c κs. search needs)
+    (λ c κs. search needs)
     (λ c. (zero-le, refl))
     (λ c κs. search needs)
-    (λ c κs. c .type-at .ensures .1 .within (c .before .before .before .before .before .before .before .args .src .now) (c .before .before .before .before .before .before .before .pre))
-    (λ c. let a = c .before .before .before .before .before .before .before .before .before .args in sym (c .before .before .before .before .loop .inv .1 ∙ place-here (same (a .name .now)) (namesOf (a .src .now) (a .work .now)) (c .before .before .before .before .loop .i) [] (omega arith) (sym (c .before .before .type-at .ensures .1 .is (a .src .now))) (c .before .is-name .ensures) (c .if1 .taken)))
+    (λ c κs. let start = c .before .before .before .before .before .before .before .before in let row = c .type-at .ensures .1 in (row .within (start .args .src .now) (start .pre), (row .sums (start .args .src .now) (start .pre), c .before .before .before .name-sum .ensures)))
+    (λ c. let a = c .before .before .before .before .before .before .before .before .before .before .args in let turn = c .before .before .before .before .loop in sym (turn .inv .1 ∙ place-here (same (a .name .now)) (namesOf (a .src .now) (a .work .now)) (turn .i) [] (omega arith) (sym (c .before .before .type-at .ensures .1 .is (a .src .now))) (c .before .has-name .ensures) (c .if1 .taken)))
     (λ c. search needs)
     (λ c. search needs)
-    (λ c. let a = c .before .before .before .before .before .before .before .before .before .args in (omega arith, c .before .before .before .before .loop .inv .1 ∙ place-on (same (a .name .now)) (namesOf (a .src .now) (a .work .now)) (c .before .before .before .before .loop .i) [] (omega arith) (sym (c .before .before .type-at .ensures .1 .is (a .src .now))) (c .before .is-name .ensures) (c .if1 .left)))
-    (λ c. let a = c .before .before .before .before .before .before .args in sym (c .before .loop .inv .1 ∙ place-end (same (a .name .now)) (namesOf (a .src .now) (a .work .now)) (c .before .loop .i) (omega arith))))
+    (λ c. let a = c .before .before .before .before .before .before .before .before .before .before .args in let turn = c .before .before .before .before .loop in (omega arith, turn .inv .1 ∙ place-on (same (a .name .now)) (namesOf (a .src .now) (a .work .now)) (turn .i) [] (omega arith) (sym (c .before .before .type-at .ensures .1 .is (a .src .now))) (c .before .has-name .ensures) (c .if1 .left)))
+    (λ c. let a = c .before .before .before .before .before .before .before .args in sym (c .before .loop .inv .1 ∙ place-end (same (a .name .now)) (namesOf (a .src .now) (a .work .now)) (c .before .loop .i) (omega arith))))

@@ -1,6 +1,5 @@
 -- `table::names::stands_at` meets its contract. Assumes nothing.
 use borrow.Author.Needs.{needs}
-use borrow.Author.Tests.{eqb-true}
 use mathlib.Core.Bool.{false≢true}
 use native.Mathlib.Omega.{arith}
 use Rattle.table.specs.NameLaws.{standing}
@@ -14,5 +13,6 @@ stands-at-spec =
     (λ c κs. search needs)
     (λ c. λ e. absurd (false≢true e))
     (λ c κs. search needs)
-    (λ c. λ e. standing (omega arith) (c .before .before .before .before .before .type-at .ensures .1) (c .before .before .if2 .taken) (eqb-true _ _ e))
-    (λ c. λ e. absurd (c .if2 .left (eqb-true _ _ e))))
+    (λ c. λ e. absurd (false≢true e))
+    (λ c. λ e. absurd (false≢true e))
+    (λ c. λ e. standing (omega arith) (c .before .before .before .before .before .before .type-at .ensures .1) (omega arith) (omega arith)))

@@ -45,13 +45,13 @@ slice-write-work c = search needs
 tally-field-requires : tie.Need-tally-field-requires
 tally-field-requires c κs =
     let s = c .before .before .before .before .before .before .before in
-    (length-set (c .before .before .before .put-field .last .0) 2 (getD (s .args .work .now) 2 0 + 1) ∙ ap length (c .before .before .before .put-field .ensures) ∙ length-sets (s .args .work .now) (2192 + 16 * getD (s .args .work .now) 2 0) (fieldCells (s .args .d)) ∙ s .pre .0 .long, s .pre .1)
+    (length-set (c .before .before .before .put-field .last .0) 2 (getD (s .args .work .now) 2 0 + 1) ∙ ap length (c .before .before .before .put-field .ensures) ∙ length-sets (s .args .work .now) (2224 + 16 * getD (s .args .work .now) 2 0) (fieldCells (s .args .d)) ∙ s .pre .0 .long, s .pre .1)
 
 -- src/pushes.rt:85:1
 same-length : tie.Need-same-length
 same-length c =
     let s = c .before .before .before .before .before .before .before .before .before .before in
-    c .before .before .tally-field .ensures .long ∙ length-set (c .before .before .before .before .before .before .put-field .last .0) 2 (getD (s .args .work .now) 2 0 + 1) ∙ ap length (c .before .before .before .before .before .before .put-field .ensures) ∙ length-sets (s .args .work .now) (2192 + 16 * getD (s .args .work .now) 2 0) (fieldCells (s .args .d))
+    c .before .before .tally-field .ensures .long ∙ length-set (c .before .before .before .before .before .before .put-field .last .0) 2 (getD (s .args .work .now) 2 0 + 1) ∙ ap length (c .before .before .before .before .before .before .put-field .ensures) ∙ length-sets (s .args .work .now) (2224 + 16 * getD (s .args .work .now) 2 0) (fieldCells (s .args .d))
 
 -- src/pushes.rt:85:1
 returns : tie.Need-returns

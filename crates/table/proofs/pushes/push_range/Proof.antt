@@ -26,6 +26,6 @@ push-range-spec =
     (λ c κs. search needs)
     (λ c. search needs)
     (λ c. search needs)
-    (λ c κs. let l = (c .before .before .before .before .before .before .before .before .before .before .before .before .before .args) .work .now in (length-set (c .before .before .before .put3 .last .0) 3 (getD l 3 0 + 1) ∙ ap length (c .before .before .before .put3 .ensures) ∙ length-sets l (4240 + 3 * getD l 3 0) (rangeCells ((c .before .before .before .before .before .before .before .before .before .before .before .before .before .args) .r)) ∙ c .before .before .before .before .before .before .before .before .before .before .before .before .before .pre .0 .long, c .before .before .before .before .before .before .before .before .before .before .before .before .before .pre .1 .1))
-    (λ c. let l = (c .before .before .before .before .before .before .before .before .before .before .before .before .before .before .before .before .args) .work .now in c .before .before .tally-range .ensures .long ∙ length-set (c .before .before .before .before .before .before .put3 .last .0) 3 (getD l 3 0 + 1) ∙ ap length (c .before .before .before .before .before .before .put3 .ensures) ∙ length-sets l (4240 + 3 * getD l 3 0) (rangeCells ((c .before .before .before .before .before .before .before .before .before .before .before .before .before .before .before .before .args) .r)))
+    (λ c κs. let l = (c .before .before .before .before .before .before .before .before .before .before .before .before .before .args) .work .now in (length-set (c .before .before .before .put3 .last .0) 3 (getD l 3 0 + 1) ∙ ap length (c .before .before .before .put3 .ensures) ∙ length-sets l (4272 + 3 * getD l 3 0) (rangeCells ((c .before .before .before .before .before .before .before .before .before .before .before .before .before .args) .r)) ∙ c .before .before .before .before .before .before .before .before .before .before .before .before .before .pre .0 .long, c .before .before .before .before .before .before .before .before .before .before .before .before .before .pre .1 .1))
+    (λ c. let l = (c .before .before .before .before .before .before .before .before .before .before .before .before .before .before .before .before .args) .work .now in c .before .before .tally-range .ensures .long ∙ length-set (c .before .before .before .before .before .before .put3 .last .0) 3 (getD l 3 0 + 1) ∙ ap length (c .before .before .before .before .before .before .put3 .ensures) ∙ length-sets l (4272 + 3 * getD l 3 0) (rangeCells ((c .before .before .before .before .before .before .before .before .before .before .before .before .before .before .before .before .args) .r)))
     (λ c. pushed-range-by (c .before .before .before .before .before .before .before .before .before .before .before .before .before .before .before .before .args .r) (c .before .before .before .before .before .before .before .before .before .before .before .before .before .super-of .result) (c .before .before .before .before .before .before .before .before .before .before .before .before .before .before .before .before .pre .0) (c .before .before .before .before .before .before .before .before .before .before .before .before .before .before .before .before .pre .1 .0) (c .before .before .before .before .before .before .before .before .before .before .before .before .before .before .before .before .pre .1 .1) (c .before .before .before .before .before .before .before .before .before .before .before .before .before .super-of .ensures) (c .before .before .before .before .before .before .put3 .ensures) (c .before .before .tally-range .ensures)))

@@ -9,7 +9,7 @@ use Rattle.table.proofs.pushes.push_type.Tie as tie
 
 returns : tie.Need-returns
 unfolding starts width most
-returns c = pushed-type-by (c .before .before .before .before .before .before .args .t) (c .before .before .before .before .before .before .pre .0) (omega arith) (c .before .before .put4 .ensures)
+returns c = pushed-type-by (c .before .before .before .before .before .before .args .t) (c .before .before .before .before .before .before .pre .0) (omega arith) (c .before .before .put5 .ensures)
 
 pub push-type-spec : {M : Type 1} → statement M
 push-type-spec =

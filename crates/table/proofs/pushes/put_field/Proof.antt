@@ -19,4 +19,4 @@ put-field-spec =
     (λ c. search needs)
     (λ c κs. search needs)
     (λ c. search needs)
-    (λ c. let a = c .before .before .before .before .before .before .before .before .before .before .before .before .before .args in sets-two (take 8 (fieldCells (a .d))) (0 ∷ 0 ∷ 0 ∷ 0 ∷ 0 ∷ 0 ∷ 0 ∷ 0 ∷ []) (a .work .now) (a .at) (c .before .before .before .before .before .before .put8 .ensures) (c .before .before .put82 .ensures)))
+    (λ c. let a = c .before .before .before .before .before .before .before .before .before .before .before .before .before .args in sets-two (take 8 (fieldCells (a .d))) (a .d .sum ∷ 0 ∷ 0 ∷ 0 ∷ 0 ∷ 0 ∷ 0 ∷ 0 ∷ []) (a .work .now) (a .at) (c .before .before .before .before .before .before .put8 .ensures) (c .before .before .put82 .ensures)))

@@ -79,7 +79,7 @@ mul-work-3 c = search needs
 
 -- src/pushes.rt:82:5
 slice-write-work-3 : tie.Need-slice-write-work-3
-slice-write-work-3 c = let s = c .before .before .before in omega (arith, length-set (s .args .work .now) (16016 + 8 * s .args .t) (s .args .n), s .pre .0)
+slice-write-work-3 c = let s = c .before .before .before in omega (arith, length-set (s .args .work .now) (16048 + 8 * s .args .t) (s .args .n), s .pre .0)
 
 -- src/pushes.rt:68:1
 same-length-2 : tie.Need-same-length-2

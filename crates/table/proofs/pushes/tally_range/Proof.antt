@@ -33,6 +33,6 @@ tally-range-spec =
     (λ c κs. search needs)
     (λ c. search needs)
     (λ c. search needs)
-    (λ c κs. let l = (c .before .before .before .before .before .before .before .before .before .before .before .before .before .before .before .before .args) .work .now in let k = 16016 + 8 * (c .before .before .before .before .before .before .before .before .before .before .before .before .before .before .before .before .args) .r .typ + 1 in let vs : List ℕ = (getD l k 0 + (c .before .before .before .before .before .before .before .before .before .before .before .before .before .before .before .before .args) .r .count) ∷ ((c .before .before .before .before .before .before .before .before .before .before .before .before .before .before .before .before .args) .r .block + 1) ∷ getD l k 0 ∷ (c .before .before .before .before .before .before .before .before .before .before .before .before .before .before .before .before .args) .n ∷ [] in (length-set (c .before .before .before .before .put4 .last .0) 16272 (getD l 16272 0 + c .before .before .before .before .before .before .before .before .share-of .result) ∙ ap length (c .before .before .before .before .put4 .ensures) ∙ length-sets l k vs ∙ c .before .before .before .before .before .before .before .before .before .before .before .before .before .before .before .before .pre .0, c .before .before .before .before .before .before .before .before .before .before .before .before .before .before .before .before .pre .1 .block-fits))
-    (λ c. let l = (c .before .before .before .before .before .before .before .before .before .before .before .before .before .before .before .before .before .before .before .args) .work .now in let k = 16016 + 8 * (c .before .before .before .before .before .before .before .before .before .before .before .before .before .before .before .before .before .before .before .args) .r .typ + 1 in let vs : List ℕ = (getD l k 0 + (c .before .before .before .before .before .before .before .before .before .before .before .before .before .before .before .before .before .before .before .args) .r .count) ∷ ((c .before .before .before .before .before .before .before .before .before .before .before .before .before .before .before .before .before .before .before .args) .r .block + 1) ∷ getD l k 0 ∷ (c .before .before .before .before .before .before .before .before .before .before .before .before .before .before .before .before .before .before .before .args) .n ∷ [] in c .before .before .tally-above .ensures .long ∙ length-set (c .before .before .before .before .before .before .before .put4 .last .0) 16272 (getD l 16272 0 + c .before .before .before .before .before .before .before .before .before .before .before .share-of .result) ∙ ap length (c .before .before .before .before .before .before .before .put4 .ensures) ∙ length-sets l k vs)
+    (λ c κs. let l = (c .before .before .before .before .before .before .before .before .before .before .before .before .before .before .before .before .args) .work .now in let k = 16048 + 8 * (c .before .before .before .before .before .before .before .before .before .before .before .before .before .before .before .before .args) .r .typ + 1 in let vs : List ℕ = (getD l k 0 + (c .before .before .before .before .before .before .before .before .before .before .before .before .before .before .before .before .args) .r .count) ∷ ((c .before .before .before .before .before .before .before .before .before .before .before .before .before .before .before .before .args) .r .block + 1) ∷ getD l k 0 ∷ (c .before .before .before .before .before .before .before .before .before .before .before .before .before .before .before .before .args) .n ∷ [] in (length-set (c .before .before .before .before .put4 .last .0) 16304 (getD l 16304 0 + c .before .before .before .before .before .before .before .before .share-of .result) ∙ ap length (c .before .before .before .before .put4 .ensures) ∙ length-sets l k vs ∙ c .before .before .before .before .before .before .before .before .before .before .before .before .before .before .before .before .pre .0, c .before .before .before .before .before .before .before .before .before .before .before .before .before .before .before .before .pre .1 .block-fits))
+    (λ c. let l = (c .before .before .before .before .before .before .before .before .before .before .before .before .before .before .before .before .before .before .before .args) .work .now in let k = 16048 + 8 * (c .before .before .before .before .before .before .before .before .before .before .before .before .before .before .before .before .before .before .before .args) .r .typ + 1 in let vs : List ℕ = (getD l k 0 + (c .before .before .before .before .before .before .before .before .before .before .before .before .before .before .before .before .before .before .before .args) .r .count) ∷ ((c .before .before .before .before .before .before .before .before .before .before .before .before .before .before .before .before .before .before .before .args) .r .block + 1) ∷ getD l k 0 ∷ (c .before .before .before .before .before .before .before .before .before .before .before .before .before .before .before .before .before .before .before .args) .n ∷ [] in c .before .before .tally-above .ensures .long ∙ length-set (c .before .before .before .before .before .before .before .put4 .last .0) 16304 (getD l 16304 0 + c .before .before .before .before .before .before .before .before .before .before .before .share-of .result) ∙ ap length (c .before .before .before .before .before .before .before .put4 .ensures) ∙ length-sets l k vs)
     (λ c. tallied-on (c .before .before .before .before .before .before .before .before .before .before .before .before .before .before .before .before .before .before .before .args .r) (c .before .before .before .before .before .before .before .before .before .before .before .before .before .before .before .before .before .before .before .args .up) (c .before .before .before .before .before .before .before .before .before .before .before .before .before .before .before .before .before .before .before .args .n) (c .before .before .before .before .before .before .before .before .before .before .before .share-of .ensures .0) (c .before .before .before .before .before .before .before .before .before .before .before .before .before .before .before .before .before .before .before .pre .1 .typ-fits) (c .before .before .before .before .before .before .before .before .before .before .before .before .before .before .before .before .regular .ensures (not-false _ (c .before .before .before .before .before .before .before .before .before .before .before .before .before .before .before .if1 .left))) (c .before .before .before .before .before .before .before .put4 .ensures) (c .before .before .tally-above .ensures)))

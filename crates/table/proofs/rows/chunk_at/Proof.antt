@@ -17,4 +17,4 @@ chunk-at-spec =
     (λ c. search needs)
     (λ c. search needs)
     (λ c. search needs)
-    (λ c. (chunk-row _ _ (omega arith), record { field-fits = omega arith; start-fits = omega (arith, c .before .shared-slice-known .given (7824 + 2 * c .before .before .args .i)) })))
+    (λ c. (chunk-row _ _ (omega arith), record { field-fits = omega arith; start-fits = omega (arith, c .before .shared-slice-known .given (7856 + 2 * c .before .before .args .i)) })))

@@ -26,4 +26,7 @@ field-at-spec =
     (λ c. search needs)
     (λ c. search needs)
     (λ c. search needs)
-    (λ c. (field-row _ _ (omega arith) (c .before .before .before .before .before .wide-at .ensures) (c .before .before .before .before .wide-at2 .ensures), title-stands _ _ (omega arith))))
+    (λ c. search needs)
+    (λ c. search needs)
+    (λ c. search needs)
+    (λ c. (field-row _ _ (omega arith) (c .before .before .before .before .before .before .wide-at .ensures) (c .before .before .before .before .before .wide-at2 .ensures), title-stands _ _ (omega arith))))

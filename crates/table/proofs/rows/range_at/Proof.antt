@@ -20,4 +20,4 @@ range-at-spec =
     (λ c. search needs)
     (λ c. search needs)
     (λ c. search needs)
-    (λ c. (range-row _ _ (omega arith), record { typ-fits = omega arith; block-fits = omega (arith, c .before .before .shared-slice-known .given (4240 + 3 * c .before .before .before .args .i)); start-fits = omega arith; count-fits = omega (arith, c .before .before .shared-slice-known .given (4240 + 3 * c .before .before .before .args .i + 1)) })))
+    (λ c. (range-row _ _ (omega arith), record { typ-fits = omega arith; block-fits = omega (arith, c .before .before .shared-slice-known .given (4272 + 3 * c .before .before .before .args .i)); start-fits = omega arith; count-fits = omega (arith, c .before .before .shared-slice-known .given (4272 + 3 * c .before .before .before .args .i + 1)) })))

@@ -22,4 +22,7 @@ type-at-spec =
     (λ c. search needs)
     (λ c. search needs)
     (λ c. search needs)
+    (λ c. search needs)
+    (λ c. search needs)
+    (λ c. search needs)
     (λ c. (type-row _ _ (omega arith), name-stands _ _ (omega arith))))
