@@ -10,6 +10,7 @@
 use crate::bounds;
 use crate::draft::{kind_bytes, wide, EntryDraft, FieldDraft, PairDraft, Written};
 use crate::kind::{constant_width, Element, Form, Kind, MapTypes, MAP_TYPES};
+use crate::mixing::Mixed;
 use crate::names::{Name, Names};
 use crate::text::{unhex, Text};
 use crate::v64;
@@ -20,6 +21,7 @@ pub fn candidate(text: &[u8]) -> Option<Vec<u8>> {
         text: Text::new(text),
         names: Names::default(),
         types: Vec::new(),
+        type_by_name: Mixed::default(),
         fields: 0,
     };
     let mut written = Written::default();
@@ -42,13 +44,13 @@ struct Builder<'t> {
     /// Strings in hex, which is as good as their bytes for comparing them.
     names: Names<'t>,
     types: Vec<Known>,
+    type_by_name: Mixed<Name, usize>,
     /// Fields of all types.
     fields: usize,
 }
 
 /// What has to be known of a type to read its entries.
 struct Known {
-    name: Name,
     has_super: bool,
     objects: u64,
     fields: Vec<Kind>,
@@ -128,17 +130,18 @@ impl Builder<'_> {
     /// The type an entry speaks of; a new one joins the list.
     fn type_of(&mut self, number: u64, super_name: Option<u64>) -> Option<usize> {
         let name = self.names.name(number)?;
-        let known = self.types.iter().position(|known| known.name == name);
+        let known = self.type_by_name.get(&name).copied();
         match (known, super_name) {
             (Some(index), None) => Some(index),
             (None, Some(upper)) if self.types.len() < bounds::TYPES => {
+                let index = self.types.len();
+                self.type_by_name.insert(name, index);
                 self.types.push(Known {
-                    name,
                     has_super: upper != 0,
                     objects: 0,
                     fields: Vec::new(),
                 });
-                Some(self.types.len() - 1)
+                Some(index)
             }
             _ => None,
         }
@@ -347,8 +350,8 @@ fn read_element(text: &mut Text<'_>, element: Element, out: &mut Vec<u8>) -> Opt
         Element::I32 => wide(out, text.signed(4)? as u64, 4),
         Element::I64 => wide(out, text.signed(8)? as u64, 8),
         Element::V64 => v64::write(out, text.signed(8)? as u64),
-        Element::F32 => wide(out, text.hex_bits(4)?, 4),
-        Element::F64 => wide(out, text.hex_bits(8)?, 8),
+        Element::F32 => wide(out, text.hex_bits()?, 4),
+        Element::F64 => wide(out, text.hex_bits()? << 32 | text.hex_bits()?, 8),
         Element::Text | Element::Object(_) => v64::write(out, text.decimal()?),
     }
     Some(())

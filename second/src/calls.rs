@@ -7,16 +7,17 @@ use crate::ledger::Ledger;
 use crate::listing as listings;
 use crate::reader;
 use crate::refusal::*;
+use crate::sink::Nothing;
 
 /// Checks a file.
 pub fn check(file: &[u8], work: &mut [u32]) -> Result<(), Refusal> {
-    with_table(work, || reader::read(file).map(|_| ()))
+    with_table(work, || reader::read_into(file, &mut Nothing).map(|_| ()))
 }
 
 /// How many objects a named type has, those of its subtypes included.
 pub fn objects(file: &[u8], type_name: &[u8], work: &mut [u32]) -> Result<usize, Refusal> {
     with_table(work, || {
-        let ledger = reader::read(file)?;
+        let ledger = reader::read_into(file, &mut Nothing)?;
         let index = named_type(&ledger, type_name)?;
         Ok(ledger.types[index].objects as usize)
     })
@@ -62,7 +63,7 @@ pub fn listing(file: &[u8], work: &mut [u32], out: &mut [u8]) -> Result<usize, R
 pub fn build(text: &[u8], work: &mut [u32], out: &mut [u8]) -> Result<usize, Refusal> {
     with_table(work, || {
         let file = builder::candidate(text)
-            .filter(|file| reader::read(file).is_ok())
+            .filter(|file| reader::read_into(file, &mut Nothing).is_ok())
             .ok_or(Refusal::of_call(LISTING))?;
         put(&file, out)
     })

@@ -69,6 +69,8 @@ impl<'q> Column<'q> {
 }
 
 impl Sink for Column<'_> {
+    const KEEPS_ENTRIES: bool = false;
+
     fn pair(&mut self, ledger: &Ledger<'_>, _pair: &Pair) {
         if self.field.is_none() && ledger.fields.len() > self.fields {
             self.fields = ledger.fields.len();
@@ -83,10 +85,7 @@ impl Sink for Column<'_> {
             return false;
         }
         match kind {
-            Kind::Stored { element, .. } if !is_fixed(element) => {
-                self.numbers.reserve(chunk.values as usize);
-                true
-            }
+            Kind::Stored { element, .. } if !is_fixed(element) => true,
             _ => {
                 self.parts.push(chunk.part.clone());
                 false
@@ -94,14 +93,20 @@ impl Sink for Column<'_> {
         }
     }
 
-    #[inline(always)]
-    fn v64(&mut self, value: i64) {
-        self.numbers.push(value);
+    fn v64s(&mut self, count: u64) -> impl FnMut(u64) {
+        self.numbers(count)
     }
 
     #[inline(always)]
-    fn number(&mut self, number: u64) {
-        self.numbers.push(number as i64);
+    fn numbers(&mut self, count: u64) -> impl FnMut(u64) {
+        let filled = self.numbers.len();
+        self.numbers.resize(filled + count as usize, 0);
+        let mut slots = self.numbers[filled..].iter_mut();
+        move |number| {
+            if let Some(slot) = slots.next() {
+                *slot = number as i64;
+            }
+        }
     }
 }
 

@@ -2,7 +2,7 @@
 
 use crate::kind::{signed, Form, Kind};
 use crate::ledger::{Chunk, Entry, Ledger, Pair};
-use crate::page::Page;
+use crate::page::{Page, Piece};
 use crate::reader;
 use crate::refusal::Refusal;
 use crate::sink::Sink;
@@ -77,8 +77,8 @@ impl Sink for Printer {
         }
     }
 
-    fn v64(&mut self, value: i64) {
-        self.element(|page| page.signed_decimal(value));
+    fn v64s(&mut self, _count: u64) -> impl FnMut(u64) {
+        |value| self.element(|page| page.signed_decimal(value as i64))
     }
 
     fn floats<const WIDTH: usize>(&mut self, bytes: &[u8]) {
@@ -87,8 +87,8 @@ impl Sink for Printer {
         }
     }
 
-    fn number(&mut self, number: u64) {
-        self.element(|page| page.decimal(number));
+    fn numbers(&mut self, _count: u64) -> impl FnMut(u64) {
+        |number| self.element(|page| page.decimal(number))
     }
 
     fn annotation(&mut self, name: u64, object: u64) {
@@ -104,15 +104,18 @@ impl Printer {
     /// Prints an element behind a tab. One that is a value by itself has the
     /// whole line.
     #[inline(always)]
-    fn element(&mut self, print: impl FnOnce(&mut Page)) {
-        match self.is_single {
-            true => self.page.word(b"val\t"),
-            false => self.page.word(b"\t"),
-        }
-        print(&mut self.page);
-        if self.is_single {
-            self.page.word(b"\n");
-        }
+    fn element(&mut self, print: impl FnOnce(&mut Piece<'_>)) {
+        let is_single = self.is_single;
+        self.page.piece(|piece| {
+            match is_single {
+                true => piece.word(b"val\t"),
+                false => piece.word(b"\t"),
+            }
+            print(piece);
+            if is_single {
+                piece.word(b"\n");
+            }
+        });
     }
 }
 
@@ -139,17 +142,19 @@ fn head(ledger: &Ledger<'_>, pair: &Pair, page: &mut Page) {
 }
 
 fn entry_lines(ledger: &Ledger<'_>, entry: &Entry, page: &mut Page) {
-    page.word(b"type\t");
-    page.decimal(entry.name);
-    page.word(b"\t");
-    decimal_or_dash(page, entry.super_name);
-    page.word(b"\t");
-    decimal_or_dash(page, entry.start);
-    page.word(b"\t");
-    page.decimal(entry.count);
-    page.word(b"\t");
-    page.decimal(entry.chunks.len() as u64);
-    page.word(b"\n");
+    page.piece(|page| {
+        page.word(b"type\t");
+        page.decimal(entry.name);
+        page.word(b"\t");
+        decimal_or_dash(page, entry.super_name);
+        page.word(b"\t");
+        decimal_or_dash(page, entry.start);
+        page.word(b"\t");
+        page.decimal(entry.count);
+        page.word(b"\t");
+        page.decimal(entry.chunks.len() as u64);
+        page.word(b"\n");
+    });
     for chunk in &ledger.chunks[entry.chunks.clone()] {
         if chunk.new {
             page.word(b"new\t");
@@ -176,7 +181,7 @@ fn kind(page: &mut Page, kind: Kind) {
     }
 }
 
-fn decimal_or_dash(page: &mut Page, value: Option<u64>) {
+fn decimal_or_dash(page: &mut Piece<'_>, value: Option<u64>) {
     match value {
         Some(value) => page.decimal(value),
         None => page.word(b"-"),

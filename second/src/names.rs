@@ -53,13 +53,22 @@ impl<'a> Names<'a> {
 
     /// The name a string number stands for; none if it is 0 or too large. The
     /// string is a name from now on.
+    #[inline]
     pub fn name(&mut self, number: u64) -> Option<Name> {
-        let string = self.strings.get(index(number))?;
-        if string.name.get() == 0 {
-            let name = *self.first.entry(string.bytes).or_insert(number as Name);
-            string.name.set(name);
+        let known = self.strings.get(index(number))?.name.get();
+        match known {
+            0 => Some(self.name_anew(number)),
+            _ => Some(known),
         }
-        Some(string.name.get())
+    }
+
+    /// The name of a string that was not used as one.
+    #[cold]
+    fn name_anew(&mut self, number: u64) -> Name {
+        let string = &self.strings[index(number)];
+        let name = *self.first.entry(string.bytes).or_insert(number as Name);
+        string.name.set(name);
+        name
     }
 
     /// The name a string number stands for, if a string of these bytes is one

@@ -13,12 +13,12 @@ use crate::ledger::{Chunk, Entry, Field, Ledger, Pair, Type};
 use crate::names::Name;
 use crate::pools::Pools;
 use crate::refusal::*;
-use crate::sink::{Nothing, Sink};
+use crate::sink::{Heads, Sink};
 use crate::values;
 
 /// Reads and checks a whole file.
 pub fn read(file: &[u8]) -> Result<Ledger<'_>, Refusal> {
-    read_into(file, &mut Nothing)
+    read_into(file, &mut Heads)
 }
 
 /// Reads and checks a whole file, with a sink for what it holds.
@@ -146,14 +146,16 @@ impl<S: Sink> Reader<'_, '_, S> {
         }
         let first_chunk = self.ledger.chunks.len();
         self.fields(block, index, count)?;
-        self.ledger.entries.push(Entry {
-            type_index: index,
-            name: name.value,
-            super_name,
-            start,
-            count,
-            chunks: first_chunk..self.ledger.chunks.len(),
-        });
+        if S::KEEPS_ENTRIES {
+            self.ledger.entries.push(Entry {
+                type_index: index,
+                name: name.value,
+                super_name,
+                start,
+                count,
+                chunks: first_chunk..self.ledger.chunks.len(),
+            });
+        }
         Ok(())
     }
 

@@ -7,6 +7,10 @@
 use crate::ledger::{Chunk, Ledger, Pair};
 
 pub trait Sink {
+    /// Whether the ledger has to have its pairs' entries. Those who read a
+    /// file only to see that it is accepted need not keep them.
+    const KEEPS_ENTRIES: bool = true;
+
     /// Whether it takes no values at all.
     const IS_IDLE: bool = false;
 
@@ -38,15 +42,19 @@ pub trait Sink {
     /// Elements of kinds 7 to 10, of a fixed width.
     fn whole<const WIDTH: usize>(&mut self, _bytes: &[u8]) {}
 
-    /// An element of kind 11.
-    fn v64(&mut self, _value: i64) {}
+    /// Elements of kind 11, which come one by one as they are read.
+    fn v64s(&mut self, _count: u64) -> impl FnMut(u64) {
+        |_| ()
+    }
 
     /// Elements of kinds 12 and 13, of a fixed width.
     fn floats<const WIDTH: usize>(&mut self, _bytes: &[u8]) {}
 
-    /// An element of kind 14 or from 32 upwards: the number of a string or an
-    /// object.
-    fn number(&mut self, _number: u64) {}
+    /// Elements of kinds 14 and from 32 upwards, which come one by one as they
+    /// are read: the numbers of strings or objects.
+    fn numbers(&mut self, _count: u64) -> impl FnMut(u64) {
+        |_| ()
+    }
 
     /// An element of kind 5.
     fn annotation(&mut self, _name: u64, _object: u64) {}
@@ -56,5 +64,13 @@ pub trait Sink {
 pub struct Nothing;
 
 impl Sink for Nothing {
+    const KEEPS_ENTRIES: bool = false;
+    const IS_IDLE: bool = true;
+}
+
+/// A sink for those who want the whole ledger, but no values.
+pub struct Heads;
+
+impl Sink for Heads {
     const IS_IDLE: bool = true;
 }

@@ -18,13 +18,22 @@ pub fn read(bytes: &[u8], at: usize) -> Result<(u64, usize), Cut> {
     // Most numbers of a file are small, so up to three bytes have their own
     // ways out. A processor guesses which one it will be and goes on, where it
     // would have to wait for a length that is worked out.
-    match *bytes.get(at..).unwrap_or(&[]) {
-        [one, ..] if one < 0x80 => Ok((u64::from(one), at + 1)),
+    match bytes.get(at) {
+        Some(&one) if one < 0x80 => Ok((u64::from(one), at + 1)),
+        Some(_) => read_on(&bytes[at..], at),
+        None => Err(Cut),
+    }
+}
+
+/// Reads a coding of more than one byte, which stands at the front of `rest`.
+#[inline(always)]
+fn read_on(rest: &[u8], at: usize) -> Result<(u64, usize), Cut> {
+    match *rest {
         [one, two, ..] if two < 0x80 => Ok((low(one) | u64::from(two) << 7, at + 2)),
         [one, two, three, ..] if three < 0x80 => {
             Ok((low(one) | low(two) << 7 | u64::from(three) << 14, at + 3))
         }
-        ref rest => read_long(rest, at),
+        _ => read_long(rest, at),
     }
 }
 
@@ -96,18 +105,38 @@ pub fn pass(bytes: &[u8], mut at: usize, count: u64) -> (u64, usize) {
 }
 
 /// Appends the shortest coding of `value`.
-#[inline]
+#[inline(always)]
 pub fn write(out: &mut Vec<u8>, value: u64) {
-    let mut rest = value;
-    for _ in 0..8 {
-        if rest < 0x80 {
-            out.push(rest as u8);
-            return;
-        }
-        out.push(rest as u8 | 0x80);
-        rest >>= 7;
+    if value < 0x80 {
+        out.push(value as u8);
+    } else {
+        write_long(out, value);
     }
-    out.push(rest as u8);
+}
+
+/// Appends a coding of more than one byte.
+fn write_long(out: &mut Vec<u8>, value: u64) {
+    let word = parted(value);
+    if value >> 56 > 0 {
+        out.extend_from_slice(&(word | CONTINUES).to_le_bytes());
+        out.push((value >> 56) as u8);
+        return;
+    }
+    let last = value.ilog2() / 7;
+    let continues = CONTINUES & ((1 << (8 * last)) - 1);
+    let past = out.len() + last as usize + 1;
+    // Eight bytes are appended more quickly than a number of them that has to
+    // be asked for.
+    out.extend_from_slice(&(word | continues).to_le_bytes());
+    out.truncate(past);
+}
+
+/// The low 56 bits, seven in each byte: what [`joined`] joins.
+#[inline]
+fn parted(value: u64) -> u64 {
+    let fours = value & 0x0000_0000_0FFF_FFFF | (value & 0x00FF_FFFF_F000_0000) << 4;
+    let twos = fours & 0x0000_3FFF_0000_3FFF | (fours & 0x0FFF_C000_0FFF_C000) << 2;
+    twos & 0x007F_007F_007F_007F | (twos & 0x3F80_3F80_3F80_3F80) << 1
 }
 
 /// The shortest coding of `value` by itself.

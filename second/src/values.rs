@@ -129,6 +129,7 @@ impl<S: Sink> Values<'_, S> {
     }
 
     /// Reads a given number of elements.
+    #[inline(always)]
     fn run(&mut self, element: Element, at: usize, count: u64) -> Step {
         let part = self.part;
         match element {
@@ -146,17 +147,17 @@ impl<S: Sink> Values<'_, S> {
             Element::F64 => self.floats::<8>(at, count),
             Element::V64 if S::IS_IDLE => passed(part, at, count),
             Element::V64 => {
-                let give = |value| self.sink.v64(value as i64);
+                let give = self.sink.v64s(count);
                 numbers(part, at, count, |_| true, give)
             }
             Element::Text => {
                 let last = self.ledger.names.len() as u64;
-                let give = |number| self.sink.number(number);
+                let give = self.sink.numbers(count);
                 numbers(part, at, count, |number| number <= last, give)
             }
             Element::Object(index) => {
                 let owner = &self.ledger.types[index as usize];
-                let give = |number| self.sink.number(number);
+                let give = self.sink.numbers(count);
                 references(part, at, count, owner, give)
             }
         }
@@ -222,6 +223,7 @@ fn filled(part: &[u8], at: usize) -> Result<(), Fault> {
 }
 
 /// Reads an array's length or a map's size.
+#[inline(always)]
 fn size(part: &[u8], at: usize) -> Result<(u64, usize), Fault> {
     let (size, next) = number(part, at)?;
     if size > bounds::OBJECTS {

@@ -33,6 +33,10 @@ const LEFT_OUT: [&str; 8] = [
     "vectors",
 ];
 
+/// What is put in many places to be quick is compiled once, or the compiler
+/// would meet all faults of it in each place.
+const ONCE: &str = "#[inline(never)]";
+
 /// Writes the source with its faults below `folder`. The faults are numbered
 /// from 1 in their order.
 pub fn write(folder: &Path, faults: &[Fault]) -> Result<(), String> {
@@ -60,7 +64,8 @@ fn read(folder: &Path, files: &mut BTreeMap<String, String>) -> io::Result<()> {
         let entry = entry?;
         let name = entry.file_name().to_string_lossy().into_owned();
         if !LEFT_OUT.contains(&name.trim_end_matches(".rs")) {
-            files.insert(name, fs::read_to_string(entry.path())?);
+            let text = fs::read_to_string(entry.path())?;
+            files.insert(name, text.replace("#[inline(always)]", ONCE));
         }
     }
     Ok(())

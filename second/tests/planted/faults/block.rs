@@ -254,7 +254,7 @@ pub const KINDS: &[Fault] = &[
     fault!("kinds from 32 upwards are tested: not in fixed arrays of length 0",
         "reader.rs": "let element = «block.element(element)?»;" => "match block.element(element)? { one @ Element::Object(_) if form == Form::Fixed(0) => { block.references.pop(); one } other => other }"),
     fault!("kinds from 32 upwards come before values: after earlier chunks'",
-        "reader.rs": "«self.reference_kinds(&block.references)?;»" => "if self.reference_kinds(&block.references).is_err() { for chunk in &self.ledger.chunks[first_chunk..] { if let Kind::Stored { element: Element::Object(_), .. } = self.ledger.fields[chunk.field].kind { break; } values::check(&self.ledger, &Pools::default(), chunk, &mut Nothing)?; } } self.reference_kinds(&block.references)?;"),
+        "reader.rs": "«self.reference_kinds(&block.references)?;»" => "if self.reference_kinds(&block.references).is_err() { for chunk in &self.ledger.chunks[first_chunk..] { if let Kind::Stored { element: Element::Object(_), .. } = self.ledger.fields[chunk.field].kind { break; } values::check(&self.ledger, &Pools::default(), chunk, &mut Heads)?; } } self.reference_kinds(&block.references)?;"),
     fault!("a type is declared by the end of this block: one more is there",
         "reader.rs": "kind.refuse_if(«kind.value >= past», KIND)?;" => "kind.value > past"),
     fault!("a type is declared by the end of this block: by the end of the file",

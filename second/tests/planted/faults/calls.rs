@@ -44,7 +44,7 @@ pub const ORDER: &[Fault] = &[
     fault!("15 comes before the file's refusals: after them",
         "calls.rs": "let table = «work\n        .get_mut(..bounds::TABLE)\n        .ok_or(Refusal::of_call(TABLE))?»;" => "match work.len() { bounds::TABLE.. => &mut work[..bounds::TABLE], _ => return call().and(Err(Refusal::of_call(TABLE))) }"),
     fault!("the file's refusals come before 16: after it",
-        "calls.rs": "type_name: &[u8], work: &mut [u32]) -> Result<usize, Refusal> {\n    with_table(work, || {\n        let ledger = «reader::read(file)?»;" => "match reader::read(file) { Err(_) if type_name.is_empty() => return Err(Refusal::of_call(NO_TYPE)), other => other? }"),
+        "calls.rs": "let ledger = «reader::read_into(file, &mut Nothing)?»;" => "match reader::read_into(file, &mut Nothing) { Err(_) if type_name.is_empty() => return Err(Refusal::of_call(NO_TYPE)), other => other? }"),
     fault!("the file's refusals come before 18: after it",
         "calls.rs": "let ledger = «reader::read_into(file, &mut values)?»;" => "{ if kind == 5 { return Err(Refusal::of_call(OTHER_KIND)); } reader::read_into(file, &mut values)? }"),
     fault!("the file's refusals come before 19: after it",
@@ -60,11 +60,11 @@ pub const ORDER: &[Fault] = &[
     fault!("17 comes before 18: a kind that no column has is 18 first",
         "calls.rs": ".ok_or(«Refusal::of_call(NO_FIELD)»)?" => "Refusal::of_call(if kind == 5 || (15..32).contains(&kind) || kind > 32 { OTHER_KIND } else { NO_FIELD })"),
     fault!("build gives 20 before 19: after it",
-        "calls.rs": "let file = «builder::candidate(text)\n            .filter(|file| reader::read(file).is_ok())\n            .ok_or(Refusal::of_call(LISTING))?»;" => "{ let file = builder::candidate(text).ok_or(Refusal::of_call(LISTING))?; if file.len() > out.len() { return Err(Refusal::of_call(ROOM)); } if reader::read(&file).is_err() { return Err(Refusal::of_call(LISTING)); } file }"),
+        "calls.rs": "let file = «builder::candidate(text)\n            .filter(|file| reader::read_into(file, &mut Nothing).is_ok())\n            .ok_or(Refusal::of_call(LISTING))?»;" => "{ let file = builder::candidate(text).ok_or(Refusal::of_call(LISTING))?; if file.len() > out.len() { return Err(Refusal::of_call(ROOM)); } if reader::read(&file).is_err() { return Err(Refusal::of_call(LISTING)); } file }"),
     fault!("build gives 20 before 19: nothing lent comes first",
-        "calls.rs": "let file = «builder::candidate(text)\n            .filter(|file| reader::read(file).is_ok())\n            .ok_or(Refusal::of_call(LISTING))?»;" => "{ if out.is_empty() && !text.is_empty() { return Err(Refusal::of_call(ROOM)); } builder::candidate(text).filter(|file| reader::read(file).is_ok()).ok_or(Refusal::of_call(LISTING))? }"),
+        "calls.rs": "let file = «builder::candidate(text)\n            .filter(|file| reader::read_into(file, &mut Nothing).is_ok())\n            .ok_or(Refusal::of_call(LISTING))?»;" => "{ if out.is_empty() && !text.is_empty() { return Err(Refusal::of_call(ROOM)); } builder::candidate(text).filter(|file| reader::read_into(file, &mut Nothing).is_ok()).ok_or(Refusal::of_call(LISTING))? }"),
     fault!("build answers 20 whatever is wrong: the file's own refusal",
-        "calls.rs": "let file = «builder::candidate(text)\n            .filter(|file| reader::read(file).is_ok())\n            .ok_or(Refusal::of_call(LISTING))?»;" => "{ let file = builder::candidate(text).ok_or(Refusal::of_call(LISTING))?; reader::read(&file)?; file }"),
+        "calls.rs": "let file = «builder::candidate(text)\n            .filter(|file| reader::read_into(file, &mut Nothing).is_ok())\n            .ok_or(Refusal::of_call(LISTING))?»;" => "{ let file = builder::candidate(text).ok_or(Refusal::of_call(LISTING))?; reader::read(&file)?; file }"),
 ];
 
 pub const COLUMNS: &[Fault] = &[
@@ -159,7 +159,7 @@ pub const COLUMNS: &[Fault] = &[
     fault!("a column's bytes have the highest first: the lowest",
         "column.rs": "*slot = meaning(«u64::from_be_bytes(low)»);" => "u64::from_be_bytes(low).swap_bytes() >> (64 - 8 * WIDTH)"),
     fault!("v64 values are signed: without the sign",
-        "column.rs": "self.numbers.push(«value»);" => "value & i64::MAX"),
+        "column.rs": "*slot = «number as i64»;" => "(number << 1 >> 1) as i64"),
     fault!("a constant stands n times: once",
         "column.rs": "return «out.fill(value)»," => "{ if let Some(first) = out.first_mut() { *first = value; } }"),
     fault!("the values stand in base pool order: later blocks first",

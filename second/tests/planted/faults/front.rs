@@ -19,10 +19,16 @@ pub const NUMBERS: &[Fault] = &[
         "v64.rs": "return Ok((«value», at + last as usize + 1));" => "eight[..=last as usize].iter().fold(0, |value, &byte| value << 7 | low(byte))"),
     fault!("a number cut by the file's end is 1: it ends there",
         "v64.rs": "«return Err(Cut);»" => "return Ok((joined(word), at + rest.len()));"),
+    fault!("a ninth byte belongs to its number: where nobody asks for the value, it is the next",
+        "v64.rs": "_ if ends == 0 => «(1, 9)»," => "(1, 8)"),
+    fault!("numbers that are passed over are counted: two that end in eight bytes are one",
+        "v64.rs": "8.. => («ends.count_ones()»," => "ends.count_ones().min(1)"),
+    fault!("numbers that are passed over have their lengths: all that end in eight bytes are one",
+        "v64.rs": "_ => «(1, ends.trailing_zeros() / 8 + 1)»," => "(1, 8 - ends.leading_zeros() / 8)"),
     fault!("fixed widths have the highest byte first: the lowest",
         "cursor.rs": "|value, &byte| «value << 8 | u64::from(byte)»" => "value >> 8 | u64::from(byte) << 24"),
     fault!("a written ninth byte carries eight bits: seven",
-        "v64.rs": "rest >>= 7;\n    }\n    «out.push(rest as u8);»" => "out.push(rest as u8 & 0x7F);"),
+        "v64.rs": "«out.push((value >> 56) as u8);»" => "out.push((value >> 56) as u8 & 0x7F);"),
 ];
 
 pub const STRINGS: &[Fault] = &[

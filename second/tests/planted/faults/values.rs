@@ -146,6 +146,10 @@ pub const REFERENCES: &[Fault] = &[
         "reader.rs": "let first = «before + local.start + 1»;" => "before + local.start"),
     fault!("a subtype's objects begin at its local start: at the block's first",
         "reader.rs": "let first = «before + local.start + 1»;" => "before + 1"),
+    fault!("the first object of one of several ranges is of the type: it is not",
+        "ledger.rs": "let from = «u64::MAX << (range.start % 64)»;" => "u64::MAX << (range.start % 64) << 1"),
+    fault!("the last object of one of several ranges is of the type: it is not",
+        "ledger.rs": "let up_to = «u64::MAX >> (63 - (range.end - 1) % 64)»;" => "u64::MAX >> (63 - (range.end - 1) % 64) >> 1"),
     fault!("ranges that meet are one: any two are",
         "ledger.rs": "Some(last) if «last.end == added.start» => last.end = added.end," => "true"),
 ];
