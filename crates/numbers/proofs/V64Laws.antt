@@ -18,7 +18,7 @@ use Rattle.numbers.specs.declared.Step.the-variants as step
 
 -- ── one byte ──
 
-one-byte : (f : List ℕ) (p : ℕ) → p < length f → fixed 1 f p ≡ got (getD f p 0) (p + 1)
+pub one-byte : (f : List ℕ) (p : ℕ) → p < length f → fixed 1 f p ≡ got (getD f p 0) (p + 1)
 unfolding fixed bytes _>>=_ give if_then_else_ highFirst
 one-byte f p h = rw (le-leb (p + 1) (length f) (omega arith), drop-cons f p 0 h) (ap (λ (n : ℕ). got n (p + 1)) (omega arith))
 
@@ -178,6 +178,15 @@ module _ {f : List ℕ} {at x w p left : ℕ} (R : Reading f at x w p left) wher
               below = omega arith;
               power = rw one-less (weight-next w k (S .power));
             }
+
+-- the last byte is the second
+pub two-read :
+    (f : List ℕ) (at a b : ℕ) → at + 1 < length f → a ≡ getD f at 0 → b ≡ getD f (at + 1) 0 → 128 ≤ a → a < 256 → b < 128
+    → Read v64 (2 ^ 64) f at (Got (a - 128 + 128 * b) (record { at = at + 2 }))
+two-read f at a b room first second on small last =
+    let end : at + 1 + 1 ≡ at + 2 = omega arith in
+    let B : Begun f at (a - 128) = record { room = omega arith; byte = omega arith; small = omega arith } in
+    rw end at (reading-last (reading-start B) b room second (a - 128 + 128 * b) refl (λ h. last) (omega arith))
 
 -- ── where a coding ends ──
 
