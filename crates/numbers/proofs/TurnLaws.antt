@@ -14,7 +14,7 @@ use Rattle.paper.specs.Numbers.{highFirst, fixed}
 use Rattle.numbers.specs.Turned.{lowBytes, Turned, TakenAt}
 use Rattle.numbers.proofs.FixedLaws.{high-first-more}
 use Rattle.numbers.proofs.WriteLaws.{shifted}
-use Rattle.numbers.proofs.V64Laws.{one-byte}
+use Rattle.numbers.specs.Begun.{one-byte}
 
 -- ── lowest first: x is the value of the i bytes so far ──
 

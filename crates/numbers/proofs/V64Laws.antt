@@ -7,20 +7,15 @@ use native.Mathlib.Nat.{mul-add, mul-assoc, pow-suc, one-le-pow, mul-le-mul-left
 use native.Mathlib.Decide.{decLe}
 use lib.Dec.{lit<}
 use lib.ListN.{length, getD}
-use lib.Seq.{drop-cons}
 use borrow.Author.Tests.{le-leb, lt-leb}
 use Rattle.paper.specs.Reader.{Out, got, no, andThen, if_then_else_, _>>=_, give, fromStart, started, bytes}
 use Rattle.paper.specs.Numbers.{highFirst, fixed, coding, lowFirst, v64}
-use Rattle.numbers.specs.Begun.{Begun, Ongoing, Ended}
+use Rattle.numbers.specs.Begun.{Begun, Ongoing, Ended, one-byte}
 use Rattle.numbers.specs.Cursors.{Read, Past, answer-got, answer-no}
 use Rattle.numbers.specs.declared.Number.the-variants.{Got, No}
 use Rattle.numbers.specs.declared.Step.the-variants as step
 
 -- ── one byte ──
-
-pub one-byte : (f : List ℕ) (p : ℕ) → p < length f → fixed 1 f p ≡ got (getD f p 0) (p + 1)
-unfolding fixed bytes _>>=_ give if_then_else_ highFirst
-one-byte f p h = rw (le-leb (p + 1) (length f) (omega arith), drop-cons f p 0 h) (ap (λ (n : ℕ). got n (p + 1)) (omega arith))
 
 no-byte : (f : List ℕ) (p : ℕ) → length f ≤ p → fixed 1 f p ≡ no 1 p
 unfolding fixed bytes _>>=_ give if_then_else_
