@@ -1,10 +1,10 @@
 -- Numbers of a fixed width that are there: their bytes are taken lowest first, and then turned round. Assumes nothing.
 use mathlib.Core.Path.{_≡_}
 use mathlib.Core.List.{List, [], _∷_}
-use Prim.Native.Nat.{ℕ, _+_, _*_, _^_, _<_}
+use Prim.Native.Nat.{ℕ, _+_, _*_, _^_, _≤_, _<_}
 use lib.ListN.{length, getD}
 use Rattle.paper.specs.Reader.{got}
-use Rattle.paper.specs.Numbers.{highFirst, fixed}
+use Rattle.paper.specs.Numbers.{highFirst, fixed, v64}
 use Rattle.numbers.specs.declared.Taken.{Taken}
 
 -- lowest byte first
@@ -22,3 +22,10 @@ pub record TakenAt (width : ℕ) (f : List ℕ) (at : ℕ) (t : Taken) : Type 0 
   pub says : fixed width f at ≡ got (t .number) (t .next .at)
   pub place : t .next .at ≡ at + width
   pub below : t .number < 256 ^ width
+
+-- the v64 that stands at `at`
+pub record TakenV64 (f : List ℕ) (at : ℕ) (t : Taken) : Type 0 where
+  pub says : v64 f at ≡ got (t .number) (t .next .at)
+  pub on : at < t .next .at
+  pub most : t .next .at ≤ at + 9
+  pub below : t .number < 2 ^ 64

@@ -9,7 +9,7 @@ ghost use Rattle.paper.specs.Numbers.{fixed, v64};
 ghost use Rattle.paper.specs.File.{small};
 ghost use Rattle.numbers.specs.Cursors.{Read, Past, refusalOf, noStep, stepOf};
 ghost use Rattle.numbers.specs.Begun.{Begun, Ongoing, Ended};
-ghost use Rattle.numbers.specs.Turned.{lowBytes, Turned, TakenAt};
+ghost use Rattle.numbers.specs.Turned.{lowBytes, Turned, TakenAt, TakenV64};
 use paper::Ledger;
 
 // A place in the bytes, handed on by value.
@@ -218,6 +218,29 @@ fn long_length(s: &[u8], at: usize) -> usize
     length
 }
 
+// The v64 that begins at `at`, where all nine bytes are there that it may have. They are taken from the ninth back: each that would end it
+// begins the number anew, and no jump depends on which does.
+fn long_v64(s: &[u8], at: usize) -> Taken
+    requires { ⌜ at + 9 ≤ length (now s) ⌝ }
+    ensures { λ r. ⌜ TakenV64 (now (s .entry)) at r ⌝ }
+{
+    let mut x = wide(s[at + 8]);
+    let mut length: usize = 9;
+    let mut i: usize = 8;
+    while 0 < i {
+        i -= 1;
+        let b = wide(s[at + i]);
+        if b < 128 {
+            x = b;
+            length = i + 1;
+        } else {
+            x = b - 128 + 128 * x;
+        }
+    }
+    let next = Cursor { at: at + length };
+    Taken { number: x, next }
+}
+
 impl Cursor {
     // One byte and two are the cases to be fast in: most numbers of a file have no more.
     pub fn v64(self, s: &[u8]) -> Number
@@ -345,5 +368,35 @@ impl Cursor {
         let number = turned8(low_first(s, at, 8));
         let next = Cursor { at: at + 8 };
         Taken { number, next }
+    }
+
+    // The same of a v64 that has all bytes behind it that it may have. Up to three bytes are told by a look at each.
+    pub fn take_v64(self, s: &[u8]) -> Taken
+        requires { ⌜ self .at + 9 ≤ length (now s) ⌝ }
+        ensures { λ r. ⌜ TakenV64 (now (s .entry)) (self .at) r ⌝ }
+    {
+        let at = self.at;
+        let a = wide(s[at]);
+        if a < 128 {
+            let next = Cursor { at: at + 1 };
+            return Taken { number: a, next };
+        }
+        let b = wide(s[at + 1]);
+        if b < 128 {
+            let next = Cursor { at: at + 2 };
+            return Taken {
+                number: a - 128 + 128 * b,
+                next,
+            };
+        }
+        let c = wide(s[at + 2]);
+        if c < 128 {
+            let next = Cursor { at: at + 3 };
+            return Taken {
+                number: a - 128 + 128 * (b - 128 + 128 * c),
+                next,
+            };
+        }
+        long_v64(s, at)
     }
 }
