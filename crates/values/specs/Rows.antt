@@ -2,31 +2,31 @@
 use mathlib.Core.Path.{_≡_, refl, sym, ap, _∙_}
 use mathlib.Core.Bool.{false}
 use mathlib.Core.List.{List}
-use Prim.Native.Nat.{ℕ, suc, _+_, _-_, _*_, _^_, _/_, _≤_, _<_}
+use Prim.Native.Nat.{ℕ, suc, _+_, _-_, _*_, _^_, _/_, _%_, _≤_, _<_}
 use native.Mathlib.Omega.{arith}
-use native.Mathlib.Nat.{lt-of-not-le, mod-lt, div-add-mod, one-le-pow}
+use native.Mathlib.Nat.{lt-of-not-le, mod-lt, div-add-mod, one-le-pow, mod-eq-of-lt}
 use native.Mathlib.Decide.{decLe}
 use lib.Dec.{eqb, lit<}
 use lib.IntN.{ℤ}
 use lib.ListN.{length, set, length-set}
 use lib.Signed.{mag}
-use borrow.Author.Tests.{lt-ltb, ne-eqb}
+use borrow.Author.Tests.{lt-ltb, le-leb, lt-leb, ne-eqb}
 use Rattle.paper.specs.Reader.{if_then_else_, Out, got}
 use Rattle.paper.specs.Numbers.{signed, fixed, v64}
 use Rattle.paper.specs.Ledger.{whole}
 use Rattle.paper.specs.Calls.{stored}
 use Rattle.numbers.specs.Cursors.{Read, was-got, answer-no}
-use Rattle.numbers.specs.Turned.{TakenAt}
+use Rattle.numbers.specs.Turned.{TakenAt, TakenV64}
 use Rattle.numbers.specs.declared.Taken.{Taken}
 use Rattle.numbers.specs.declared.Cursor.{Cursor}
 use Rattle.numbers.specs.declared.Refusal.{Refusal}
 use Rattle.numbers.specs.declared.Number.{Number}
 use Rattle.numbers.specs.declared.Number.the-variants as number
-use Rattle.values.specs.Held.{fixed-cut}
+use Rattle.values.specs.Held.{fixed-cut, ruled-taken, ruled-refused}
 use Rattle.values.specs.Items.{linked, atMost}
 use Rattle.values.specs.Bare.{bare, boundOf, made, wholeMade, made-whole, made-link, whole-8, bare-link, bound-link}
 use Rattle.values.specs.Columns.{elementOf, Storable, value-got, value-cut}
-use Rattle.values.specs.Filling.{Filled, Filling, fill-start, fill-done, fill-full, fill-cut, fill-next}
+use Rattle.values.specs.Filling.{Filled, Filling, fill-start, fill-done, fill-full, fill-cut, fill-no, fill-next}
 use Rattle.values.specs.declared.columns.Value.{Value}
 use Rattle.values.specs.declared.columns.Value.the-variants.{Flag, Whole, Float, Object}
 
@@ -214,6 +214,78 @@ module _ {f : List ℕ} {l : List ℤ} {at : ℕ} {m : List ℤ} {p from : ℕ} 
             long = length-set m p z ∙ g .long;
             each = λ k h. number-next (not-annotation k h) (g .each k h) before (read-object k h R) is (stood-object k n h (was-got R is .below)) e;
           }
+
+-- ── numbers that are known to be there, stored without a test ──
+
+abbrev pub isV64 : ℕ → Type 0
+isV64 k = k ≡ 11
+
+abbrev pub isLink : ℕ → Type 0
+isLink k = 13 < k
+
+-- n values of such a kind, from `from` up to r, stored from place p on
+pub record On (K : ℕ → Type 0) (f : List ℕ) (from : ℕ) (l : List ℤ) (p n : ℕ) (m : List ℤ) (r : ℕ) : Type 0 where
+  pub long : length m ≡ length l
+  pub fills : (k : ℕ) → K k → (l₀ : List ℤ) (at : ℕ) → Filling k f l₀ at l p from → Filling k f l₀ at m (p + n) r
+  pub most : r ≤ from + 9 * n
+
+pub on-start : (K : ℕ → Type 0) (f : List ℕ) (from : ℕ) (l : List ℤ) (p : ℕ) → On K f from l p 0 l from
+on-start K f from l p =
+    let here : p + 0 ≡ p = omega arith in
+    record { long = refl; fills = λ k h l₀ at g. rw here g; most = omega arith }
+
+pub on-done : {K : ℕ → Type 0} {f : List ℕ} {from : ℕ} {l : List ℤ} {p i : ℕ} {m : List ℤ} {r : ℕ} (n : ℕ) → On K f from l p i m r → i ≡ n → On K f from l p n m r
+on-done n O is = rw is at O
+
+taken-read : {f : List ℕ} {at : ℕ} {t : Taken} → TakenV64 f at t → at + 9 ≤ length f → Read v64 (2 ^ 64) f at (number.Got (t .number) (t .next))
+taken-read T h = record { says = sym (T .says); inside = λ i. omega (arith, T .most); below = T .below }
+
+module _ {K : ℕ → Type 0} {f : List ℕ} {from : ℕ} {l : List ℤ} {p n : ℕ} {m : List ℤ} {r : ℕ} (O : On K f from l p n m r) {t : Taken} (T : TakenV64 f r t) (room : r + 9 ≤ length f) where
+  on-more :
+      (z : ℤ)
+      → ((k : ℕ) → K k → (l₀ : List ℤ) (at : ℕ) → Filling k f l₀ at m (p + n) r → Filling k f l₀ at (set m (p + n) z) (p + n + 1) (t .next .at))
+      → On K f from l p (n + 1) (set m (p + n) z) (t .next .at)
+  on-more z step =
+      let next : p + (n + 1) ≡ p + n + 1 = omega arith in
+      record {
+        long = length-set m (p + n) z ∙ O .long;
+        fills = λ k h l₀ at g. rw next (step k h l₀ at (O .fills k h l₀ at g));
+        most = omega (arith, O .most, T .most);
+      }
+
+module _ {f : List ℕ} {from : ℕ} {l : List ℤ} {p n : ℕ} {m : List ℤ} {r : ℕ} {t : Taken} (T : TakenV64 f r t) (room : r + 9 ≤ length f) {z : ℤ} where
+  pub on-v64 :
+      {v : Value} → On isV64 f from l p n m r → Stood 11 (t .number) v → z ≡ stored (elementOf v)
+      → On isV64 f from l p (n + 1) (set m (p + n) z) (t .next .at)
+  on-v64 O S e =
+      on-more O T room z
+      (λ k is l₀ at g. rw is (number-next refl (rw is at g) (omega arith) (read-v64 (taken-read T room)) refl S e))
+
+  pub on-link :
+      On isLink f from l p n m r → z ≡ stored (elementOf (Object (t .number % 2 ^ 63)))
+      → On isLink f from l p (n + 1) (set m (p + n) z) (t .next .at)
+  unfolding linked atMost
+  on-link O e =
+      on-more O T room z
+      (λ k h l₀ at g.
+      elim (decLe (t .number) (2 ^ 63 - 1)) [
+        | yes small ↦
+            (let R = ruled-taken _ 14 (2 ^ 63) (taken-read T room) refl (le-leb (t .number) (2 ^ 63 - 1) small) (omega arith) in
+            let same : t .number % 2 ^ 63 ≡ t .number = mod-eq-of-lt (omega arith) in
+            number-next (not-annotation k h) g (omega arith) (read-object k h R) refl (stood-object k (t .number) h (omega arith)) (rw same at e))
+        | no large ↦
+            (let R = ruled-refused _ 14 (2 ^ 63) (taken-read T room) refl (lt-leb (t .number) (2 ^ 63 - 1) (lt-of-not-le large)) (omega arith) in
+            fill-no g (omega arith) (value-cut (not-annotation k h) (read-object k h R) refl refl) refl (length-set m (p + n) z ∙ g .long))
+      ])
+
+pub link-low : (n : ℕ) → Storable (Object (n % 2 ^ 63))
+unfolding Storable
+link-low n = mod-lt n (lit< tt)
+
+-- the loop over them goes on from there
+pub links-on :
+    {f : List ℕ} {l : List ℤ} {at : ℕ} {m m′ : List ℤ} {p from n r : ℕ} → Links f l at m p from → On isLink f from m p n m′ r → Links f l at m′ (p + n) r
+links-on g O = record { long = O .long ∙ g .long; each = λ k h. O .fills k h _ _ (g .each k h) }
 
 -- a place behind the end of the column: no value was to be stored there
 pub filled-none : {k : ℕ} {f : List ℕ} {l : List ℤ} {at : ℕ} → length l < at → Filled k f l at l at

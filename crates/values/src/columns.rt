@@ -1,7 +1,7 @@
 // Values of a column: what a plain kind's bytes say, and the number that a column stores of it.
 ghost use mathlib.Core.Path.{_≡_};
 ghost use mathlib.Core.Bool.{true};
-ghost use Prim.Native.Nat.{ℕ, _<_, _≤_};
+ghost use Prim.Native.Nat.{ℕ, _+_, _*_, _<_, _≤_};
 ghost use lib.ListN.{length, replicate};
 ghost use Rattle.paper.specs.Rules.{singleKind?};
 ghost use Rattle.paper.specs.Calls.{stored, overFront};
@@ -9,7 +9,7 @@ ghost use Rattle.numbers.specs.Cursors.{Read};
 ghost use Rattle.values.specs.Bare.{bare, boundOf, made, wholeMade};
 ghost use Rattle.values.specs.Columns.{elementOf, Storable, ValueRead};
 ghost use Rattle.values.specs.Filling.{Filled};
-ghost use Rattle.values.specs.Rows.{Fitting};
+ghost use Rattle.values.specs.Rows.{Fitting, On, isV64, isLink};
 use crate::runs::number_up_to;
 use numbers::Cursor;
 use numbers::Number;
@@ -237,6 +237,24 @@ fn fill_f64s(part: &[u8], out: &mut [i64], at: usize) -> usize
     p
 }
 
+// n numbers, stored from place p on: the cursor behind them. A v64 has nine bytes at most, so where nine are left for each they are all there,
+// and no step asks.
+fn v64s_there(part: &[u8], c: Cursor, out: &mut [i64], p: usize, n: usize) -> Cursor
+    requires { ⌜ (c .at + 9 * n ≤ length (now part)) × (p + n ≤ length (now out)) ⌝ }
+    ensures { λ r. ⌜ On isV64 (now (part .entry)) (c .at) (now (out .entry)) p n (now (out .exit)) (r .at) ⌝ }
+{
+    let mut i: usize = 0;
+    let mut here = c;
+    while i < n {
+        let a = here.take_v64(part);
+        out[p + i] = store(Value::Whole(sign::signed8(a.number)));
+        i += 1;
+        here = a.next;
+    }
+    here
+}
+
+// As many as are surely there are stored at once, again and again; the last few one by one.
 fn fill_v64s(part: &[u8], out: &mut [i64], at: usize) -> usize
     ensures { λ r. ⌜ Filled 11 (now (part .entry)) (now (out .entry)) at (now (out .exit)) r ⌝ }
 {
@@ -247,18 +265,40 @@ fn fill_v64s(part: &[u8], out: &mut [i64], at: usize) -> usize
         if out.len() <= p {
             return p;
         }
-        let a = from.v64(part);
-        let Number::Got(n, next) = a else {
-            return p;
-        };
-        out[p] = store(Value::Whole(sign::signed8(n)));
-        p += 1;
-        from = next;
+        let left = part.len() - from.at;
+        let n = fitting(left / 9, out.len() - p);
+        if 0 < n {
+            from = v64s_there(part, from, out, p, n);
+            p += n;
+        } else {
+            let a = from.v64(part);
+            let Number::Got(x, next) = a else {
+                return p;
+            };
+            out[p] = store(Value::Whole(sign::signed8(x)));
+            p += 1;
+            from = next;
+        }
     }
     p
 }
 
-// A file has fewer strings and objects than 2^63, so a column can store their numbers.
+// The same of strings and objects. A file has fewer of them than 2^63, so a column can store their numbers, and nothing is lost of one.
+fn objects_there(part: &[u8], c: Cursor, out: &mut [i64], p: usize, n: usize) -> Cursor
+    requires { ⌜ (c .at + 9 * n ≤ length (now part)) × (p + n ≤ length (now out)) ⌝ }
+    ensures { λ r. ⌜ On isLink (now (part .entry)) (c .at) (now (out .entry)) p n (now (out .exit)) (r .at) ⌝ }
+{
+    let mut i: usize = 0;
+    let mut here = c;
+    while i < n {
+        let a = here.take_v64(part);
+        out[p + i] = store(Value::Object(a.number % 9223372036854775808));
+        i += 1;
+        here = a.next;
+    }
+    here
+}
+
 fn fill_objects(part: &[u8], out: &mut [i64], at: usize) -> usize
     ensures { λ r. ⌜ ((k : ℕ) → 13 < k → Filled k (now (part .entry)) (now (out .entry)) at (now (out .exit)) r) ⌝ }
 {
@@ -269,13 +309,20 @@ fn fill_objects(part: &[u8], out: &mut [i64], at: usize) -> usize
         if out.len() <= p {
             return p;
         }
-        let a = number_up_to(part, from, 9223372036854775807);
-        let Number::Got(n, next) = a else {
-            return p;
-        };
-        out[p] = store(Value::Object(n));
-        p += 1;
-        from = next;
+        let left = part.len() - from.at;
+        let n = fitting(left / 9, out.len() - p);
+        if 0 < n {
+            from = objects_there(part, from, out, p, n);
+            p += n;
+        } else {
+            let a = number_up_to(part, from, 9223372036854775807);
+            let Number::Got(x, next) = a else {
+                return p;
+            };
+            out[p] = store(Value::Object(x));
+            p += 1;
+            from = next;
+        }
     }
     p
 }

@@ -4,7 +4,7 @@ use borrow.Author.Needs.{needs}
 use native.Mathlib.Omega.{arith}
 use Prim.Native.Nat.{_-_}
 use lib.ListN.{length}
-use Rattle.values.specs.Rows.{Links, links-start, links-full, links-cut, link-fits, links-next, links-done}
+use Rattle.values.specs.Rows.{Links, links-start, links-full, links-cut, link-fits, links-next, links-on, links-done}
 use Rattle.values.proofs.columns.fill_objects.Statement.{statement}
 use Rattle.values.proofs.columns.fill_objects.Tie as tie
 
@@ -23,16 +23,23 @@ fill-objects-spec =
     (λ c. links-start _ _ _)
     (λ c. c .before .before .before .loop .inv .long)
     (λ c. links-full (c .before .before .before .loop .inv) (c .before .if1 .taken) (c .if2 .taken))
+    (λ c. omega arith)
+    (λ c. omega arith)
+    (λ c κs. search needs)
+    (λ c κs. (omega (arith, c .before .before .fitting .ensures .few), omega (arith, c .before .before .fitting .ensures .inside)))
+    (λ c. omega (arith, c .before .before .before .before .fitting .ensures .inside))
+    (λ c. omega (arith, c .before .before .before .before .fitting .ensures .inside, c .before .before .before .before .before .before .before .before .before .loop .inv .long))
+    (λ c. links-on (c .before .before .before .before .before .before .before .before .before .loop .inv) (c .before .objects-there .ensures))
     (λ c κs. search needs)
     (λ c. search needs)
     (λ c. search needs)
-    (λ c. c .before .before .before .before .before .before .loop .inv .long)
-    (λ c. links-cut (c .before .before .before .before .before .before .loop .inv) (c .before .before .before .before .if1 .taken) (c .before .before .number-up-to .ensures) (c .enum-told .given .1))
-    (λ c κs. link-fits (c .before .before .before .before .before .before .before .loop .inv) (c .before .before .before .before .before .if1 .taken) (c .before .before .before .number-up-to .ensures) (c .before .a .given .1))
+    (λ c. c .before .before .before .before .before .before .before .before .before .loop .inv .long)
+    (λ c. links-cut (c .before .before .before .before .before .before .before .before .before .loop .inv) (c .before .before .before .before .before .before .before .if1 .taken) (c .before .before .number-up-to .ensures) (c .enum-told .given .1))
+    (λ c κs. link-fits (c .before .before .before .before .before .before .before .before .before .before .loop .inv) (c .before .before .before .before .before .before .before .before .if1 .taken) (c .before .before .before .number-up-to .ensures) (c .before .a .given .1))
     (λ c. search needs)
     (λ c. search needs)
     (λ c. omega arith)
-    (λ c. omega (arith, c .before .before .before .before .before .before .before .before .loop .inv .long))
-    (λ c. links-next (c .before .before .before .before .before .before .before .before .loop .inv) (c .before .before .before .before .before .before .if1 .taken) (c .before .before .before .before .number-up-to .ensures) (c .before .before .a .given .1) (toZ-ofZ (record { sfits = c .store .ok }) ∙ c .store .ensures))
+    (λ c. omega (arith, c .before .before .before .before .before .before .before .before .before .before .before .loop .inv .long))
+    (λ c. links-next (c .before .before .before .before .before .before .before .before .before .before .before .loop .inv) (c .before .before .before .before .before .before .before .before .before .if1 .taken) (c .before .before .before .before .number-up-to .ensures) (c .before .before .a .given .1) (toZ-ofZ (record { sfits = c .store .ok }) ∙ c .store .ensures))
     (λ c. c .before .before .loop .inv .long)
     (λ c. links-done (c .before .before .loop .inv) (c .if1 .left)))
