@@ -14,7 +14,7 @@ use Rattle.paper.specs.Numbers.{highFirst, fixed}
 use Rattle.numbers.specs.Cursors.{Read, answer-got, answer-no}
 use Rattle.numbers.specs.declared.Number.the-variants.{Got, No}
 
-high-first-more : (bs : List ℕ) (b : ℕ) → highFirst (bs ++ (b ∷ [])) ≡ highFirst bs * 256 + b
+pub high-first-more : (bs : List ℕ) (b : ℕ) → highFirst (bs ++ (b ∷ [])) ≡ highFirst bs * 256 + b
 unfolding highFirst
 high-first-more [] b = omega arith
 high-first-more (a ∷ bs) b =

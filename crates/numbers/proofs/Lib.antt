@@ -1,4 +1,5 @@
 pub mod FixedLaws
+pub mod TurnLaws
 pub mod V64Laws
 pub mod SignLaws
 pub mod WriteLaws

@@ -3,24 +3,20 @@ use mathlib.Core.Path.{_≡_, refl, sym, ap, _∙_}
 use mathlib.Core.List.{List, [], _∷_}
 use Prim.Native.Nat.{ℕ, zero, suc, _+_, _-_, _*_, _^_, _≤_, _<_}
 use native.Mathlib.Omega.{arith}
-use native.Mathlib.Nat.{mul-add, mul-assoc, pow-suc, one-le-pow, mul-le-mul-left, lt-of-not-le}
+use native.Mathlib.Nat.{mul-add, mul-assoc, pow-suc, one-le-pow, pow-le-pow-right, mul-le-mul-left, lt-of-not-le}
 use native.Mathlib.Decide.{decLe}
 use lib.Dec.{lit<}
 use lib.ListN.{length, getD}
-use lib.Seq.{drop-cons}
 use borrow.Author.Tests.{le-leb, lt-leb}
 use Rattle.paper.specs.Reader.{Out, got, no, andThen, if_then_else_, _>>=_, give, fromStart, started, bytes}
 use Rattle.paper.specs.Numbers.{highFirst, fixed, coding, lowFirst, v64}
-use Rattle.numbers.specs.Begun.{Begun, Ongoing, Ended}
+use Rattle.numbers.specs.Begun.{Begun, Ongoing, Ended, one-byte}
+use Rattle.numbers.specs.Turned.{TakenV64}
 use Rattle.numbers.specs.Cursors.{Read, Past, answer-got, answer-no}
 use Rattle.numbers.specs.declared.Number.the-variants.{Got, No}
 use Rattle.numbers.specs.declared.Step.the-variants as step
 
 -- ── one byte ──
-
-one-byte : (f : List ℕ) (p : ℕ) → p < length f → fixed 1 f p ≡ got (getD f p 0) (p + 1)
-unfolding fixed bytes _>>=_ give if_then_else_ highFirst
-one-byte f p h = rw (le-leb (p + 1) (length f) (omega arith), drop-cons f p 0 h) (ap (λ (n : ℕ). got n (p + 1)) (omega arith))
 
 no-byte : (f : List ℕ) (p : ℕ) → length f ≤ p → fixed 1 f p ≡ no 1 p
 unfolding fixed bytes _>>=_ give if_then_else_
@@ -179,6 +175,15 @@ module _ {f : List ℕ} {at x w p left : ℕ} (R : Reading f at x w p left) wher
               power = rw one-less (weight-next w k (S .power));
             }
 
+-- the last byte is the second
+pub two-read :
+    (f : List ℕ) (at a b : ℕ) → at + 1 < length f → a ≡ getD f at 0 → b ≡ getD f (at + 1) 0 → 128 ≤ a → a < 256 → b < 128
+    → Read v64 (2 ^ 64) f at (Got (a - 128 + 128 * b) (record { at = at + 2 }))
+two-read f at a b room first second on small last =
+    let end : at + 1 + 1 ≡ at + 2 = omega arith in
+    let B : Begun f at (a - 128) = record { room = omega arith; byte = omega arith; small = omega arith } in
+    rw end at (reading-last (reading-start B) b room second (a - 128 + 128 * b) refl (λ h. last) (omega arith))
+
 -- ── where a coding ends ──
 
 abbrev goes : {A : Type 0} → Out A → Out (Unit {0})
@@ -259,3 +264,125 @@ ending-all {f} {at} {i} {n} G E h =
         → goes (held at (andThen (andThen o (λ bs e. got (getD f (at + 1) 0 ∷ bs) e)) (λ bs e. got (getD f at 0 ∷ bs) e))) ≡ got tt (at + n)
     go (got bs e) q = q
     go (no k m) q = clash (cc q)
+
+-- ── taken from the ninth byte back: from its byte i on it is the number x, and has n bytes ──
+
+abbrev valued : Out (List ℕ) → Out ℕ
+valued o = andThen o (λ bs e. got (lowFirst bs) e)
+
+pub record Backwards (f : List ℕ) (at i x n : ℕ) : Type 0 where
+  pub means : valued (coding (8 - i) f (at + i)) ≡ got x (at + n)
+  pub below : x < 256 * 128 ^ (8 - i)
+  pub high : i ≤ 8
+  pub on : i < n
+  pub most : n ≤ 9
+
+pub backwards-ninth : (f : List ℕ) (at b : ℕ) → at + 9 ≤ length f → b ≡ getD f (at + 8) 0 → b < 256 → Backwards f at 8 b 9
+unfolding lowFirst
+backwards-ninth f at b room is small =
+    let end : at + 8 + 1 ≡ at + 9 = omega arith in
+    record {
+      means = rw (last f (at + 8) 0 (omega arith) (λ i. absurd (omega arith)), end, sym is) refl;
+      below = omega arith;
+      high = omega arith;
+      on = omega arith;
+      most = omega arith;
+    }
+
+module _ {f : List ℕ} {at i x n : ℕ} (room : at + 9 ≤ length f) (B : Backwards f at i x n) (due : 0 < i) (b : ℕ) (is : b ≡ getD f (at + (i - 1)) 0) where
+  one-more-back : 8 - (i - 1) ≡ suc (8 - i)
+  one-more-back = omega (arith, B .high)
+
+  more-back : 128 ^ (8 - (i - 1)) ≡ 128 ^ (8 - i) * 128
+  more-back = rw (one-more-back, pow-suc 128 (8 - i))
+
+  -- the byte before ends it
+  pub backwards-here : b < 128 → Backwards f at (i - 1) b (i - 1 + 1)
+  unfolding lowFirst
+  backwards-here h =
+      let high = B .high in
+      let end : at + (i - 1) + 1 ≡ at + (i - 1 + 1) = omega arith in
+      let some = one-le-pow (8 - i) 128 (lit< tt) in
+      record {
+        means = rw (one-more-back, last f (at + (i - 1)) (suc (8 - i)) (omega arith) (λ z. rw (sym is) h), end, sym is) refl;
+        below = rw more-back (omega arith);
+        high = omega arith;
+        on = omega arith;
+        most = omega arith;
+      }
+
+  -- it does not
+  pub backwards-on : 128 ≤ b → b < 256 → Backwards f at (i - 1) (b - 128 + 128 * x) n
+  unfolding lowFirst
+  backwards-on h small =
+      let high = B .high in
+      let below = B .below in
+      let on = B .on in
+      let some = one-le-pow (8 - i) 128 (lit< tt) in
+      let next : at + (i - 1) + 1 ≡ at + i = omega arith in
+      record {
+        means =
+            rw (one-more-back, more f (at + (i - 1)) (8 - i) (omega arith) (rw (sym is) h), next, sym is)
+            (go (coding (8 - i) f (at + i)) (has-byte f (at + i) (8 - i)) (B .means));
+        below = rw more-back (omega arith);
+        high = omega arith;
+        on = omega arith;
+        most = B .most;
+      }
+    where
+      go :
+          (o : Out (List ℕ)) → ((e : ℕ) → o ≡ got [] e → ⊥) → valued o ≡ got x (at + n)
+          → valued (andThen o (λ bs e. got (b ∷ bs) e)) ≡ got (b - 128 + 128 * x) (at + n)
+      go (got [] e) some q = absurd (some e refl)
+      go (got (d ∷ bs) e) some q =
+          let v : lowFirst (d ∷ bs) ≡ x = cc q in
+          let p : e ≡ at + n = cc q in
+          rw (v, p) refl
+      go (no k m) some q = clash (cc q)
+
+  pub backwards-fits : b < 256 → (128 * x < 2 ^ 64) × (b - 128 + 128 * x < 2 ^ 64)
+  backwards-fits small =
+      let below = B .below in
+      let most = pow-le-pow-right {n = 128} (lit< tt) {i = 8 - i} {j = 7} (omega arith) in
+      (omega arith, omega arith)
+
+pub backwards-all :
+    {f : List ℕ} {at i x n : ℕ} → Backwards f at i x n → i ≤ 0 → TakenV64 f at (record { number = x; next = record { at = at + n } })
+backwards-all {f} {at} {i} {x} {n} B h =
+    let none : i ≡ 0 = omega arith in
+    let here : at + 0 ≡ at = omega arith in
+    let all : valued (coding 8 f at) ≡ got x (at + n) = rw (none, here) at (B .means) in
+    record {
+      says = v64-held f at ∙ go (coding 8 f at) all;
+      on = omega (arith, B .on);
+      most = omega (arith, B .most);
+      below = rw none at (B .below);
+    }
+  where
+    go : (o : Out (List ℕ)) → valued o ≡ got x (at + n) → held at o ≡ got x (at + n)
+    go (got bs e) q = q
+    go (no k m) q = clash (cc q)
+
+-- ── taken, by a look at each of the first three bytes ──
+
+taken-read : {f : List ℕ} {at x n : ℕ} → Read v64 (2 ^ 64) f at (Got x (record { at = at + n })) → 0 < n → n ≤ 9 → TakenV64 f at (record { number = x; next = record { at = at + n } })
+taken-read R h k = record { says = sym (R .says); on = omega arith; most = omega arith; below = R .below }
+
+module _ {f : List ℕ} {at : ℕ} (room : at + 9 ≤ length f) (a : ℕ) (a-is : a ≡ getD f at 0) where
+  pub taken-one : a < 128 → TakenV64 f at (record { number = a; next = record { at = at + 1 } })
+  taken-one h = taken-read (one-there f at a (omega arith) a-is h) (omega arith) (omega arith)
+
+  module _ (on : 128 ≤ a) (small : a < 256) (b : ℕ) (b-is : b ≡ getD f (at + 1) 0) where
+    pub taken-two : b < 128 → TakenV64 f at (record { number = a - 128 + 128 * b; next = record { at = at + 2 } })
+    taken-two h = taken-read (two-read f at a b (omega arith) a-is b-is on small h) (omega arith) (omega arith)
+
+    pub taken-three :
+        128 ≤ b → b < 256 → (c : ℕ) → c ≡ getD f (at + 2) 0 → c < 128
+        → TakenV64 f at (record { number = a - 128 + 128 * (b - 128 + 128 * c); next = record { at = at + 3 } })
+    taken-three more-on b-small c c-is h =
+        let second : at + 2 ≡ at + 1 + 1 = omega arith in
+        let end : at + 1 + 1 + 1 ≡ at + 3 = omega arith in
+        let sum : a - 128 + 128 * (b - 128 + 128 * c) ≡ a - 128 + 128 * (b - 128) + 128 * 128 * c = omega arith in
+        let S : Begun f at (a - 128) = record { room = omega arith; byte = omega arith; small = omega arith } in
+        let N = reading-next (reading-start S) b (omega arith) b-is _ refl (omega arith) more-on b-small in
+        taken-read (rw end at (reading-last N c (omega arith) (rw second at c-is) _ sum (λ z. h) (omega arith))) (omega arith) (omega arith)

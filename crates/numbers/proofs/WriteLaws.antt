@@ -81,7 +81,7 @@ fixed-more l q r h =
     let low : (q * 256 ^ l + r) % 256 ^ l ≡ r = mul-add-mod-self-right q (256 ^ l) r ∙ mod-eq-of-lt h in
     ap₂ _∷_ high (ap (putFixed l) low)
 
-shifted : (l : ℕ) → 2 ^ (8 * l) ≡ 256 ^ l
+pub shifted : (l : ℕ) → 2 ^ (8 * l) ≡ 256 ^ l
 shifted zero = refl
 shifted (suc l) =
     let z : 8 * suc l ≡ 8 * l + 8 = omega arith in

@@ -1,10 +1,21 @@
--- A v64 of two bytes or more, whose first byte was read. Assumes nothing.
-use mathlib.Core.Path.{_≡_}
+-- A byte, and a v64 of two bytes or more, whose first byte was read. Assumes nothing.
+use mathlib.Core.Path.{_≡_, ap}
 use mathlib.Core.List.{List}
 use Prim.Native.Nat.{ℕ, _+_, _≤_, _<_}
+use native.Mathlib.Omega.{arith}
 use lib.ListN.{length, getD}
-use Rattle.paper.specs.Reader.{got, andThen}
-use Rattle.paper.specs.Numbers.{v64}
+use lib.Seq.{drop-cons}
+use borrow.Author.Tests.{le-leb}
+use Rattle.paper.specs.Reader.{got, andThen, if_then_else_, _>>=_, give, bytes}
+use Rattle.paper.specs.Numbers.{highFirst, fixed, v64}
+
+-- ── one byte ──
+
+pub one-byte : (f : List ℕ) (p : ℕ) → p < length f → fixed 1 f p ≡ got (getD f p 0) (p + 1)
+unfolding fixed bytes _>>=_ give if_then_else_ highFirst
+one-byte f p h = rw (le-leb (p + 1) (length f) (omega arith), drop-cons f p 0 h) (ap (λ (n : ℕ). got n (p + 1)) (omega arith))
+
+-- ── a v64 of two bytes or more ──
 
 -- it stands at `at`, with `low` in its low seven bits, and the top bit set
 pub record Begun (f : List ℕ) (at low : ℕ) : Type 0 where

@@ -4,10 +4,12 @@ pub mod write;
 
 ghost use mathlib.Core.Path.{_≡_};
 ghost use Prim.Native.Nat.{_+_, _^_, _≤_, _<_};
+ghost use lib.ListN.{length, take, drop};
 ghost use Rattle.paper.specs.Numbers.{fixed, v64};
 ghost use Rattle.paper.specs.File.{small};
 ghost use Rattle.numbers.specs.Cursors.{Read, Past, refusalOf, noStep, stepOf};
 ghost use Rattle.numbers.specs.Begun.{Begun, Ongoing, Ended};
+ghost use Rattle.numbers.specs.Turned.{lowBytes, Turned, TakenAt, TakenV64};
 use paper::Ledger;
 
 // A place in the bytes, handed on by value.
@@ -36,6 +38,12 @@ pub enum Number {
 pub enum Step {
     Got(Cursor),
     No(Refusal),
+}
+
+// A number that is known to be there, with the cursor behind it.
+pub struct Taken {
+    pub number: u64,
+    pub next: Cursor,
 }
 
 // The refusals of answers that are one. An answer that is none has number 0, which no rule has.
@@ -95,6 +103,56 @@ fn fixed_at(s: &[u8], at: usize, width: usize) -> Number
         i += 1;
     }
     Number::Got(x, Cursor { at: at + width })
+}
+
+// `width` bytes that are there, lowest first. Only so does the compiler make one load of them.
+fn low_first(s: &[u8], at: usize, width: usize) -> u64
+    requires { ⌜ (width ≤ 8) × (at + width ≤ length (now s)) ⌝ }
+    ensures { λ r. ⌜ r ≡ lowBytes (take width (drop at (now (s .entry)))) ⌝ }
+{
+    let mut x: u64 = 0;
+    let mut i: usize = 0;
+    while i < width {
+        let b = wide(s[at + i]);
+        x += b << (8 * i);
+        i += 1;
+    }
+    x
+}
+
+// The lowest `width` bytes of x the other way round.
+fn turned(x: u64, width: u64) -> u64
+    requires { ⌜ width ≤ 8 ⌝ }
+    ensures { λ r. ⌜ Turned width x r ⌝ }
+{
+    let mut y: u64 = 0;
+    let mut rest = x;
+    let mut i: u64 = 0;
+    while i < width {
+        y = y * 256 + rest % 256;
+        rest /= 256;
+        i += 1;
+    }
+    y
+}
+
+// Each width by itself: the compiler then knows the turning for one instruction, before it meets the bytes that are turned.
+fn turned2(x: u64) -> u64
+    ensures { λ r. ⌜ Turned 2 x r ⌝ }
+{
+    turned(x, 2)
+}
+
+fn turned4(x: u64) -> u64
+    ensures { λ r. ⌜ Turned 4 x r ⌝ }
+{
+    turned(x, 4)
+}
+
+fn turned8(x: u64) -> u64
+    ensures { λ r. ⌜ Turned 8 x r ⌝ }
+{
+    turned(x, 8)
 }
 
 // The v64 that begins at `at` with a byte that another follows, and whose low seven bits are `low`: its other bytes. Each
@@ -160,8 +218,31 @@ fn long_length(s: &[u8], at: usize) -> usize
     length
 }
 
+// The v64 that begins at `at`, where all nine bytes are there that it may have. They are taken from the ninth back: each that would end it
+// begins the number anew, and no jump depends on which does.
+fn long_v64(s: &[u8], at: usize) -> Taken
+    requires { ⌜ at + 9 ≤ length (now s) ⌝ }
+    ensures { λ r. ⌜ TakenV64 (now (s .entry)) at r ⌝ }
+{
+    let mut x = wide(s[at + 8]);
+    let mut length: usize = 9;
+    let mut i: usize = 8;
+    while 0 < i {
+        i -= 1;
+        let b = wide(s[at + i]);
+        if b < 128 {
+            x = b;
+            length = i + 1;
+        } else {
+            x = b - 128 + 128 * x;
+        }
+    }
+    let next = Cursor { at: at + length };
+    Taken { number: x, next }
+}
+
 impl Cursor {
-    // One byte is the case to be fast in: most numbers of a file have no more.
+    // One byte and two are the cases to be fast in: most numbers of a file have no more.
     pub fn v64(self, s: &[u8]) -> Number
         ensures { λ r. ⌜ Read v64 (2 ^ 64) (now (s .entry)) (self .at) r ⌝ }
     {
@@ -173,7 +254,14 @@ impl Cursor {
         if b < 128 {
             return Number::Got(b, Cursor { at: at + 1 });
         }
-        v64_on(s, at, b - 128)
+        let low = b - 128;
+        if 1 < s.len() - at {
+            let high = wide(s[at + 1]);
+            if high < 128 {
+                return Number::Got(low + 128 * high, Cursor { at: at + 2 });
+            }
+        }
+        v64_on(s, at, low)
     }
 
     // Past a v64 of which nobody asks the value: no number is made of it. Of one byte or two, which most have, a look at each tells;
@@ -239,5 +327,76 @@ impl Cursor {
         ensures { λ r. ⌜ Read (fixed 8) (256 ^ 8) (now (s .entry)) (self .at) r ⌝ }
     {
         fixed_at(s, self.at, 8)
+    }
+
+    // Numbers of a fixed width that are known to be there: no test, and in a loop over many the compiler reads several at once.
+    pub fn take1(self, s: &[u8]) -> Taken
+        requires { ⌜ self .at + 1 ≤ length (now s) ⌝ }
+        ensures { λ r. ⌜ TakenAt 1 (now (s .entry)) (self .at) r ⌝ }
+    {
+        let at = self.at;
+        let number = wide(s[at]);
+        let next = Cursor { at: at + 1 };
+        Taken { number, next }
+    }
+
+    pub fn take2(self, s: &[u8]) -> Taken
+        requires { ⌜ self .at + 2 ≤ length (now s) ⌝ }
+        ensures { λ r. ⌜ TakenAt 2 (now (s .entry)) (self .at) r ⌝ }
+    {
+        let at = self.at;
+        let number = turned2(low_first(s, at, 2));
+        let next = Cursor { at: at + 2 };
+        Taken { number, next }
+    }
+
+    pub fn take4(self, s: &[u8]) -> Taken
+        requires { ⌜ self .at + 4 ≤ length (now s) ⌝ }
+        ensures { λ r. ⌜ TakenAt 4 (now (s .entry)) (self .at) r ⌝ }
+    {
+        let at = self.at;
+        let number = turned4(low_first(s, at, 4));
+        let next = Cursor { at: at + 4 };
+        Taken { number, next }
+    }
+
+    pub fn take8(self, s: &[u8]) -> Taken
+        requires { ⌜ self .at + 8 ≤ length (now s) ⌝ }
+        ensures { λ r. ⌜ TakenAt 8 (now (s .entry)) (self .at) r ⌝ }
+    {
+        let at = self.at;
+        let number = turned8(low_first(s, at, 8));
+        let next = Cursor { at: at + 8 };
+        Taken { number, next }
+    }
+
+    // The same of a v64 that has all bytes behind it that it may have. Up to three bytes are told by a look at each.
+    pub fn take_v64(self, s: &[u8]) -> Taken
+        requires { ⌜ self .at + 9 ≤ length (now s) ⌝ }
+        ensures { λ r. ⌜ TakenV64 (now (s .entry)) (self .at) r ⌝ }
+    {
+        let at = self.at;
+        let a = wide(s[at]);
+        if a < 128 {
+            let next = Cursor { at: at + 1 };
+            return Taken { number: a, next };
+        }
+        let b = wide(s[at + 1]);
+        if b < 128 {
+            let next = Cursor { at: at + 2 };
+            return Taken {
+                number: a - 128 + 128 * b,
+                next,
+            };
+        }
+        let c = wide(s[at + 2]);
+        if c < 128 {
+            let next = Cursor { at: at + 3 };
+            return Taken {
+                number: a - 128 + 128 * (b - 128 + 128 * c),
+                next,
+            };
+        }
+        long_v64(s, at)
     }
 }

@@ -24,6 +24,16 @@ fn from_bits(x: u64, half: u64) -> i64
     -1 - down
 }
 
+// The same of a width below the widest, whose sum has room: the compiler knows it for one instruction.
+fn from_low_bits(x: u64, half: u64) -> i64
+    requires { ⌜ (0 < half) × (half ≤ 2 ^ 62) × (x < half + half) ⌝ }
+    ensures { λ r. ⌜ ((w : ℕ) → 256 ^ w ≡ half + half → r ≡ signed w x) ⌝ }
+{
+    let above = (x + half) % (half + half);
+    let middle = half as i64;
+    (above as i64) - middle
+}
+
 // The bits that stand for z, at every width whose range has this half.
 fn to_bits(z: i64, half: u64) -> u64
     requires { ⌜ (half ≤ 2 ^ 63) × (mag z < half) ⌝ }
@@ -42,21 +52,21 @@ pub fn signed1(x: u64) -> i64
     requires { ⌜ x < 256 ^ 1 ⌝ }
     ensures { λ r. ⌜ r ≡ signed 1 x ⌝ }
 {
-    from_bits(x, 128)
+    from_low_bits(x, 128)
 }
 
 pub fn signed2(x: u64) -> i64
     requires { ⌜ x < 256 ^ 2 ⌝ }
     ensures { λ r. ⌜ r ≡ signed 2 x ⌝ }
 {
-    from_bits(x, 32768)
+    from_low_bits(x, 32768)
 }
 
 pub fn signed4(x: u64) -> i64
     requires { ⌜ x < 256 ^ 4 ⌝ }
     ensures { λ r. ⌜ r ≡ signed 4 x ⌝ }
 {
-    from_bits(x, 2147483648)
+    from_low_bits(x, 2147483648)
 }
 
 pub fn signed8(x: u64) -> i64

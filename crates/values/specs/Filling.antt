@@ -183,6 +183,18 @@ module _ {k : ℕ} {f : List ℕ} {l : List ℤ} {at : ℕ} {m : List ℤ} {p fr
           let q : valued (No e) ≡ got (N .one) (N .next) = ap valued (sym is) ∙ R .reads s (N .one) (N .next) (h .linkable) (N .first) in
           not-got q)
 
+      -- there are no such values, so whatever is left of them gives the whole
+      pub fill-no : {e : Refusal} → a ≡ No e → {m′ : List ℤ} {p′ from′ : ℕ} → length m′ ≡ length l → Filling k f l at m′ p′ from′
+      unfolding valued
+      fill-no {e} is long =
+          record {
+            long = long;
+            left = λ s n vs h.
+                let N = one-left (g .left s n vs h) before in
+                let q : valued (No e) ≡ got (N .one) (N .next) = ap valued (sym is) ∙ R .reads s (N .one) (N .next) (h .linkable) (N .first) in
+                not-got q;
+          }
+
       pub fill-next : {v : Value} {c : Cursor} {z : ℤ} → a ≡ Got v c → z ≡ stored (elementOf v) → Filling k f l at (set m p z) (p + 1) (c .at)
       unfolding valued
       fill-next {v} {c} {z} is e =

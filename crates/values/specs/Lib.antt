@@ -18,5 +18,6 @@ pub mod Ends
 pub mod Columns
 pub mod Constants
 pub mod Filling
+pub mod Rows
 -- The kinds of a map
 pub mod Unpacked

@@ -1,7 +1,7 @@
 // Values of a column: what a plain kind's bytes say, and the number that a column stores of it.
 ghost use mathlib.Core.Path.{_≡_};
 ghost use mathlib.Core.Bool.{true};
-ghost use Prim.Native.Nat.{_<_, _≤_};
+ghost use Prim.Native.Nat.{ℕ, _+_, _*_, _<_, _≤_};
 ghost use lib.ListN.{length, replicate};
 ghost use Rattle.paper.specs.Rules.{singleKind?};
 ghost use Rattle.paper.specs.Calls.{stored, overFront};
@@ -9,6 +9,7 @@ ghost use Rattle.numbers.specs.Cursors.{Read};
 ghost use Rattle.values.specs.Bare.{bare, boundOf, made, wholeMade};
 ghost use Rattle.values.specs.Columns.{elementOf, Storable, ValueRead};
 ghost use Rattle.values.specs.Filling.{Filled};
+ghost use Rattle.values.specs.Rows.{Fitting, On, isV64, isLink};
 use crate::runs::number_up_to;
 use numbers::Cursor;
 use numbers::Number;
@@ -105,10 +106,157 @@ pub fn read_value(part: &[u8], c: Cursor, k: u64) -> Valued
     Valued::Got(value_of(n, k), next)
 }
 
-// The values of kind k up to the end of the part, stored from place `at` on: the place behind the last.
-pub fn fill(part: &[u8], k: u64, out: &mut [i64], at: usize) -> usize
-    requires { ⌜ singleKind? k ≡ true ⌝ }
-    ensures { λ r. ⌜ Filled k (now (part .entry)) (now (out .entry)) at (now (out .exit)) r ⌝ }
+// How many of n values there is room for.
+fn fitting(n: usize, room: usize) -> usize
+    ensures { λ r. ⌜ Fitting n room r ⌝ }
+{
+    if room < n {
+        return room;
+    }
+    n
+}
+
+// Below, the values of one kind up to the end of the part, stored from place `at` on: the place behind the last. A value's answer
+// has one case in each loop. Where the width is fixed, it is known before the loop how many there are, and no step asks.
+fn fill_flags(part: &[u8], out: &mut [i64], at: usize) -> usize
+    requires { ⌜ at ≤ length (now out) ⌝ }
+    ensures { λ r. ⌜ Filled 6 (now (part .entry)) (now (out .entry)) at (now (out .exit)) r ⌝ }
+{
+    let n = fitting(part.len() / 1, out.len() - at);
+    let end = at + n;
+    let mut p = at;
+    let mut from = Cursor { at: 0 };
+    while p < end {
+        let a = from.take1(part);
+        out[p] = store(Value::Flag(a.number == 255));
+        p += 1;
+        from = a.next;
+    }
+    p
+}
+
+fn fill_i8s(part: &[u8], out: &mut [i64], at: usize) -> usize
+    requires { ⌜ at ≤ length (now out) ⌝ }
+    ensures { λ r. ⌜ Filled 7 (now (part .entry)) (now (out .entry)) at (now (out .exit)) r ⌝ }
+{
+    let n = fitting(part.len() / 1, out.len() - at);
+    let end = at + n;
+    let mut p = at;
+    let mut from = Cursor { at: 0 };
+    while p < end {
+        let a = from.take1(part);
+        out[p] = store(Value::Whole(sign::signed1(a.number)));
+        p += 1;
+        from = a.next;
+    }
+    p
+}
+
+fn fill_i16s(part: &[u8], out: &mut [i64], at: usize) -> usize
+    requires { ⌜ at ≤ length (now out) ⌝ }
+    ensures { λ r. ⌜ Filled 8 (now (part .entry)) (now (out .entry)) at (now (out .exit)) r ⌝ }
+{
+    let n = fitting(part.len() / 2, out.len() - at);
+    let end = at + n;
+    let mut p = at;
+    let mut from = Cursor { at: 0 };
+    while p < end {
+        let a = from.take2(part);
+        out[p] = store(Value::Whole(sign::signed2(a.number)));
+        p += 1;
+        from = a.next;
+    }
+    p
+}
+
+fn fill_i32s(part: &[u8], out: &mut [i64], at: usize) -> usize
+    requires { ⌜ at ≤ length (now out) ⌝ }
+    ensures { λ r. ⌜ Filled 9 (now (part .entry)) (now (out .entry)) at (now (out .exit)) r ⌝ }
+{
+    let n = fitting(part.len() / 4, out.len() - at);
+    let end = at + n;
+    let mut p = at;
+    let mut from = Cursor { at: 0 };
+    while p < end {
+        let a = from.take4(part);
+        out[p] = store(Value::Whole(sign::signed4(a.number)));
+        p += 1;
+        from = a.next;
+    }
+    p
+}
+
+fn fill_i64s(part: &[u8], out: &mut [i64], at: usize) -> usize
+    requires { ⌜ at ≤ length (now out) ⌝ }
+    ensures { λ r. ⌜ Filled 10 (now (part .entry)) (now (out .entry)) at (now (out .exit)) r ⌝ }
+{
+    let n = fitting(part.len() / 8, out.len() - at);
+    let end = at + n;
+    let mut p = at;
+    let mut from = Cursor { at: 0 };
+    while p < end {
+        let a = from.take8(part);
+        out[p] = store(Value::Whole(sign::signed8(a.number)));
+        p += 1;
+        from = a.next;
+    }
+    p
+}
+
+fn fill_f32s(part: &[u8], out: &mut [i64], at: usize) -> usize
+    requires { ⌜ at ≤ length (now out) ⌝ }
+    ensures { λ r. ⌜ Filled 12 (now (part .entry)) (now (out .entry)) at (now (out .exit)) r ⌝ }
+{
+    let n = fitting(part.len() / 4, out.len() - at);
+    let end = at + n;
+    let mut p = at;
+    let mut from = Cursor { at: 0 };
+    while p < end {
+        let a = from.take4(part);
+        out[p] = store(Value::Float(4, a.number));
+        p += 1;
+        from = a.next;
+    }
+    p
+}
+
+fn fill_f64s(part: &[u8], out: &mut [i64], at: usize) -> usize
+    requires { ⌜ at ≤ length (now out) ⌝ }
+    ensures { λ r. ⌜ Filled 13 (now (part .entry)) (now (out .entry)) at (now (out .exit)) r ⌝ }
+{
+    let n = fitting(part.len() / 8, out.len() - at);
+    let end = at + n;
+    let mut p = at;
+    let mut from = Cursor { at: 0 };
+    while p < end {
+        let a = from.take8(part);
+        out[p] = store(Value::Float(8, a.number));
+        p += 1;
+        from = a.next;
+    }
+    p
+}
+
+// n numbers, stored from place p on: the cursor behind them. A v64 has nine bytes at most, so where nine are left for each they are all there,
+// and no step asks.
+fn v64s_there(part: &[u8], c: Cursor, out: &mut [i64], p: usize, n: usize) -> Cursor
+    requires { ⌜ (c .at + 9 * n ≤ length (now part)) × (p + n ≤ length (now out)) ⌝ }
+    ensures { λ r. ⌜ On isV64 (now (part .entry)) (c .at) (now (out .entry)) p n (now (out .exit)) (r .at) ⌝ }
+{
+    let mut i: usize = 0;
+    let mut here = c;
+    while i < n {
+        let a = here.take_v64(part);
+        out[p + i] = store(Value::Whole(sign::signed8(a.number)));
+        i += 1;
+        here = a.next;
+    }
+    here
+}
+
+// As many as are surely there are stored at once, again and again; the last few one by one.
+fn fill_v64s(part: &[u8], out: &mut [i64], at: usize) -> usize
+    ensures { λ r. ⌜ Filled 11 (now (part .entry)) (now (out .entry)) at (now (out .exit)) r ⌝ }
 {
     let mut p = at;
     let mut from = Cursor { at: 0 };
@@ -117,15 +265,87 @@ pub fn fill(part: &[u8], k: u64, out: &mut [i64], at: usize) -> usize
         if out.len() <= p {
             return p;
         }
-        let a = read_value(part, from, k);
-        let Valued::Got(v, next) = a else {
-            return p;
-        };
-        out[p] = store(v);
-        p += 1;
-        from = next;
+        let left = part.len() - from.at;
+        let n = fitting(left / 9, out.len() - p);
+        if 0 < n {
+            from = v64s_there(part, from, out, p, n);
+            p += n;
+        } else {
+            let a = from.v64(part);
+            let Number::Got(x, next) = a else {
+                return p;
+            };
+            out[p] = store(Value::Whole(sign::signed8(x)));
+            p += 1;
+            from = next;
+        }
     }
     p
+}
+
+// The same of strings and objects. A file has fewer of them than 2^63, so a column can store their numbers, and nothing is lost of one.
+fn objects_there(part: &[u8], c: Cursor, out: &mut [i64], p: usize, n: usize) -> Cursor
+    requires { ⌜ (c .at + 9 * n ≤ length (now part)) × (p + n ≤ length (now out)) ⌝ }
+    ensures { λ r. ⌜ On isLink (now (part .entry)) (c .at) (now (out .entry)) p n (now (out .exit)) (r .at) ⌝ }
+{
+    let mut i: usize = 0;
+    let mut here = c;
+    while i < n {
+        let a = here.take_v64(part);
+        out[p + i] = store(Value::Object(a.number % 9223372036854775808));
+        i += 1;
+        here = a.next;
+    }
+    here
+}
+
+fn fill_objects(part: &[u8], out: &mut [i64], at: usize) -> usize
+    ensures { λ r. ⌜ ((k : ℕ) → 13 < k → Filled k (now (part .entry)) (now (out .entry)) at (now (out .exit)) r) ⌝ }
+{
+    let mut p = at;
+    let mut from = Cursor { at: 0 };
+    while from.at < part.len() {
+        // Neither is met where the values keep the rules and there is room for them.
+        if out.len() <= p {
+            return p;
+        }
+        let left = part.len() - from.at;
+        let n = fitting(left / 9, out.len() - p);
+        if 0 < n {
+            from = objects_there(part, from, out, p, n);
+            p += n;
+        } else {
+            let a = number_up_to(part, from, 9223372036854775807);
+            let Number::Got(x, next) = a else {
+                return p;
+            };
+            out[p] = store(Value::Object(x));
+            p += 1;
+            from = next;
+        }
+    }
+    p
+}
+
+// The values of kind k up to the end of the part, stored from place `at` on: the place behind the last.
+pub fn fill(part: &[u8], k: u64, out: &mut [i64], at: usize) -> usize
+    requires { ⌜ singleKind? k ≡ true ⌝ }
+    ensures { λ r. ⌜ Filled k (now (part .entry)) (now (out .entry)) at (now (out .exit)) r ⌝ }
+{
+    if out.len() < at {
+        return at;
+    }
+    match k {
+        6 => fill_flags(part, out, at),
+        7 => fill_i8s(part, out, at),
+        8 => fill_i16s(part, out, at),
+        9 => fill_i32s(part, out, at),
+        10 => fill_i64s(part, out, at),
+        11 => fill_v64s(part, out, at),
+        12 => fill_f32s(part, out, at),
+        13 => fill_f64s(part, out, at),
+        _ => fill_objects(part, out, at),
+    }
 }
 
 // A constant, once for each of n objects.

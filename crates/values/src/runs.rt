@@ -1,5 +1,7 @@
 // Elements one after the other that are held to the rules and then passed over. The kind is chosen before the loop, never
 // in it.
+ghost use mathlib.Core.Path.{_≡_};
+ghost use mathlib.Core.Bool.{true};
 ghost use Prim.Native.Nat.{_+_, _<_, _≤_};
 ghost use lib.ListN.{length};
 ghost use Rattle.paper.specs.Reader.{must, repeat};
@@ -8,14 +10,52 @@ ghost use Rattle.paper.specs.Rules.{boolRules};
 ghost use Rattle.numbers.specs.Cursors.{Read};
 ghost use Rattle.values.specs.Pass.{Passed};
 ghost use Rattle.values.specs.Items.{linked, atMost};
+ghost use Rattle.values.specs.Held.{Bools};
 use numbers::Cursor;
 use numbers::Number;
 use numbers::Refusal;
 use numbers::Step;
 use numbers::refused_step;
 
-// m bools, each of which is 00 or FF.
+// Whether all bytes from `at` up to `end` are 00 or FF. There is no way out of the loop before its end, so that the compiler looks at many
+// bytes at once.
+fn are_bools(part: &[u8], at: usize, end: usize) -> bool
+    requires { ⌜ (at ≤ end) × (end ≤ length (now part)) ⌝ }
+    ensures { λ r. ⌜ (r ≡ true → Bools (now (part .entry)) at end) ⌝ }
+{
+    let mut others: u8 = 0;
+    let mut i = at;
+    while i < end {
+        let b = part[i];
+        if b != 0 {
+            if b != 255 {
+                others = 1;
+            }
+        }
+        i += 1;
+    }
+    others == 0
+}
+
+// m bools, each of which is 00 or FF. Only where one is neither, or they are not all there, each is looked at by itself.
 pub fn bools(part: &[u8], c: Cursor, m: u64) -> Number
+    ensures { λ r. ⌜ Passed (repeat m (must (fixed 1) boolRules)) (now (part .entry)) (c .at) r ⌝ }
+{
+    let at = c.at;
+    if at <= part.len() {
+        let room = (part.len() - at) as u64;
+        if m <= room {
+            let end = at + (m as usize);
+            if are_bools(part, at, end) {
+                return Number::Got(0, Cursor { at: end });
+            }
+        }
+    }
+    bools_in_turn(part, c, m)
+}
+
+// The same, bool by bool, up to the first that is refused.
+fn bools_in_turn(part: &[u8], c: Cursor, m: u64) -> Number
     ensures { λ r. ⌜ Passed (repeat m (must (fixed 1) boolRules)) (now (part .entry)) (c .at) r ⌝ }
 {
     let mut here = c;

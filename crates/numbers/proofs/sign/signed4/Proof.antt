@@ -9,4 +9,4 @@ signed4-spec =
     tie.close
     (tie.spec
     (λ c κs. search needs)
-    (λ c. toZ-ofZ (record { sfits = c .from-bits .ok }) ∙ c .from-bits .ensures 4 refl))
+    (λ c. toZ-ofZ (record { sfits = c .from-low-bits .ok }) ∙ c .from-low-bits .ensures 4 refl))

@@ -1,45 +1,38 @@
-use mathlib.Core.Path.{_∙_}
-use mir.Facts.{toZ-ofZ}
 use borrow.Author.Needs.{needs}
-use native.Mathlib.Omega.{arith}
-use Prim.Native.Nat.{_-_}
-use mathlib.Core.Path.{subst}
-use lib.ListN.{length}
-use Rattle.values.specs.Listed.{single-5}
-use Rattle.values.specs.Columns.{StorableIn}
-use Rattle.values.specs.Filling.{Filling, fill-start, fill-done, fill-full, fill-cut, fill-next}
+use Rattle.values.specs.Listed.{listed-low}
+use Rattle.values.specs.Rows.{filled-none, objects-only}
 use Rattle.values.proofs.columns.fill.Statement.{statement}
 use Rattle.values.proofs.columns.fill.Tie as tie
-
-abbrev Inv-loop : tie.InvT-loop
-Inv-loop part k out₀ at p₀ from₀ out p from = Filling k part out₀ at out p (from .at)
-
-abbrev μ-loop : tie.MeasureT-loop
-μ-loop part k out₀ at p₀ from₀ out p from = length out₀ - p
-
-store-requires : tie.Need-store-requires Inv-loop μ-loop
-unfolding StorableIn
-store-requires c κs = subst StorableIn (c .before .a .given .1) (c .before .before .before .read-value .ensures .storable)
 
 pub fill-spec : {M : Type 1} → statement M
 fill-spec =
     tie.close
     (tie.spec
-    Inv-loop
-    μ-loop
-    (λ c. fill-start _ _ _ _)
-    (λ c. c .before .before .before .loop .inv .long)
-    (λ c. fill-full (c .before .before .before .loop .inv) (c .before .if1 .taken) (c .if2 .taken))
-    (λ c κs. (c .before .before .before .before .before) .pre)
+    (λ c. filled-none (c .if1 .taken))
+    (λ c κs. search needs)
+    (λ c κs. search needs)
+    (λ c κs. search needs)
+    (λ c κs. search needs)
+    (λ c κs. search needs)
+    (λ c κs. search needs)
+    (λ c κs. search needs)
+    (λ c κs. search needs)
+    (λ c κs. search needs)
     (λ c. search needs)
+    (λ c. rw (c .before .before .before .match .keys1) (c .before .fill-flags .ensures))
     (λ c. search needs)
-    (λ c. c .before .before .before .before .before .before .loop .inv .long)
-    (λ c. fill-cut (c .before .before .before .before .before .before .loop .inv) (c .before .before .before .before .if1 .taken) (c .before .before .read-value .ensures) (c .enum-told .given .1))
-    store-requires
+    (λ c. rw (c .before .before .before .match .keys2) (c .before .fill-i8s .ensures))
     (λ c. search needs)
+    (λ c. rw (c .before .before .before .match .keys3) (c .before .fill-i16s .ensures))
     (λ c. search needs)
-    (λ c. omega arith)
-    (λ c. omega (arith, c .before .before .before .before .before .before .before .before .loop .inv .long))
-    (λ c. fill-next (c .before .before .before .before .before .before .before .before .loop .inv) (c .before .before .before .before .before .before .if1 .taken) (c .before .before .before .before .read-value .ensures) (c .before .before .a .given .1) (toZ-ofZ (record { sfits = c .store .ok }) ∙ c .store .ensures))
-    (λ c. c .before .before .loop .inv .long)
-    (λ c. fill-done (c .before .before .loop .inv) (single-5 _ ((c .before .before .before .before) .pre)) (c .if1 .left)))
+    (λ c. rw (c .before .before .before .match .keys4) (c .before .fill-i32s .ensures))
+    (λ c. search needs)
+    (λ c. rw (c .before .before .before .match .keys5) (c .before .fill-i64s .ensures))
+    (λ c. search needs)
+    (λ c. rw (c .before .before .before .match .keys6) (c .before .fill-v64s .ensures))
+    (λ c. search needs)
+    (λ c. rw (c .before .before .before .match .keys7) (c .before .fill-f32s .ensures))
+    (λ c. search needs)
+    (λ c. rw (c .before .before .before .match .keys8) (c .before .fill-f64s .ensures))
+    (λ c. search needs)
+    (λ c. c .before .fill-objects .ensures ((c .before .before .before .before .before .before) .args .k) (objects-only _ (listed-low _ ((c .before .before .before .before .before .before) .pre)) (c .before .before .before .match .rest .0 .0 .0 .0 .0 .0 .0 .1) (c .before .before .before .match .rest .0 .0 .0 .0 .0 .0 .1) (c .before .before .before .match .rest .0 .0 .0 .0 .0 .1) (c .before .before .before .match .rest .0 .0 .0 .0 .1) (c .before .before .before .match .rest .0 .0 .0 .1) (c .before .before .before .match .rest .0 .0 .1) (c .before .before .before .match .rest .0 .1) (c .before .before .before .match .rest .1))))
