@@ -184,6 +184,18 @@ two-read f at a b room first second on small last =
     let B : Begun f at (a - 128) = record { room = omega arith; byte = omega arith; small = omega arith } in
     rw end at (reading-last (reading-start B) b room second (a - 128 + 128 * b) refl (λ h. last) (omega arith))
 
+-- and the third
+pub three-read :
+    (f : List ℕ) (at a b c : ℕ) → at + 2 < length f → a ≡ getD f at 0 → b ≡ getD f (at + 1) 0 → c ≡ getD f (at + 2) 0 → 128 ≤ a → a < 256 → 128 ≤ b → b < 256 → c < 128
+    → Read v64 (2 ^ 64) f at (Got (a - 128 + 128 * (b - 128 + 128 * c)) (record { at = at + 3 }))
+three-read f at a b c room first second third on small more-on b-small end-byte =
+    let place : at + 2 ≡ at + 1 + 1 = omega arith in
+    let end : at + 1 + 1 + 1 ≡ at + 3 = omega arith in
+    let sum : a - 128 + 128 * (b - 128 + 128 * c) ≡ a - 128 + 128 * (b - 128) + 128 * 128 * c = omega arith in
+    let B : Begun f at (a - 128) = record { room = omega arith; byte = omega arith; small = omega arith } in
+    let N = reading-next (reading-start B) b (omega arith) second _ refl (omega arith) more-on b-small in
+    rw end at (reading-last N c (omega arith) (rw place at third) _ sum (λ h. end-byte) (omega arith))
+
 -- ── where a coding ends ──
 
 abbrev goes : {A : Type 0} → Out A → Out (Unit {0})
@@ -379,10 +391,4 @@ module _ {f : List ℕ} {at : ℕ} (room : at + 9 ≤ length f) (a : ℕ) (a-is 
     pub taken-three :
         128 ≤ b → b < 256 → (c : ℕ) → c ≡ getD f (at + 2) 0 → c < 128
         → TakenV64 f at (record { number = a - 128 + 128 * (b - 128 + 128 * c); next = record { at = at + 3 } })
-    taken-three more-on b-small c c-is h =
-        let second : at + 2 ≡ at + 1 + 1 = omega arith in
-        let end : at + 1 + 1 + 1 ≡ at + 3 = omega arith in
-        let sum : a - 128 + 128 * (b - 128 + 128 * c) ≡ a - 128 + 128 * (b - 128) + 128 * 128 * c = omega arith in
-        let S : Begun f at (a - 128) = record { room = omega arith; byte = omega arith; small = omega arith } in
-        let N = reading-next (reading-start S) b (omega arith) b-is _ refl (omega arith) more-on b-small in
-        taken-read (rw end at (reading-last N c (omega arith) (rw second at c-is) _ sum (λ z. h) (omega arith))) (omega arith) (omega arith)
+    taken-three more-on b-small c c-is h = taken-read (three-read f at a b c (omega arith) a-is b-is c-is on small more-on b-small h) (omega arith) (omega arith)

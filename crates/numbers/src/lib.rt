@@ -242,7 +242,8 @@ fn long_v64(s: &[u8], at: usize) -> Taken
 }
 
 impl Cursor {
-    // One byte and two are the cases to be fast in: most numbers of a file have no more.
+    // One byte to three are the cases to be fast in: no string or object of a file has a larger number. The way on from there is a
+    // call, which hands its answer over in memory.
     pub fn v64(self, s: &[u8]) -> Number
         ensures { λ r. ⌜ Read v64 (2 ^ 64) (now (s .entry)) (self .at) r ⌝ }
     {
@@ -255,10 +256,15 @@ impl Cursor {
             return Number::Got(b, Cursor { at: at + 1 });
         }
         let low = b - 128;
-        if 1 < s.len() - at {
-            let high = wide(s[at + 1]);
-            if high < 128 {
-                return Number::Got(low + 128 * high, Cursor { at: at + 2 });
+        if 2 < s.len() - at {
+            let second = wide(s[at + 1]);
+            if second < 128 {
+                return Number::Got(low + 128 * second, Cursor { at: at + 2 });
+            }
+            let third = wide(s[at + 2]);
+            if third < 128 {
+                let high = second - 128 + 128 * third;
+                return Number::Got(low + 128 * high, Cursor { at: at + 3 });
             }
         }
         v64_on(s, at, low)
