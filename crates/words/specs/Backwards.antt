@@ -3,11 +3,11 @@ use mathlib.Core.Path.{_≡_, refl, sym, _∙_, ap}
 use mathlib.Core.List.{List, [], _∷_, _++_}
 use Prim.Native.Nat.{ℕ, zero, suc, _+_, _-_, _*_, _^_, _/_, _%_, _≤_, _<_, min}
 use native.Mathlib.Omega.{arith}
-use native.Mathlib.Numerals.{add-one, sub-one}
-use native.Mathlib.Nat.{lt-of-not-le, min-eq-left, pow-suc, div-div-eq-div-mul}
+use native.Mathlib.Numerals.{sub-one}
+use native.Mathlib.Nat.{lt-of-not-le, min-eq-left, pow-suc}
 use native.Mathlib.Decide.{decLe}
 use lib.ListN.{length, replicate, set, take, drop, length-append, length-set}
-use lib.Seq.{sets, sets-eq, set-comm, length-sets, take-append-seam}
+use lib.Seq.{sets, sets-eq, set-comm, take-append-seam}
 use Rattle.lay.specs.Laid.{Laid, most, sets-append, laid-over}
 use Rattle.paper.specs.Listing.{glyph, decimal, hexDigits}
 use Rattle.words.specs.Decimals.{glyph-low, glyph-high, decimal-low, decimal-high}

@@ -3,7 +3,7 @@ use mathlib.Core.Path.{_≡_, refl, sym, _∙_, ap}
 use mathlib.Core.List.{List, [], _∷_, _++_, append-assoc, append-nil}
 use Prim.Native.Nat.{ℕ, zero, suc, _+_, _-_, _*_, _^_, _/_, _%_, _≤_, _<_}
 use native.Mathlib.Omega.{arith}
-use native.Mathlib.Nat.{lt-of-not-le, le-of-lt, add-zero, min-eq-left, pow-zero, pow-suc, pow-succ', one-le-pow, div-one, div-div-eq-div-mul}
+use native.Mathlib.Nat.{lt-of-not-le, add-zero, min-eq-left, pow-zero, pow-suc, pow-succ', one-le-pow, div-one, div-div-eq-div-mul}
 use native.Mathlib.Decide.{decLe}
 use lib.ListN.{length, getD, set, drop, length-append, length-set}
 use lib.Seq.{sets, set-set}
