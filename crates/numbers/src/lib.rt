@@ -404,5 +404,15 @@ impl Cursor {
             };
         }
         long_v64(s, at)
+
+    // A number of any such width. Eight bytes are asked for by themselves: then their number is known, and they are read at once.
+    pub fn fixed(self, s: &[u8], width: usize) -> Number
+        requires { ⌜ width ≤ 8 ⌝ }
+        ensures { λ r. ⌜ Read (fixed width) (256 ^ width) (now (s .entry)) (self .at) r ⌝ }
+    {
+        if width == 8 {
+            return self.be8(s);
+        }
+        fixed_at(s, self.at, width)
     }
 }

@@ -1,3 +1,4 @@
 pub mod Shown
+pub mod Single
 pub mod Lines
 pub mod Maps

@@ -1,15 +1,16 @@
 -- Elements, values and chunks as text. Assumes nothing.
-use mathlib.Core.Path.{_≡_, refl, sym, ap, subst, _∙_}
+use mathlib.Core.Path.{_≡_, refl, sym, ap, _∙_}
 use mathlib.Core.Bool.{Bool, true, false}
-use mathlib.Core.List.{List, [], _∷_, append-nil}
+use mathlib.Core.List.{List, [], _∷_, _++_, append-nil}
 use Prim.Native.Nat.{ℕ, _*_, _^_, _≤_, _<_}
 use native.Mathlib.Omega.{arith}
 use native.Mathlib.Nat.{lt-of-not-le}
 use native.Mathlib.Decide.{decLe}
+use lib.Dec.{eqb}
 use lib.IntN.{ℤ}
-use borrow.Author.Tests.{le-leb, lt-leb, ne-eqb}
+use borrow.Author.Tests.{lt-leb, ne-eqb}
 use Rattle.paper.specs.Reader.{if_then_else_, Reader, Out, got, andThen, _>>=_, give, Rule, _orNo_, hold, must, each, times, repeat}
-use Rattle.paper.specs.Numbers.{signed, v64, number}
+use Rattle.paper.specs.Numbers.{signed, fixed, v64, number}
 use Rattle.paper.specs.Lists.{flat}
 use Rattle.paper.specs.Ledger.{Element, whole, link, annotation, Chunk, State}
 use Rattle.paper.specs.Rules.{singleKind?, elementKind?, linkRules, annotationRules}
@@ -25,15 +26,15 @@ use Rattle.numbers.specs.declared.Cursor.{Cursor}
 use Rattle.numbers.specs.declared.Refusal.{Refusal}
 use Rattle.numbers.specs.declared.Number.{Number}
 use Rattle.numbers.specs.declared.Number.the-variants as number
-use Rattle.values.specs.Bare.{Linkable}
+use Rattle.values.specs.Bare.{bare, boundOf, made, Linkable}
+use Rattle.values.specs.Listed.{single-5}
 use Rattle.values.specs.Filling.{repeat-first, repeat-none}
 use Rattle.values.specs.Chunks.{value-constant, kind-array, kind-many, kind-plain}
-use Rattle.values.specs.Columns.{elementOf, Storable, StorableIn, valued, ValueRead}
+use Rattle.values.specs.Columns.{elementOf, Storable, valued, value-cut, value-got}
 use Rattle.values.specs.declared.columns.Value.{Value}
 use Rattle.values.specs.declared.columns.Value.the-variants.{Flag, Whole, Float, Object}
-use Rattle.values.specs.declared.columns.Valued.{Valued}
-use Rattle.values.specs.declared.columns.Valued.the-variants.{Got, No}
 use Rattle.show.specs.Shown.{Shown, Shows, shows-none, shows-as, shows-by, Parted, shows-then}
+use Rattle.show.specs.Single.{FlagWord, lineOf, Fixed, single-low, Width}
 use Rattle.show.specs.declared.Behind.{Behind}
 
 -- an array that gives its own length, of elements of kind e
@@ -43,13 +44,10 @@ list e s = small >>= λ n. repeat n (element s e)
 -- ── an element, by the variants ──
 
 module _ {v : Value} where
-  pub word-true : {b : Bool} → v ≡ Flag b → b ≡ true → 49 ∷ [] ≡ elementWord (elementOf v)
+  pub word-flag : (b : Bool) {r : ℕ} → v ≡ Flag b → FlagWord b r → r ∷ [] ≡ elementWord (elementOf v)
   unfolding elementOf elementWord decimal shown glyph if_then_else_
-  word-true is t = rw (is, t)
-
-  pub word-false : {b : Bool} → v ≡ Flag b → b ≡ false → 48 ∷ [] ≡ elementWord (elementOf v)
-  unfolding elementOf elementWord decimal shown glyph if_then_else_
-  word-false is t = rw (is, t)
+  word-flag true is w = rw (is, w .0 refl)
+  word-flag false is w = rw (is, w .1 refl)
 
   pub word-whole : {z : ℤ} → v ≡ Whole z → decimalℤ z ≡ elementWord (elementOf v)
   unfolding elementOf elementWord
@@ -74,40 +72,39 @@ module _ {v : Value} where
 
 -- ── the next element ──
 
--- kinds of one number that is none of a string or an object
-module _ {e : ℕ} (low : 5 < e) (high : e < 14) where
-  pub single-low : singleKind? e ≡ true
-  unfolding singleKind?
-  single-low = rw (le-leb 6 e (omega arith), le-leb e 14 (omega arith))
-
+-- kinds of a fixed width, and the text t that is made of the word
+module _ {e : ℕ} (K : Fixed e) {w : ℕ} (W : Width e w) {f : List ℕ} {from : ℕ} {a : Number} (R : Read (fixed w) (256 ^ w) f from a) (t : List ℕ → List ℕ) where
   linkable-low : (s : State) → Linkable s e
-  linkable-low s = record { below = λ h. absurd (omega arith) }
+  linkable-low s = record { below = λ h. absurd (omega (arith, K .high)) }
 
-  module _ {f : List ℕ} {from : ℕ} {a : Valued} (R : ValueRead e f from a) where
-    pub next-none : {u : Refusal} → a ≡ No u → {l : List ℕ} {at : ℕ} {m : List ℕ} {o : Behind} → Shows (λ s. element s e) (λ x. tab ∷ elementWord x) f from l at m o
+  as-bare : Read (bare e) (boundOf e) f from a
+  as-bare = rw (W .is, W .bound) R
+
+  one-number : eqb e 5 ≡ false
+  one-number = single-5 e (single-low K)
+
+  pub fixed-none : {u : Refusal} → a ≡ number.No u → {l : List ℕ} {at : ℕ} {m : List ℕ} {o : Behind} → Shows (λ s. element s e) (λ x. t (elementWord x)) f from l at m o
+  unfolding valued
+  fixed-none is =
+      let cut = value-cut one-number as-bare is refl in
+      shows-none (λ s x q h. not-got (cut .reads s x q (linkable-low s) h))
+
+  module _ {n : ℕ} {c : Cursor} (is : a ≡ number.Got n c) where
+    pub fixed-below : n < boundOf e
+    fixed-below = was-got as-bare is .below
+
+    pub fixed-shows :
+        (v : Value) → (elementOf v ≡ made e n) × Storable v → {l m : List ℕ} {at r : ℕ} → Laid l at (t (elementWord (elementOf v))) m r
+        → Shows (λ s. element s e) (λ x. t (elementWord x)) f from l at m (record { next = c; at = r })
     unfolding valued
-    next-none {u} is =
-        shows-none (λ s x q h.
-        let never : Out.no (u .number) (u .place) ≡ got x q = ap valued (sym is) ∙ R .reads s x q (linkable-low s) h in
-        not-got never)
-
-    module _ {v : Value} {c : Cursor} (is : a ≡ Got v c) where
-      pub next-storable : Storable v
-      unfolding StorableIn
-      next-storable = subst StorableIn is (R .storable)
-
-      pub next-shows :
-          {l m n : List ℕ} {at p r : ℕ} → Laid l at (tab ∷ []) m p → Laid m p (elementWord (elementOf v)) n r
-          → Shows (λ s. element s e) (λ x. tab ∷ elementWord x) f from l at n (record { next = c; at = r })
-      unfolding valued
-      next-shows {l} {m} {n} {at} {p} {r} one two =
-          record {
-            text = record { laid = λ s x q h. laid-as (laid-then one two) (ap (λ (y : Element). tab ∷ elementWord y) (cc (there s x q h))) };
-            next = λ s x q h. cc (there s x q h);
-          }
-        where
-          there : (s : State) (x : Element) (q : ℕ) → element s e f from ≡ got x q → got (elementOf v) (c .at) ≡ got x q
-          there s x q h = ap valued (sym is) ∙ R .reads s x q (linkable-low s) h
+    fixed-shows v made-of L =
+        record {
+          text = record { laid = λ s x q h. laid-as L (ap (λ (y : Element). t (elementWord y)) (cc (there s x q h))) };
+          next = λ s x q h. cc (there s x q h);
+        }
+      where
+        there : (s : State) (x : Element) (q : ℕ) → element s e f from ≡ got x q → got (elementOf v) (c .at) ≡ got x q
+        there s x q h = value-got one-number as-bare is made-of .reads s x q (linkable-low s) h
 
 -- a number as it stands there, and the text that is made of it
 module _ {f : List ℕ} {from : ℕ} {a : Number} (R : Read v64 (2 ^ 64) f from a) (w : ℕ → List ℕ) where
@@ -151,30 +148,30 @@ turned-got r g f at v e h =
     (B .value, B .first ∙ ap (λ (n : ℕ). got (B .value) n) z, cc (B .rest))
 
 -- a v64
-v64-got : (s : State) (x : Element) (f : List ℕ) (from q : ℕ) → element s 11 f from ≡ got x q → (n : ℕ) × (v64 f from ≡ got n q) × (tab ∷ decimalℤ (signed 8 n) ≡ tab ∷ elementWord x)
+v64-got : (t : List ℕ → List ℕ) (s : State) (x : Element) (f : List ℕ) (from q : ℕ) → element s 11 f from ≡ got x q → (n : ℕ) × (v64 f from ≡ got n q) × (t (decimalℤ (signed 8 n)) ≡ t (elementWord x))
 unfolding element wholeOf if_then_else_ elementWord
-v64-got s x f from q h =
+v64-got t s x f from q h =
     let (v, a, b) = turned-got (v64 >>= λ n. give (signed 8 n)) whole f from x q h in
     let (n, c, d) = turned-got v64 (signed 8) f from v q a in
-    (n, c, ap (λ (y : ℤ). tab ∷ decimalℤ y) d ∙ ap (λ (y : Element). tab ∷ elementWord y) b)
+    (n, c, ap (λ (y : ℤ). t (decimalℤ y)) d ∙ ap (λ (y : Element). t (elementWord y)) b)
 
 pub v64-shows :
-    {f : List ℕ} {from : ℕ} {l : List ℕ} {at : ℕ} {m : List ℕ} {o : Behind} → Shows (λ s. v64) (λ n. tab ∷ decimalℤ (signed 8 n)) f from l at m o
-    → Shows (λ s. element s 11) (λ x. tab ∷ elementWord x) f from l at m o
-v64-shows {f} {from} = shows-by (λ s x q h. v64-got s x f from q h)
+    (t : List ℕ → List ℕ) {f : List ℕ} {from : ℕ} {l : List ℕ} {at : ℕ} {m : List ℕ} {o : Behind} → Shows (λ s. v64) (λ n. t (decimalℤ (signed 8 n))) f from l at m o
+    → Shows (λ s. element s 11) (λ x. t (elementWord x)) f from l at m o
+v64-shows t {f} {from} = shows-by (λ s x q h. v64-got t s x f from q h)
 
 -- the number of a string or of an object
-module _ {e : ℕ} (high : 13 < e) where
-  link-got : (s : State) (x : Element) (f : List ℕ) (from q : ℕ) → element s e f from ≡ got x q → (n : ℕ) × (v64 f from ≡ got n q) × (tab ∷ decimal n ≡ tab ∷ elementWord x)
+module _ {e : ℕ} (high : 13 < e) (t : List ℕ → List ℕ) where
+  link-got : (s : State) (x : Element) (f : List ℕ) (from q : ℕ) → element s e f from ≡ got x q → (n : ℕ) × (v64 f from ≡ got n q) × (t (decimal n) ≡ t (elementWord x))
   unfolding element number if_then_else_ elementWord
   link-got s x f from q h =
       let link? : (number (linkRules s e) >>= λ n. give (link n)) f from ≡ got x q = rw (ne-eqb e 5 (λ z. omega arith), ne-eqb e 6 (λ z. omega arith), lt-leb e 11 (omega arith), lt-leb e 13 high) at h in
       let (n, a, b) = turned-got (number (linkRules s e)) link f from x q link? in
-      (n, must-got v64 (linkRules s e) f from n q a, ap (λ (y : Element). tab ∷ elementWord y) {x = link n} b)
+      (n, must-got v64 (linkRules s e) f from n q a, ap (λ (y : Element). t (elementWord y)) {x = link n} b)
 
   pub link-shows :
-      {f : List ℕ} {from : ℕ} {l : List ℕ} {at : ℕ} {m : List ℕ} {o : Behind} → Shows (λ s. v64) (λ n. tab ∷ decimal n) f from l at m o
-      → Shows (λ s. element s e) (λ x. tab ∷ elementWord x) f from l at m o
+      {f : List ℕ} {from : ℕ} {l : List ℕ} {at : ℕ} {m : List ℕ} {o : Behind} → Shows (λ s. v64) (λ n. t (decimal n)) f from l at m o
+      → Shows (λ s. element s e) (λ x. t (elementWord x)) f from l at m o
   link-shows {f} {from} = shows-by (λ s x q h. link-got s x f from q h)
 
 -- the two numbers of an annotation
@@ -225,18 +222,32 @@ line-shows word all close =
     }
 
 -- one element is a row of one
-pub one-shows :
-    {r : State → Reader Element} {f : List ℕ} {from : ℕ} {l : List ℕ} {at : ℕ} {m : List ℕ} {o : Behind}
-    → Shows r (λ x. tab ∷ elementWord x) f from l at m o → Shows (λ s. repeat 1 (r s)) (tabs elementWord) f from l at m o
-unfolding tabs flat
-one-shows {r} {f} {from} = shows-by (λ s es q h. only s es q h)
-  where
-    only : (s : State) (es : List Element) (q : ℕ) → repeat 1 (r s) f from ≡ got es q → (x : Element) × (r s f from ≡ got x q) × (tab ∷ elementWord x ≡ flat (λ x. tab ∷ elementWord x) es)
-    only s es q h =
-        let F = repeat-first (r s) 0 f from es q h in
-        let N = repeat-none (r s) f (F .next) (F .more) q (F .rest) in
-        let is : es ≡ F .value ∷ [] = F .is ∙ ap (λ (v : List Element). F .value ∷ v) (N .0) in
-        (F .value, F .first ∙ ap (λ (p : ℕ). got (F .value) p) (N .1), sym (append-nil (tab ∷ elementWord (F .value))) ∙ ap (flat (λ x. tab ∷ elementWord x)) (sym is))
+one-read : {A : Type 0} (r : Reader A) (f : List ℕ) (from : ℕ) (es : List A) (q : ℕ) → repeat 1 r f from ≡ got es q → (x : A) × (r f from ≡ got x q) × (x ∷ [] ≡ es)
+one-read {A} r f from es q h =
+    let F = repeat-first r 0 f from es q h in
+    let N = repeat-none r f (F .next) (F .more) q (F .rest) in
+    (F .value, F .first ∙ ap (λ (p : ℕ). got (F .value) p) (N .1), sym (F .is ∙ ap (λ (v : List A). F .value ∷ v) (N .0)))
+
+word-line : (x : Element) → lineOf (elementWord x) ≡ valueLine (x ∷ [])
+unfolding lineOf valueLine ascii tabs flat
+word-line x =
+    ap (λ (w : List ℕ). 118 ∷ 97 ∷ 108 ∷ (w ++ (newline ∷ []))) (sym (append-nil (tab ∷ elementWord x)))
+    ∙ sym (line-tabs elementWord (ascii "val") (x ∷ []))
+
+module _ {r : State → Reader Element} {f : List ℕ} {from : ℕ} {l : List ℕ} {at : ℕ} {m : List ℕ} {o : Behind} where
+  pub one-shows : Shows r (λ x. tab ∷ elementWord x) f from l at m o → Shows (λ s. repeat 1 (r s)) (tabs elementWord) f from l at m o
+  unfolding tabs flat
+  one-shows =
+      shows-by (λ s es q h.
+      let (x, a, is) = one-read (r s) f from es q h in
+      (x, a, sym (append-nil (tab ∷ elementWord x)) ∙ ap (flat (λ x. tab ∷ elementWord x)) is))
+
+  -- and its line the line of its word
+  pub one-line : Shows r (λ x. lineOf (elementWord x)) f from l at m o → Shows (λ s. repeat 1 (r s)) valueLine f from l at m o
+  one-line =
+      shows-by (λ s es q h.
+      let (x, a, is) = one-read (r s) f from es q h in
+      (x, a, word-line x ∙ ap valueLine is))
 
 module _ (e : ℕ) {f : List ℕ} {from : ℕ} {a : Number} (R : Read small 65536 f from a) {l : List ℕ} {at : ℕ} {m : List ℕ} {o : Behind} where
   pub list-none : {u : Refusal} → a ≡ number.No u → Shows (list e) valueLine f from l at m o

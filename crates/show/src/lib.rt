@@ -2,19 +2,22 @@
 // that fails is passed over, and nothing is said of the text.
 ghost use mathlib.Core.Path.{_≡_};
 ghost use mathlib.Core.Bool.{true};
-ghost use mathlib.Core.List.{_∷_};
-ghost use Prim.Native.Nat.{_<_, _≤_};
+ghost use mathlib.Core.List.{[], _∷_};
+ghost use Prim.Native.Nat.{_+_, _<_, _≤_};
 ghost use lib.ListN.{length};
+ghost use lib.Seq.{sets};
 ghost use Rattle.paper.specs.Reader.{repeat};
-ghost use Rattle.paper.specs.Numbers.{putFixed, v64};
+ghost use Rattle.paper.specs.Numbers.{signed, putFixed, v64};
 ghost use Rattle.paper.specs.Rules.{elementKind?};
 ghost use Rattle.paper.specs.File.{element};
-ghost use Rattle.paper.specs.Listing.{tab, decimal, elementWord, valueLine, printChunk};
+ghost use Rattle.paper.specs.Listing.{tab, newline, decimal, decimalℤ, hexDigits, elementWord, valueLine, printChunk};
 ghost use Rattle.lay.specs.Laid.{Laid};
 ghost use Rattle.laws.specs.Lines.{tabs};
+ghost use Rattle.words.specs.Stored.{Stored};
 ghost use Rattle.values.specs.Chunks.{Kinds};
 ghost use Rattle.values.specs.Columns.{elementOf, Storable};
 ghost use Rattle.show.specs.Shown.{Shown, Shows};
+ghost use Rattle.show.specs.Single.{FlagWord, val, lineOf, Fixed, Width};
 ghost use Rattle.show.specs.Lines.{list, ChunkShown};
 ghost use Rattle.show.specs.Maps.{Keyed, mapIn, keyIn};
 use lay::put;
@@ -22,18 +25,29 @@ use lay::put_bytes;
 use numbers::Cursor;
 use numbers::Number;
 use values::columns::Value;
-use values::columns::Valued;
-use values::columns::read_value;
+use values::columns::value_of;
 use values::maps::map_kinds;
+use words::write::bits_of;
 use words::write::put_decimal;
 use words::write::put_hex;
 use words::write::put_integer;
 use words::write::put_signed;
+use words::write::room;
+use words::write::store_decimal;
+use words::write::store_hex;
+use words::write::store_integer;
 
 // Behind what was read, and behind what was laid.
 pub struct Behind {
     pub next: Cursor,
     pub at: usize,
+}
+
+// The word of a bool.
+fn flag_word(b: bool) -> u8
+    ensures { λ r. ⌜ FlagWord b r ⌝ }
+{
+    if b { b'1' } else { b'0' }
 }
 
 // The word of an element.
@@ -42,19 +56,109 @@ pub fn put_element(out: &mut [u8], at: usize, v: Value) -> usize
     ensures { λ r. ⌜ Laid (now (out .entry)) at (elementWord (elementOf v)) (now (out .exit)) r ⌝ }
 {
     match v {
-        Value::Flag(b) => {
-            if b {
-                put(out, at, b'1')
-            } else {
-                put(out, at, b'0')
-            }
-        }
+        Value::Flag(b) => put(out, at, flag_word(b)),
         Value::Whole(z) => put_signed(out, at, z),
         Value::Float(width, bits) => {
             let digits = 2 * width;
             put_hex(out, at, digits as usize, bits)
         }
         Value::Object(n) => put_decimal(out, at, n),
+    }
+}
+
+// `val` and a tab, which fit.
+fn store_val(out: &mut [u8], at: usize)
+    requires { ⌜ at + 4 ≤ length (now out) ⌝ }
+    ensures { λ _. ⌜ now (out .exit) ≡ sets (now (out .entry)) at val ⌝ }
+{
+    out[at] = b'v';
+    out[at + 1] = b'a';
+    out[at + 2] = b'l';
+    out[at + 3] = b'\t';
+}
+
+// A byte, which fits: the place behind it.
+fn store_byte(out: &mut [u8], at: usize, b: u8) -> usize
+    requires { ⌜ at < length (now out) ⌝ }
+    ensures { λ r. ⌜ Stored (now (out .entry)) at (b ∷ []) (now (out .exit)) r ⌝ }
+{
+    out[at] = b;
+    at + 1
+}
+
+// Lines of one word. A line has at most 26 bytes, `val`, a tab, a sign, 20 digits and the newline: where so many are left, the room
+// is asked for once and nothing more is tested. The rest goes the long way, which counts what does not fit.
+
+// The line of a word of one byte.
+fn put_byte_line(out: &mut [u8], at: usize, b: u8) -> usize
+    ensures { λ r. ⌜ Laid (now (out .entry)) at (lineOf (b ∷ [])) (now (out .exit)) r ⌝ }
+{
+    if 26 <= room(out.len(), at) {
+        store_val(out, at);
+        let end = store_byte(out, at + 4, b);
+        return store_byte(out, end, b'\n');
+    }
+    let word = put_bytes(out, at, b"val\t");
+    let end = put(out, word, b);
+    put(out, end, b'\n')
+}
+
+// The line of the signed number of these bits.
+fn put_integer_line(out: &mut [u8], at: usize, bits: u64) -> usize
+    ensures { λ r. ⌜ Laid (now (out .entry)) at (lineOf (decimalℤ (signed 8 bits))) (now (out .exit)) r ⌝ }
+{
+    if 26 <= room(out.len(), at) {
+        store_val(out, at);
+        let end = store_integer(out, at + 4, bits);
+        return store_byte(out, end, b'\n');
+    }
+    let word = put_bytes(out, at, b"val\t");
+    let end = put_integer(out, word, bits);
+    put(out, end, b'\n')
+}
+
+// The line of a number of a string or of an object.
+fn put_decimal_line(out: &mut [u8], at: usize, n: u64) -> usize
+    ensures { λ r. ⌜ Laid (now (out .entry)) at (lineOf (decimal n)) (now (out .exit)) r ⌝ }
+{
+    if 26 <= room(out.len(), at) {
+        store_val(out, at);
+        let end = store_decimal(out, at + 4, n);
+        return store_byte(out, end, b'\n');
+    }
+    let word = put_bytes(out, at, b"val\t");
+    let end = put_decimal(out, word, n);
+    put(out, end, b'\n')
+}
+
+// The line of a float's bits, in so many digits.
+fn put_hex_line(out: &mut [u8], at: usize, digits: usize, bits: u64) -> usize
+    requires { ⌜ digits ≤ 16 ⌝ }
+    ensures { λ r. ⌜ Laid (now (out .entry)) at (lineOf (hexDigits digits bits)) (now (out .exit)) r ⌝ }
+{
+    if 26 <= room(out.len(), at) {
+        store_val(out, at);
+        store_hex(out, at + 4, digits, bits);
+        return store_byte(out, at + 4 + digits, b'\n');
+    }
+    let word = put_bytes(out, at, b"val\t");
+    let end = put_hex(out, word, digits, bits);
+    put(out, end, b'\n')
+}
+
+// The line of an element.
+fn put_element_line(out: &mut [u8], at: usize, v: Value) -> usize
+    requires { ⌜ Storable v ⌝ }
+    ensures { λ r. ⌜ Laid (now (out .entry)) at (lineOf (elementWord (elementOf v))) (now (out .exit)) r ⌝ }
+{
+    match v {
+        Value::Flag(b) => put_byte_line(out, at, flag_word(b)),
+        Value::Whole(z) => put_integer_line(out, at, bits_of(z)),
+        Value::Float(width, bits) => {
+            let digits = 2 * width;
+            put_hex_line(out, at, digits as usize, bits)
+        }
+        Value::Object(n) => put_decimal_line(out, at, n),
     }
 }
 
@@ -92,17 +196,30 @@ fn put_annotation(part: &[u8], c: Cursor, out: &mut [u8], at: usize) -> Behind
     put_number(part, name.next, out, name.at)
 }
 
+// How many bytes an element of kind e has, where all of them have as many.
+fn width_of(e: u64) -> usize
+    requires { ⌜ Fixed e ⌝ }
+    ensures { λ r. ⌜ Width e r ⌝ }
+{
+    match e {
+        6..=7 => 1,
+        8 => 2,
+        9 | 12 => 4,
+        _ => 8,
+    }
+}
+
 // A tab, and the word of the bool, the fixed number or the float of kind e that comes next, by way of its value.
 fn put_other(part: &[u8], c: Cursor, e: u64, out: &mut [u8], at: usize) -> Behind
-    requires { ⌜ (5 < e) × (e < 14) ⌝ }
+    requires { ⌜ Fixed e ⌝ }
     ensures { λ r. ⌜ Shows (λ s. element s e) (λ x. tab ∷ elementWord x) (now (part .entry)) (c .at) (now (out .entry)) at (now (out .exit)) r ⌝ }
 {
-    let a = read_value(part, c, e);
-    let Valued::Got(v, next) = a else {
+    let a = c.fixed(part, width_of(e));
+    let Number::Got(n, next) = a else {
         return Behind { next: c, at };
     };
     let word = put(out, at, b'\t');
-    let end = put_element(out, word, v);
+    let end = put_element(out, word, value_of(n, e));
     Behind { next, at: end }
 }
 
@@ -166,10 +283,11 @@ fn put_list(part: &[u8], c: Cursor, e: u64, out: &mut [u8], at: usize) -> Behind
 fn put_v64_line(part: &[u8], c: Cursor, out: &mut [u8], at: usize) -> Behind
     ensures { λ r. ⌜ Shows (λ s. repeat 1 (element s 11)) valueLine (now (part .entry)) (c .at) (now (out .entry)) at (now (out .exit)) r ⌝ }
 {
-    let first = put_bytes(out, at, b"val");
-    let one = put_v64(part, c, out, first);
-    let end = put(out, one.at, b'\n');
-    let next = one.next;
+    let a = c.v64(part);
+    let Number::Got(n, next) = a else {
+        return Behind { next: c, at };
+    };
+    let end = put_integer_line(out, at, n);
     Behind { next, at: end }
 }
 
@@ -194,10 +312,11 @@ fn put_link_line(part: &[u8], c: Cursor, e: u64, out: &mut [u8], at: usize) -> B
     requires { ⌜ 13 < e ⌝ }
     ensures { λ r. ⌜ Shows (λ s. repeat 1 (element s e)) valueLine (now (part .entry)) (c .at) (now (out .entry)) at (now (out .exit)) r ⌝ }
 {
-    let first = put_bytes(out, at, b"val");
-    let one = put_number(part, c, out, first);
-    let end = put(out, one.at, b'\n');
-    let next = one.next;
+    let a = c.v64(part);
+    let Number::Got(n, next) = a else {
+        return Behind { next: c, at };
+    };
+    let end = put_decimal_line(out, at, n);
     Behind { next, at: end }
 }
 
@@ -220,19 +339,20 @@ fn put_link_lines(part: &[u8], n: u32, e: u64, out: &mut [u8], at: usize) -> usi
 
 // The line of a value of one element of another kind.
 fn put_other_line(part: &[u8], c: Cursor, e: u64, out: &mut [u8], at: usize) -> Behind
-    requires { ⌜ (5 < e) × (e < 14) ⌝ }
+    requires { ⌜ Fixed e ⌝ }
     ensures { λ r. ⌜ Shows (λ s. repeat 1 (element s e)) valueLine (now (part .entry)) (c .at) (now (out .entry)) at (now (out .exit)) r ⌝ }
 {
-    let first = put_bytes(out, at, b"val");
-    let one = put_other(part, c, e, out, first);
-    let end = put(out, one.at, b'\n');
-    let next = one.next;
+    let a = c.fixed(part, width_of(e));
+    let Number::Got(n, next) = a else {
+        return Behind { next: c, at };
+    };
+    let end = put_element_line(out, at, value_of(n, e));
     Behind { next, at: end }
 }
 
 // The lines of n of them.
 fn put_other_lines(part: &[u8], n: u32, e: u64, out: &mut [u8], at: usize) -> usize
-    requires { ⌜ (5 < e) × (e < 14) ⌝ }
+    requires { ⌜ Fixed e ⌝ }
     ensures { λ r. ⌜ Shown (λ s. repeat n (repeat 1 (element s e))) printChunk (now (part .entry)) 0 (now (out .entry)) at (now (out .exit)) r ⌝ }
 {
     let mut here = Behind {

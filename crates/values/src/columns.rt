@@ -81,7 +81,7 @@ fn whole(n: u64, k: u64) -> i64
 }
 
 // The value of kind k that n stands for.
-fn value_of(n: u64, k: u64) -> Value
+pub fn value_of(n: u64, k: u64) -> Value
     requires { ⌜ (singleKind? k ≡ true) × (n < boundOf k) ⌝ }
     ensures { λ r. ⌜ (elementOf r ≡ made k n) × Storable r ⌝ }
 {

@@ -3,11 +3,11 @@ use mathlib.Core.Path.{_≡_, refl, sym, _∙_, ap}
 use mathlib.Core.List.{List, [], _∷_, _++_}
 use Prim.Native.Nat.{ℕ, zero, suc, _+_, _-_, _*_, _^_, _/_, _%_, _≤_, _<_, min}
 use native.Mathlib.Omega.{arith}
-use native.Mathlib.Numerals.{add-one, sub-one}
-use native.Mathlib.Nat.{lt-of-not-le, min-eq-left, pow-suc, div-div-eq-div-mul}
+use native.Mathlib.Numerals.{sub-one}
+use native.Mathlib.Nat.{lt-of-not-le, min-eq-left, pow-suc}
 use native.Mathlib.Decide.{decLe}
 use lib.ListN.{length, replicate, set, take, drop, length-append, length-set}
-use lib.Seq.{sets, sets-eq, set-comm, length-sets, take-append-seam}
+use lib.Seq.{sets, sets-eq, set-comm, take-append-seam}
 use Rattle.lay.specs.Laid.{Laid, most, sets-append, laid-over}
 use Rattle.paper.specs.Listing.{glyph, decimal, hexDigits}
 use Rattle.words.specs.Decimals.{glyph-low, glyph-high, decimal-low, decimal-high}
@@ -24,73 +24,6 @@ pub last-first : (w l : List ℕ) (at b : ℕ) → sets l at (w ++ (b ∷ [])) �
 last-first w l at b = sets-append w (b ∷ []) l at ∙ set-before w l at (at + length w) b (omega arith)
 
 -- ── decimals ──
-
--- the digits from place p on are stored, and with those of `left` they are the whole
-pub record Digits (l : List ℕ) (at x : ℕ) (m : List ℕ) (p left : ℕ) : Type 0 where
-  pub long : length m ≡ length l
-  pub fits : p ≤ length l
-  pub here : p ≡ at + length (decimal left)
-  pub same : sets m at (decimal left) ≡ sets l at (decimal x)
-
-pub digits-start : (l : List ℕ) (at n x : ℕ) → n ≡ length (decimal x) → at + n ≤ length l → Digits l at x l (at + n) x
-digits-start l at n x e h = record { long = refl; fits = h; here = rw e; same = refl }
-
-module _ {l : List ℕ} {at x : ℕ} {m : List ℕ} {p left : ℕ} (g : Digits l at x m p left) where
-  more : 10 ≤ left → p ≡ at + length (decimal (left / 10)) + 1
-  more h = g .here ∙ rw (decimal-high left h, length-append) (omega arith)
-
-  pub digits-one : 10 ≤ left → Digits l at x (set m (p - 1) (48 + left % 10)) (p - 1) (left / 10)
-  digits-one h =
-      let q = more h in
-      let e : p - 1 ≡ at + length (decimal (left / 10)) = omega arith in
-      let b : glyph (left % 10) ≡ 48 + left % 10 = glyph-low (left % 10) (omega arith) in
-      record {
-        long = length-set m (p - 1) (48 + left % 10) ∙ g .long;
-        fits = omega (arith, g .fits);
-        here = e;
-        same =
-            rw (e, ← b)
-            (sym (last-first (decimal (left / 10)) m at (glyph (left % 10)))
-            ∙ rw (decimal-high left h) at (g .same));
-      }
-
-  pub digits-last : left < 10 → set m at (48 + left) ≡ sets l at (decimal x)
-  digits-last h = rw (decimal-low left h, glyph-low left h) at (g .same)
-
-  pub digits-some : at < p
-  digits-some =
-      elim (decLe 10 left) [
-        | yes d ↦ (let q = more d in omega arith)
-        | no d ↦ rw (g .here, decimal-low left (lt-of-not-le d)) (omega arith)
-      ]
-
--- two at once, from the remainder of one division
-module _ {l : List ℕ} {at x : ℕ} {m : List ℕ} {p left : ℕ} (g : Digits l at x m p left) (h : 100 ≤ left) where
-  pub digits-two :
-      Digits l at x (set (set m (p - 1) (48 + left % 100 % 10)) (p - 2) (48 + left % 100 / 10)) (p - 2) (left / 100)
-  digits-two =
-      let a : left % 10 ≡ left % 100 % 10 = omega arith in
-      let c : left / 10 / 10 ≡ left / 100 = div-div-eq-div-mul left 10 10 in
-      let b : left / 10 % 10 ≡ left % 100 / 10 = omega (arith, c) in
-      let d : p - 1 - 1 ≡ p - 2 = omega arith in
-      rw (a, b, c, d) at (digits-one (digits-one g (omega arith)) (omega arith))
-
-  pub digits-room : at + 2 < p
-  digits-room = let one = digits-one g (omega arith) in let s = digits-some (digits-one one (omega arith)) in omega (arith, s)
-
-  pub digits-in : (p - 1 < length m) × (p - 2 < length (set m (p - 1) (48 + left % 100 % 10)))
-  digits-in = (omega (arith, g .fits, g .long, digits-room), rw length-set (omega (arith, g .fits, g .long, digits-room)))
-
--- the last two, where there are no more
-module _ {l : List ℕ} {at x : ℕ} {m : List ℕ} {p left : ℕ} (g : Digits l at x m p left) (h : 10 ≤ left) (k : left < 100) where
-  second : p - 1 ≡ at + 1
-  second = digits-one g h .here ∙ rw (decimal-low (left / 10) (omega arith))
-
-  pub digits-pair : set (set m (at + 1) (48 + left % 10)) at (48 + left / 10) ≡ sets l at (decimal x)
-  digits-pair = rw second at (digits-last (digits-one g h) (omega arith))
-
-  pub digits-behind : at + 1 < length m
-  digits-behind = omega (arith, g .fits, g .long, second, digits-some g)
 
 -- 64 bits have at most 20 digits
 digits-most : (k x : ℕ) → x < 10 ^ suc k → length (decimal x) ≤ suc k

@@ -4,7 +4,7 @@ use mir.Facts.{toZ-ofZ}
 use Rattle.paper.specs.Listing.{decimalℤ}
 use Rattle.lay.specs.Laid.{laid-as}
 use Rattle.values.specs.Columns.{whole-fits}
-use Rattle.show.specs.Lines.{word-true, word-false, word-whole, float-narrow, word-float, word-object}
+use Rattle.show.specs.Lines.{word-flag, word-whole, float-narrow, word-float, word-object}
 use borrow.Author.Needs.{needs}
 use Rattle.show.proofs.put_element.Statement.{statement}
 use Rattle.show.proofs.put_element.Tie as tie
@@ -19,16 +19,14 @@ put-element-spec =
     (λ c. search needs)
     (λ c κs. search needs)
     (λ c. search needs)
-    (λ c. omega (arith, float-narrow (c .before .v3 .given .1) ((c .before .before .before .before) .pre)))
+    (λ c. omega (arith, float-narrow (c .before .v3 .given .1) (c .before .before .before .before .pre)))
     (λ c κs. search needs)
     (λ c. search needs)
     (λ c κs. search needs)
     (λ c. search needs)
-    (λ c. laid-as (c .before .before .put .ensures) (word-true (c .before .before .before .before .before .before .v .given .1) (c .before .before .before .before .if1 .taken)))
+    (λ c. laid-as (c .before .before .put .ensures) (word-flag _ (c .before .before .before .before .before .before .v .given .1) (c .before .before .before .flag-word .ensures)))
     (λ c. search needs)
-    (λ c. laid-as (c .before .before .put2 .ensures) (word-false (c .before .before .before .before .before .before .v .given .1) (c .before .before .before .before .if1 .left)))
-    (λ c. search needs)
-    (λ c. laid-as (c .before .before .put-signed .ensures) (ap decimalℤ (toZ-ofZ (record { sfits = whole-fits (c .before .before .before .before .before .v2 .given .1) ((c .before .before .before .before .before .before .before .before) .pre) })) ∙ word-whole (c .before .before .before .before .before .v2 .given .1)))
+    (λ c. laid-as (c .before .before .put-signed .ensures) (ap decimalℤ (toZ-ofZ (record { sfits = whole-fits (c .before .before .before .before .before .v2 .given .1) (c .before .before .before .before .before .before .before .before .pre) })) ∙ word-whole (c .before .before .before .before .before .v2 .given .1)))
     (λ c. search needs)
     (λ c. laid-as (c .before .before .put-hex .ensures) (word-float (c .before .before .before .before .before .v3 .given .1) (omega arith)))
     (λ c. search needs)

@@ -1,4 +1,6 @@
-use Rattle.show.specs.Lines.{link-shows, line-shows, one-shows}
+use Rattle.paper.specs.Listing.{decimal}
+use Rattle.show.specs.Single.{lineOf}
+use Rattle.show.specs.Lines.{number-none, number-shows, link-shows, one-line}
 use borrow.Author.Needs.{needs}
 use Rattle.show.proofs.put_link_line.Statement.{statement}
 use Rattle.show.proofs.put_link_line.Tie as tie
@@ -7,9 +9,10 @@ pub put-link-line-spec : {M : Type 1} → statement M
 put-link-line-spec =
     tie.close
     (tie.spec
-    (λ c. search needs)
-    (λ c κs. search needs)
-    (λ c κs. search needs)
     (λ c κs. search needs)
     (λ c. search needs)
-    (λ c. line-shows (c .before .before .before .before .before .before .before .before .before .before .before .put-bytes .ensures) (one-shows (link-shows (c .before .before .before .before .before .before .before .before .before .before .before .before .before .before .before .before .pre) (c .before .before .before .before .before .before .before .put-number .ensures))) (c .before .before .before .put .ensures)))
+    (λ c. search needs)
+    (λ c. one-line (link-shows (c .before .before .before .before .before .pre) lineOf (number-none (c .before .before .v64 .ensures) (λ n. lineOf (decimal n)) (c .enum-told .given .1))))
+    (λ c κs. search needs)
+    (λ c. search needs)
+    (λ c. one-line (link-shows (c .before .before .before .before .before .before .before .before .before .before .pre) lineOf (number-shows (c .before .before .before .before .before .before .before .v64 .ensures) (λ n. lineOf (decimal n)) (c .before .before .before .before .before .a .given .1) (c .before .before .put-decimal-line .ensures)))))

@@ -1,4 +1,6 @@
+use mathlib.Core.List.{_∷_}
 use native.Mathlib.Omega.{arith}
+use Rattle.paper.specs.Listing.{tab}
 use Rattle.show.specs.Lines.{link-shows, element-low}
 use borrow.Author.Needs.{needs}
 use Rattle.show.proofs.put_next.Statement.{statement}
@@ -13,10 +15,10 @@ put-next-spec =
     (λ c. rw (c .before .before .before .before .if1 .taken) (c .before .before .put-v64 .ensures))
     (λ c κs. search needs)
     (λ c. search needs)
-    (λ c. link-shows (c .before .before .before .before .if2 .taken) (c .before .before .put-number .ensures))
+    (λ c. link-shows (c .before .before .before .before .if2 .taken) (λ w. tab ∷ w) (c .before .before .put-number .ensures))
     (λ c κs. search needs)
     (λ c. search needs)
     (λ c. rw (c .before .before .before .before .if3 .taken) (c .before .before .put-annotation .ensures))
-    (λ c κs. (element-low _ (c .before .before .before .before .before .before .pre) (c .before .if3 .left), omega arith))
+    (λ c κs. record { low = element-low _ (c .before .before .before .before .before .before .pre) (c .before .if3 .left); high = omega arith; other = c .before .before .before .if1 .left })
     (λ c. search needs)
     (λ c. search needs))

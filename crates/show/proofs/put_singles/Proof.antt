@@ -17,6 +17,6 @@ put-singles-spec =
     (λ c κs h. c .before .before .before .before .before .before .pre)
     (λ c. search needs)
     (λ c. search needs)
-    (λ c κs. (element-low _ (c .before .before .before .before .before .before .pre) (c .before .if3 .left), omega arith))
+    (λ c κs. record { low = element-low _ (c .before .before .before .before .before .before .pre) (c .before .if3 .left); high = omega arith; other = c .before .before .before .if1 .left })
     (λ c. search needs)
     (λ c. search needs))

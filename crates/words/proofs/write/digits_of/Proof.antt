@@ -1,17 +1,26 @@
-use borrow.Author.Needs.{needs}
 use native.Mathlib.Omega.{arith}
-use Prim.Native.Nat.{_-_}
-use Rattle.words.specs.Decimals.{Counting, counting-start, counting-done, counting-on, counting-fits, counting-last}
+use mathlib.Core.Path.{ap, _∙_}
+use Prim.Native.Nat.{ℕ, _+_}
+use Rattle.words.specs.Stored.{decimal-longer}
+use borrow.Author.Needs.{needs}
 use Rattle.words.proofs.write.digits_of.Statement.{statement}
 use Rattle.words.proofs.write.digits_of.Tie as tie
-
-abbrev Inv-loop : tie.InvT-loop
-Inv-loop x n₀ top₀ n top = Counting x n top
-
-abbrev μ-loop : tie.MeasureT-loop
-μ-loop x n₀ top₀ n top = 20 - n
 
 pub digits-of-spec : {M : Type 1} → statement M
 digits-of-spec =
     tie.close
-    (tie.spec Inv-loop μ-loop (λ c. counting-start _) (λ c. search needs) (λ c. counting-last (c .before .before .loop .inv) (c .before .loop-test .taken) (omega arith) (c .if1 .taken)) (λ c. record { fits = counting-fits (c .before .before .loop .inv) (c .before .loop-test .taken) (c .if1 .left) }) (λ c. omega (arith, c .before .before .loop .inv .few)) (λ c. counting-on (c .before .before .loop .inv) (c .before .loop-test .taken) (c .if1 .left)) (λ c. counting-done (c .before .loop .inv) (c .loop-test .left)))
+    (tie.spec
+    (λ c κs. search needs)
+    (λ c. c .short-length .ensures .0)
+    (λ c κs. search needs)
+    (λ c. omega (arith, c .short-length2 .ensures .1))
+    (λ c. ap (λ (n : ℕ). 4 + n) (c .short-length2 .ensures .0) ∙ decimal-longer 4 _ (omega arith))
+    (λ c κs. search needs)
+    (λ c. omega (arith, c .short-length3 .ensures .1))
+    (λ c. ap (λ (n : ℕ). 8 + n) (c .short-length3 .ensures .0) ∙ decimal-longer 8 _ (omega arith))
+    (λ c κs. search needs)
+    (λ c. omega (arith, c .short-length4 .ensures .1))
+    (λ c. ap (λ (n : ℕ). 12 + n) (c .short-length4 .ensures .0) ∙ decimal-longer 12 _ (omega arith))
+    (λ c κs. search needs)
+    (λ c. omega (arith, c .short-length5 .ensures .1))
+    (λ c. ap (λ (n : ℕ). 16 + n) (c .short-length5 .ensures .0) ∙ decimal-longer 16 _ (omega arith)))

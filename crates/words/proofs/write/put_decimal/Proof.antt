@@ -1,32 +1,23 @@
 use native.Mathlib.Omega.{arith}
 use Rattle.lay.specs.Laid.{most}
-use Rattle.words.specs.Backwards.{laid-counted, laid-stored}
+use Rattle.words.specs.Stored.{stored-laid}
 use borrow.Author.Needs.{needs}
 use Rattle.words.proofs.write.put_decimal.Statement.{statement}
 use Rattle.words.proofs.write.put_decimal.Tie as tie
 
--- src/write.rt:86:9
+-- src/write.rt:175:9
 returns : tie.Need-returns
 unfolding most
-returns c = laid-counted (c .before .before .digits-of .ensures) (omega arith) (c .before .if1 .taken) (c .behind .ensures)
-
--- src/write.rt:90:9
-returns-2 : tie.Need-returns-2
-unfolding most
-returns-2 c = laid-stored (c .before .before .before .before .before .before .digits-of .ensures) (omega arith) (omega arith) (c .before .before .store-decimal .ensures)
+returns c = stored-laid (omega arith) (omega (arith, c .before .before .store-decimal .ensures .1, c .before .before .before .before .before .room .ensures, c .before .before .before .before .if1 .taken)) (c .before .before .store-decimal .ensures .0)
 
 pub put-decimal-spec : {M : Type 1} → statement M
 put-decimal-spec =
     tie.close
     (tie.spec
     (λ c κs. search needs)
-    (λ c κs. search needs)
+    (λ c κs. omega (arith, c .before .before .room .ensures, c .before .if1 .taken))
+    (λ c. search needs)
     returns
-    (λ c. search needs)
-    (λ c κs. search needs)
-    (λ c. search needs)
-    (λ c. search needs)
-    returns-2
     (λ c κs. search needs)
     (λ c. search needs)
     (λ c. search needs))

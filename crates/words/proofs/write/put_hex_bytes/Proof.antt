@@ -1,35 +1,33 @@
-use borrow.Author.Needs.{needs}
 use native.Mathlib.Omega.{arith}
-use Prim.Native.Nat.{_≤_, _-_}
-use lib.ListN.{length, drop}
-use Rattle.paper.specs.Listing.{hex}
-use Rattle.lay.specs.Laid.{most, Leads, leads-start, leads-on, leads-end}
-use Rattle.words.specs.Hexes.{hex-more, hex-none}
+use Rattle.lay.specs.Laid.{most}
+use Rattle.words.specs.Backwards.{laid-counted, laid-stored}
+use Rattle.words.specs.Stored.{hex-bytes-long}
+use borrow.Author.Needs.{needs}
 use Rattle.words.proofs.write.put_hex_bytes.Statement.{statement}
 use Rattle.words.proofs.write.put_hex_bytes.Tie as tie
 
-abbrev Inv-loop : tie.InvT-loop
-Inv-loop out₀ at s p₀ i₀ out p i = (i ≤ length s) × Leads out₀ at (hex s) out p (hex (drop i s))
-
-abbrev μ-loop : tie.MeasureT-loop
-μ-loop out₀ at s p₀ i₀ out p i = length s - i
-
--- src/write.rt:104:5
-loop-holds : tie.Need-loop-holds Inv-loop μ-loop
+-- src/write.rt:325:9
+returns : tie.Need-returns
 unfolding most
-loop-holds c = (omega arith, leads-start (omega arith) (omega arith))
+returns c = laid-counted (hex-bytes-long (c .before .before .before .before .args .s .now)) (omega arith) (c .before .if1 .taken) (c .behind .ensures)
+
+-- src/write.rt:329:9
+returns-2 : tie.Need-returns-2
+unfolding most
+returns-2 c = laid-stored (hex-bytes-long (c .before .before .before .before .before .before .before .before .args .s .now)) (omega arith) (omega arith) (c .before .before .store-hex-bytes .ensures)
 
 pub put-hex-bytes-spec : {M : Type 1} → statement M
 put-hex-bytes-spec =
     tie.close
     (tie.spec
-    Inv-loop
-    μ-loop
-    loop-holds
     (λ c. omega arith)
     (λ c κs. search needs)
+    returns
+    (λ c. search needs)
+    (λ c κs. omega arith)
     (λ c. omega arith)
-    (λ c. omega arith)
-    (λ c. (omega arith, leads-on (c .before .before .before .before .before .before .loop .inv .1) (hex-more ((c .before .before .before .before .before .before .before .before .before) .args .s .now) (c .before .before .before .before .before .before .loop .i) (omega arith)) (c .before .before .put-pair .ensures)))
-    (λ c. c .before .loop .inv .1 .long)
-    (λ c. leads-end (c .before .loop .inv .1) (hex-none ((c .before .before .before .before) .args .s .now) (c .before .loop .i) (omega arith))))
+    (λ c. search needs)
+    returns-2
+    (λ c κs. search needs)
+    (λ c. search needs)
+    (λ c. search needs))
