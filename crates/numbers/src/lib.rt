@@ -404,6 +404,7 @@ impl Cursor {
             };
         }
         long_v64(s, at)
+    }
 
     // A number of any such width. Eight bytes are asked for by themselves: then their number is known, and they are read at once.
     pub fn fixed(self, s: &[u8], width: usize) -> Number
