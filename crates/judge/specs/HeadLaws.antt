@@ -17,7 +17,7 @@ use Rattle.numbers.specs.declared.Number.{Number}
 use Rattle.numbers.specs.declared.Number.the-variants.{Got, No}
 use Rattle.numbers.specs.declared.Cursor.{Cursor}
 use Rattle.numbers.specs.declared.Refusal.{Refusal}
-use Rattle.table.specs.View.{view, said, maybe, Holds}
+use Rattle.table.specs.View.{view, maybe, Holds}
 use Rattle.words.specs.Answers.{option}
 use Rattle.words.specs.declared.read.Place.{Place}
 use Rattle.words.specs.declared.read.Maybe.{Maybe}

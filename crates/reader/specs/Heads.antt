@@ -19,7 +19,7 @@ use Rattle.table.specs.Adds.{addType}
 use Rattle.table.specs.Asks.{found}
 use Rattle.table.specs.declared.names.Found.{Found}
 use Rattle.table.specs.declared.names.Found.the-variants.{At, Nothing}
-use Rattle.reader.specs.Sound.{Sound, Open}
+use Rattle.reader.specs.Sound.{Open}
 use Rattle.reader.specs.Ruled.{Judged}
 use Rattle.reader.specs.declared.heads.Name.{Name}
 use Rattle.reader.specs.declared.heads.Named.{Named}

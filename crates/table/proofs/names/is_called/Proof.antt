@@ -1,7 +1,6 @@
 -- `table::names::is_called` meets its contract. Assumes nothing.
 use borrow.Author.Tests.{eq-eqb, ne-eqb}
 use Rattle.paper.specs.Ledger.{called?, owns?}
-use borrow.Author.Needs.{needs}
 use Rattle.table.proofs.names.is_called.Statement.{statement}
 use Rattle.table.proofs.names.is_called.Tie as tie
 

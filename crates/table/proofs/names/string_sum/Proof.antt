@@ -1,5 +1,5 @@
 -- `table::names::string_sum` meets its contract. Assumes nothing.
-use mathlib.Core.Path.{_≡_, sym, ap, _∙_}
+use mathlib.Core.Path.{sym, ap, _∙_}
 use native.Mathlib.Omega.{arith}
 use Rattle.table.specs.View.{sumOf}
 use Rattle.table.specs.NameLaws.{part-of}
