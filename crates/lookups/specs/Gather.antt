@@ -6,16 +6,15 @@ use mathlib.Core.List.{List, [], _∷_, _++_}
 use Prim.Native.Nat.{ℕ, zero, suc, _+_, _-_, _≤_, _<_}
 use native.Mathlib.Numerals.{add-one}
 use native.Mathlib.Omega.{arith}
-use native.Mathlib.Nat.{lt-of-not-le}
-use native.Mathlib.Decide.{decLe}
 use lib.Dec.{leb}
 use lib.ListN.{length, getD, take, drop, set, length-set, length-take, length-drop}
 use lib.Seq.{length-take-le, take-suc-set, take-set-le, drop-set-add, drop-cons, set-getD}
-use borrow.Author.Tests.{eq-eqb, ne-eqb, le-leb, lt-leb}
+use borrow.Author.Tests.{eq-eqb, ne-eqb}
 use Rattle.paper.specs.Reader.{if_then_else_}
 use Rattle.paper.specs.Lists.{any, total}
 use Rattle.paper.specs.Ledger.{Range, of?, holds?}
 use Rattle.table.specs.Answers.{noRange}
+use Rattle.table.specs.ToldLaws.{joined}
 use Rattle.table.specs.Loops.{any-on, any-end, total-on, total-end}
 use Rattle.values.specs.Items.{inRanges}
 use Rattle.lookups.specs.Low.{Low, low-at}
@@ -70,6 +69,23 @@ gathered-front {t} {log} {first₀} {last₀} {first} {last} {k} few G =
       last-long = G .last-long;
       objects-are = λ n. rw all at (G .objects-are n);
     }
+
+-- one range of all objects from 1 on
+pub gathered-whole : (t : ℕ) (log : List Range) (first last : List ℕ) (n : ℕ) → length first ≡ 1024 → length last ≡ 1024 → ((m : ℕ) → any (holds? t m) log ≡ (leb 1 m && leb m n)) → Gathered t log (set first 0 0) (set last 0 n) 1
+unfolding inRanges
+gathered-whole t log [] last n p q lying = absurd (omega arith)
+gathered-whole t log (x ∷ first) [] n p q lying = absurd (omega arith)
+gathered-whole t log (x ∷ first) (y ∷ last) n p q lying =
+    record {
+      few = omega arith;
+      first-long = p;
+      last-long = q;
+      objects-are = λ m. or-none (leb 1 m && leb m n) ∙ sym (lying m);
+    }
+  where
+    or-none : (b : Bool) → (b || false) ≡ b
+    or-none true = refl
+    or-none false = refl
 
 -- so many are lent
 module _ {t : ℕ} {log : List Range} {first last : List ℕ} {k : ℕ} (G : Gathered t log first last k) where
@@ -146,18 +162,6 @@ pub record RangeAdded (from k begin end : ℕ) (first₀ last₀ first last : Li
   pub begins : from ≤ k′
   pub count : k′ ≤ k + 1
   pub objects-are : (n : ℕ) → inRanges (between from k′ first) (between from k′ last) n ≡ (inRanges (between from k first₀) (between from k last₀) n || (leb (begin + 1) n && leb n end))
-
--- the objects up to b and those behind it are all of them
-joined : (a b d n : ℕ) → a ≤ b → b ≤ d → ((leb (a + 1) n && leb n b) || (leb (b + 1) n && leb n d)) ≡ (leb (a + 1) n && leb n d)
-joined a b d n h l =
-    elim (decLe (a + 1) n) [
-      | yes behind ↦ rw (le-leb (a + 1) n behind)
-          (elim (decLe n b) [
-            | yes up ↦ rw (le-leb n b up, le-leb n d (omega arith))
-            | no over ↦ rw (lt-leb n b (lt-of-not-le over), le-leb (b + 1) n (omega (arith, lt-of-not-le over)))
-          ])
-      | no before ↦ rw (lt-leb (a + 1) n (lt-of-not-le before), lt-leb (b + 1) n (omega (arith, lt-of-not-le before)))
-    ]
 
 module _ (from k begin end : ℕ) (first last : List ℕ) (p : length first ≡ 1024) (q : length last ≡ 1024) (begins : from ≤ k) (room : k < 1024) (up : begin ≤ end) where
   same-long : (j : ℕ) → j ≤ 1024 → length (between from j first) ≡ length (between from j last)

@@ -6,6 +6,8 @@ ghost use Rattle.table.specs.View.{logOf, Ok};
 ghost use Rattle.lookups.specs.Low.{Low};
 ghost use Rattle.lookups.specs.Gather.{countOf, RangeAdded, GatheredFrom, Gathered};
 ghost use Rattle.lookups.specs.Group.{AllGrouped};
+use table::ranges::Pool;
+use table::ranges::pool_of;
 use table::rows::range_at;
 use table::rows::ranges;
 
@@ -56,12 +58,21 @@ fn gather_from(work: &[u32], t: u64, first: &mut [u32], last: &mut [u32], from: 
     k
 }
 
-// The ranges of type t at the front of both lists: how many there are. A type that is not declared has none, so t has no bound.
+// The ranges of type t at the front of both lists: how many there are. A type that is not declared has none, so t has no bound. A base
+// type has one, which is known without a walk through the log: references to it cost the same in every week.
 pub fn gather(work: &[u32], t: u64, first: &mut [u32], last: &mut [u32]) -> usize
     requires { ⌜ Ok (now work) × Low 0 (logOf (now work)) ⌝ }
     requires { ⌜ (length (now first) ≡ 1024) × (length (now last) ≡ 1024) ⌝ }
     ensures { λ r. ⌜ Gathered t (logOf (now (work .entry))) (now (first .exit)) (now (last .exit)) r ⌝ }
 {
+    if t < 32 {
+        let pool = pool_of(work, t as u32);
+        if let Pool::Whole(n) = pool {
+            first[0] = 0;
+            last[0] = n;
+            return 1;
+        }
+    }
     gather_from(work, t, first, last, 0)
 }
 

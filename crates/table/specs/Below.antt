@@ -1,6 +1,6 @@
 -- Super types by the numbers that stand for them, 0 for none and u + 1 for u. Assumes nothing.
 use mathlib.Core.Path.{_≡_, refl, sym, ap, _∙_}
-use mathlib.Core.Bool.{Bool, true, false, not}
+use mathlib.Core.Bool.{Bool, true, false, not, true≢false}
 use mathlib.Core.List.{List}
 use mathlib.Core.Option.{Option, none, some}
 use Prim.Native.Nat.{ℕ, zero, suc, _+_, _-_, _<_}
@@ -70,3 +70,8 @@ module _ (ts : List Typ) (t : ℕ) where
   pub chain-over : (n a : ℕ) → n ≡ 0 → eqb a 0 ≡ chainEnds? n ts t (maybe a)
   unfolding chainEnds?
   chain-over n a e = rw e (none-above a)
+
+pub no-super : (s : ℕ) {o : Option ℕ} → maybe s ≡ o → given? o ≡ false → s ≡ 0
+unfolding given?
+no-super zero is h = refl
+no-super (suc u) is h = let z : _≡_ {A = Bool} true false = ap given? is ∙ h in absurd (true≢false z)

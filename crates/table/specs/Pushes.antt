@@ -22,7 +22,7 @@ use Rattle.table.specs.ViewLaws.{ok-after, others, count-types}
 use Rattle.table.specs.Told.{Told, Owned}
 use Rattle.table.specs.ToldLaws.{one-yes, one-no, Below, Counted, told-type, told-range, told-cong}
 use Rattle.table.specs.OwnedLaws.{Grown, owned-cong, owned-more}
-use Rattle.table.specs.Below.{is-base, not-below}
+use Rattle.table.specs.Below.{is-base, not-below, no-super}
 use Rattle.table.specs.Answers.{typIn, fieldIn, rangeIn, Small}
 use Rattle.table.specs.Packed.{typeCells, fieldCells, rangeCells, field-cells, range-cells}
 use Rattle.table.specs.declared.rows.TypeRow.{TypeRow}
@@ -227,12 +227,13 @@ module _ (r : FieldRow) {l m l′ : List ℕ} (ok : Ok l) (room : getD l 2 0 < 1
 -- ── a range more: the row, and then the tallies ──
 
 -- the tallies are told, and the range is of a known type that has none in its block or in a later one
-pub record Regular (r : RangeRow) (l : List ℕ) : Type 0 where
+pub record Regular (r : RangeRow) (up : ℕ) (l : List ℕ) : Type 0 where
   pub told : getD l 7 0 ≡ 1
   pub known : r .typ < getD l 1 0
   pub later : getD l (16048 + 8 * r .typ + 2) 0 ≤ r .block
   pub sum-few : getD l (16048 + 8 * r .typ + 1) 0 ≤ 4294901760
   pub all-few : getD l 16304 0 ≤ 4294901760
+  pub lies : up ≡ 0 → r .first ≡ getD l (16048 + 8 * r .typ + 1) 0
 
 -- only a base type's objects count in all
 abbrev pub share : ℕ → ℕ → ℕ
@@ -253,7 +254,7 @@ pub record Aboved (up b x : ℕ) (l l′ : List ℕ) : Type 0 where
   pub none : (0 < up → up ≤ 32 → ⊥) → l′ ≡ l
 
 pub record Retold (r : RangeRow) (up n : ℕ) (l l′ : List ℕ) : Type 0 where
-  pub regular : Regular r l
+  pub regular : Regular r up l
   pub mid : List ℕ
   pub mid-is : mid ≡ set (sets l (16048 + 8 * r .typ + 1) ((getD l (16048 + 8 * r .typ + 1) 0 + r .count) ∷ (r .block + 1) ∷ getD l (16048 + 8 * r .typ + 1) 0 ∷ n ∷ [])) 16304 (getD l 16304 0 + share up (r .count))
   pub above : Aboved up (r .block) (r .start + r .count) mid l′
@@ -278,7 +279,7 @@ pub share-none : (up n : ℕ) → (up ≡ 0 → ⊥) → 0 ≡ share up n
 share-none zero n ne = absurd (ne refl)
 share-none (suc u) n ne = refl
 
-tallied-with : (r : RangeRow) (up n : ℕ) {l m l′ : List ℕ} → r .typ < 32 → Regular r l → m ≡ sets l (16048 + 8 * r .typ + 1) ((getD l (16048 + 8 * r .typ + 1) 0 + r .count) ∷ (r .block + 1) ∷ getD l (16048 + 8 * r .typ + 1) 0 ∷ n ∷ []) → Aboved up (r .block) (r .start + r .count) (set m 16304 (getD l 16304 0 + share up (r .count))) l′ → Tallied r up n l l′
+tallied-with : (r : RangeRow) (up n : ℕ) {l m l′ : List ℕ} → r .typ < 32 → Regular r up l → m ≡ sets l (16048 + 8 * r .typ + 1) ((getD l (16048 + 8 * r .typ + 1) 0 + r .count) ∷ (r .block + 1) ∷ getD l (16048 + 8 * r .typ + 1) 0 ∷ n ∷ []) → Aboved up (r .block) (r .start + r .count) (set m 16304 (getD l 16304 0 + share up (r .count))) l′ → Tallied r up n l l′
 tallied-with r up n {l} {m} {l′} few regular is above =
     let vs : List ℕ = (getD l (16048 + 8 * r .typ + 1) 0 + r .count) ∷ (r .block + 1) ∷ getD l (16048 + 8 * r .typ + 1) 0 ∷ n ∷ [] in
     let v = getD l 16304 0 + share up (r .count) in
@@ -288,7 +289,7 @@ tallied-with r up n {l} {m} {l′} few regular is above =
       retold = λ on. record { regular = regular; mid = set m 16304 v; mid-is = ap (λ (t : List ℕ). set t 16304 v) is; above = above };
     }
 
-pub tallied-on : (r : RangeRow) (up n : ℕ) {l m l′ : List ℕ} {s : ℕ} → s ≡ share up (r .count) → r .typ < 32 → Regular r l → m ≡ sets l (16048 + 8 * r .typ + 1) ((getD l (16048 + 8 * r .typ + 1) 0 + r .count) ∷ (r .block + 1) ∷ getD l (16048 + 8 * r .typ + 1) 0 ∷ n ∷ []) → Aboved up (r .block) (r .start + r .count) (set m 16304 (getD l 16304 0 + s)) l′ → Tallied r up n l l′
+pub tallied-on : (r : RangeRow) (up n : ℕ) {l m l′ : List ℕ} {s : ℕ} → s ≡ share up (r .count) → r .typ < 32 → Regular r up l → m ≡ sets l (16048 + 8 * r .typ + 1) ((getD l (16048 + 8 * r .typ + 1) 0 + r .count) ∷ (r .block + 1) ∷ getD l (16048 + 8 * r .typ + 1) 0 ∷ n ∷ []) → Aboved up (r .block) (r .start + r .count) (set m 16304 (getD l 16304 0 + s)) l′ → Tallied r up n l l′
 tallied-on r up n {l} {m} {l′} {s} share-is few regular is above =
     tallied-with r up n few regular is (subst (λ (k : ℕ). Aboved up (r .block) (r .start + r .count) (set m 16304 (getD l 16304 0 + k)) l′) share-is above)
 
@@ -409,6 +410,7 @@ module _ {r : RangeRow} {up n : ℕ} {l l′ : List ℕ} (R : Retold r up n l l�
         others = λ t lt ne k small. low-kept t k (omega arith) ∙ mid-other (16048 + 8 * t + k) (λ e. omega arith) (λ p. ⊎-elim (λ (a : t < r .typ). omega arith) (λ (b : r .typ ≤ t). ⊎-elim (λ (e : r .typ ≡ t). absurd (ne (sym e))) (λ (c : r .typ < t). omega arith) (eq-or-lt-of-le b)) (lt-or-ge t (r .typ)));
         bases = low-kept 32 0 (omega arith) ∙ all-stored ∙ ap (λ (k : ℕ). getD l 16304 0 + k) (one-share up is);
         below = below-of;
+        lies = λ base. R .regular .lies (no-super up is base);
       }
     where
       all-stored : getD (R .mid) 16304 0 ≡ getD l 16304 0 + share up (r .count)

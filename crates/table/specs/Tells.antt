@@ -1,18 +1,20 @@
 -- What a table's tallies tell. Assumes nothing.
 use Prim.Native.Nat.{ℕ, _-_, _≤_, _<_}
 use mathlib.Core.Path.{_≡_, refl, sym, ap, _∙_}
-use mathlib.Core.Bool.{Bool, true, false}
+use mathlib.Core.Bool.{Bool, true, false, _&&_}
+use lib.Dec.{leb}
 use mathlib.Core.List.{List, []}
 use native.Mathlib.Omega.{arith}
 use lib.ListN.{getD}
-use Rattle.paper.specs.Lists.{any, all, total}
-use Rattle.paper.specs.Ledger.{of?, before?, size, owns?, Range}
+use Rattle.paper.specs.Lists.{any, all, total, given?}
+use Rattle.paper.specs.Ledger.{of?, before?, holds?, size, owns?, typeIn, Range}
 use Rattle.paper.specs.Rules.{entryOf?, clear?}
-use Rattle.table.specs.View.{typesOf, fldsOf, logOf, tally, Ok}
+use Rattle.table.specs.View.{maybe, typesOf, fldsOf, logOf, tally, Ok}
 use Rattle.table.specs.Told.{upTo?}
 use Rattle.table.specs.ToldLaws.{all-weak, none-of, total-same, total-none, still-up, no-entry, all-before, clear-more}
 use Rattle.table.specs.OwnedLaws.{none-before, none-behind, none-past}
 use Rattle.table.specs.Answers.{Stretched}
+use Rattle.table.specs.declared.ranges.Pool.the-variants.{Whole, Parts}
 use native.Mathlib.Nat.{le-refl}
 use Prim.Native.Nat.{zero-le}
 
@@ -45,6 +47,17 @@ module _ {l : List ℕ} (ok : Ok l) (on : getD l 7 0 ≡ 1) (t : ℕ) (lt : t < 
   stretch-told a-is b-is =
       let O = ok .owning on in
       rw (a-is, b-is) (record { forward = O .begins t lt; inside = O .ends t lt; before = none-before O t lt; behind = none-behind O t lt })
+
+  -- of a base type
+  pub pool-told : {up : ℕ} → maybe up ≡ typeIn (typesOf l) t .super → up ≡ 0 → {x : ℕ} → x ≡ tally l t 1 → (n : ℕ) → Whole x ≡ Whole n → (m : ℕ) → any (holds? t m) (logOf l) ≡ (leb 1 m && leb m n)
+  unfolding given?
+  pool-told {up} above none-above {x} is n same m =
+      let base : given? (typeIn (typesOf l) t .super) ≡ false = ap given? (sym above) ∙ ap (λ (k : ℕ). given? (maybe k)) none-above in
+      let count : x ≡ n = cc in
+      ok .telling on .lying t lt base m ∙ ap (λ (k : ℕ). leb 1 m && leb m k) (sym is ∙ count)
+
+pub pool-untold : (t : ℕ) (log : List Range) (n : ℕ) → Parts ≡ Whole n → (m : ℕ) → any (holds? t m) log ≡ (leb 1 m && leb m n)
+pool-untold t log n clash m = let z : _≡_ {A = ℕ} 0 1 = cc in absurd (omega arith)
 
 -- all fields
 pub stretch-all : {l : List ℕ} (t : ℕ) → Ok l → {n : ℕ} → n ≡ getD l 2 0 → Stretched t (fldsOf l) (record { from = 0; to = n })

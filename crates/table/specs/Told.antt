@@ -1,12 +1,12 @@
 -- What the tallies say of the log of ranges, and of the fields. Assumes nothing.
 use Prim.Native.Nat.{ℕ, _+_, _-_, _≤_, _<_}
-use mathlib.Core.Bool.{Bool, true, false, not, _||_}
+use mathlib.Core.Bool.{Bool, true, false, not, _&&_, _||_}
 use mathlib.Core.List.{List}
 use mathlib.Core.Path.{_≡_}
-use lib.Dec.{ltb}
+use lib.Dec.{ltb, leb}
 use lib.ListN.{length, getD}
-use Rattle.paper.specs.Lists.{all, total}
-use Rattle.paper.specs.Ledger.{Typ, Range, Field, noField, owns?, of?, before?, base?, size}
+use Rattle.paper.specs.Lists.{any, all, total, given?}
+use Rattle.paper.specs.Ledger.{Typ, Range, Field, noField, owns?, typeIn, of?, before?, base?, holds?, size}
 use Rattle.paper.specs.Rules.{clear?}
 
 -- a range of one of the first n types
@@ -32,6 +32,8 @@ pub record Told (tally : ℕ → ℕ → ℕ) (ts : List Typ) (log : List Range)
   pub bases : tally 32 0 ≡ total (base? ts) size log
   pub beyond : (u : ℕ) → u < 32 → (b : ℕ) → tally u 5 ≤ b → all (clear? b ts u 0) log ≡ true
   pub ended : (u : ℕ) → u < 32 → all (clear? (tally u 5 - 1) ts u (tally u 6)) log ≡ true
+  -- the objects of a base type are those from 1 on
+  pub lying : (t : ℕ) → t < 32 → given? (typeIn ts t .super) ≡ false → (n : ℕ) → any (holds? t n) log ≡ (leb 1 n && leb n (tally t 1))
 
 -- further tallies of type t, of its fields:
 --   0  no field before this place is its own

@@ -5,16 +5,17 @@ use mathlib.Core.Bool.{Bool, true, false, not, _&&_, _||_}
 use mathlib.Core.List.{List, [], _∷_, _++_}
 use mathlib.Core.Option.{Option, none, some}
 use Prim.Native.Nat.{ℕ, zero, suc, _+_, _-_, _≤_, _<_}
-use native.Mathlib.Nat.{eq-or-lt-of-le, not-suc-le-zero, le-of-suc-le-suc}
+use native.Mathlib.Nat.{eq-or-lt-of-le, not-suc-le-zero, le-of-suc-le-suc, lt-of-not-le}
+use native.Mathlib.Decide.{decLe}
 use native.Mathlib.Omega.{arith}
-use borrow.Author.Tests.{ltb-true, lt-ltb, le-ltb, leb-true, le-leb, eqb-true, eq-eqb, ne-eqb}
+use borrow.Author.Tests.{ltb-true, lt-ltb, le-ltb, leb-true, le-leb, lt-leb, eqb-true, eq-eqb, ne-eqb}
 use lib.Dec.{ltb, leb, eqb}
-use lib.ListN.{length, getD, length-append, List·getD-append}
+use lib.ListN.{length, getD, length-append, List·getD-append, List·getD-eq-default}
 use Rattle.paper.specs.Reader.{if_then_else_}
 use Rattle.paper.specs.Lists.{any, all, total, given?}
-use Rattle.paper.specs.Ledger.{Typ, Range, noType, typeIn, of?, here?, before?, base?, size}
+use Rattle.paper.specs.Ledger.{Typ, Range, noType, typeIn, of?, here?, before?, base?, holds?, size}
 use Rattle.paper.specs.Rules.{entryOf?, below?, clear?}
-use Rattle.table.specs.RowLaws.{same-or-not}
+use Rattle.table.specs.RowLaws.{lt-or-ge, same-or-not}
 use Rattle.table.specs.Told.{declared?, upTo?, Told}
 
 not-so : {X : Type 0} → false ≡ true → X
@@ -129,6 +130,42 @@ any-at p (y ∷ ys) (suc i) d lt is e = rw (any-at p ys i d (le-of-suc-le-suc lt
     or-yes true = refl
     or-yes false = refl
 
+-- ── objects from 1 on ──
+
+-- those up to b and those behind it are all of them
+pub joined : (a b d n : ℕ) → a ≤ b → b ≤ d → ((leb (a + 1) n && leb n b) || (leb (b + 1) n && leb n d)) ≡ (leb (a + 1) n && leb n d)
+joined a b d n h l =
+    elim (decLe (a + 1) n) [
+      | yes behind ↦ rw (le-leb (a + 1) n behind)
+          (elim (decLe n b) [
+            | yes up ↦ rw (le-leb n b up, le-leb n d (omega arith))
+            | no over ↦ rw (lt-leb n b (lt-of-not-le over), le-leb (b + 1) n (omega (arith, lt-of-not-le over)))
+          ])
+      | no before ↦ rw (lt-leb (a + 1) n (lt-of-not-le before), lt-leb (b + 1) n (omega (arith, lt-of-not-le before)))
+    ]
+
+-- of no object
+none-lie : (n : ℕ) → (leb 1 n && leb n 0) ≡ false
+none-lie zero = refl
+none-lie (suc n) = rw (lt-leb (suc n) 0 (omega arith)) (and-no (leb 1 (suc n)))
+  where
+    and-no : (a : Bool) → (a && false) ≡ false
+    and-no true = refl
+    and-no false = refl
+
+any-more : {A : Type 0} (p : A → Bool) (xs : List A) (x : A) → any p (xs ++ x ∷ []) ≡ (any p xs || p x)
+unfolding any
+any-more p [] x = or-no (p x)
+  where
+    or-no : (a : Bool) → (a || false) ≡ a
+    or-no true = refl
+    or-no false = refl
+any-more p (y ∷ xs) x = ap (λ (b : Bool). p y || b) (any-more p xs x) ∙ or-turn (p y) (any p xs) (p x)
+  where
+    or-turn : (a b c : Bool) → (a || (b || c)) ≡ ((a || b) || c)
+    or-turn true b c = refl
+    or-turn false b c = refl
+
 -- ── a new type ──
 
 module _ (ts : List Typ) (x : Typ) where
@@ -148,6 +185,15 @@ module _ (ts : List Typ) (x : Typ) where
   unfolding declared?
   declared-more r h = lt-ltb (r .type) (length (ts ++ x ∷ [])) (omega (arith, ltb-true (r .type) (length ts) h, length-append ts (x ∷ [])))
 
+  -- a type that was there has the super type that it had; one that was not, and none
+  super-same : (t : ℕ) → given? (typeIn (ts ++ x ∷ []) t .super) ≡ false → given? (typeIn ts t .super) ≡ false
+  unfolding typeIn given? noType
+  super-same t h =
+      ⊎-elim
+      (λ (lt : t < length ts). ap (λ (y : Typ). given? (y .super)) (sym (List·getD-append ts (x ∷ []) noType t lt)) ∙ h)
+      (λ (le : length ts ≤ t). ap (λ (y : Typ). given? (y .super)) (List·getD-eq-default ts noType le))
+      (lt-or-ge t (length ts))
+
   pub told-type : {tally : ℕ → ℕ → ℕ} {log : List Range} → Told tally ts log → Told tally (ts ++ x ∷ []) log
   told-type {tally} {log} T =
       record {
@@ -158,6 +204,7 @@ module _ (ts : List Typ) (x : Typ) where
         bases = T .bases ∙ total-same (declared? (length ts)) (base? ts) (base? (ts ++ x ∷ [])) size base-same log (T .known);
         beyond = λ u lt b le. sym (all-same (declared? (length ts)) (clear? b ts u 0) (clear? b (ts ++ x ∷ []) u 0) (clear-same b u 0) log (T .known)) ∙ T .beyond u lt b le;
         ended = λ u lt. sym (all-same (declared? (length ts)) (clear? (tally u 5 - 1) ts u (tally u 6)) (clear? (tally u 5 - 1) (ts ++ x ∷ []) u (tally u 6)) (clear-same (tally u 5 - 1) u (tally u 6)) log (T .known)) ∙ T .ended u lt;
+        lying = λ t lt base n. T .lying t lt (super-same t base) n;
       }
 
 -- ── a range more ──
@@ -178,6 +225,7 @@ pub record Counted (tally tally′ : ℕ → ℕ → ℕ) (ts : List Typ) (r : R
   pub others : (t : ℕ) → t < 32 → t ≢ r .type → (k : ℕ) → k < 4 → tally′ t k ≡ tally t k
   pub bases : tally′ 32 0 ≡ tally 32 0 + total (base? ts) size (r ∷ [])
   pub below : (u : ℕ) → u < 32 → Below ts r u (tally u 5) (tally u 6) (tally′ u 5) (tally′ u 6)
+  pub lies : given? (typeIn ts (r .type) .super) ≡ false → r .first ≡ tally (r .type) 1
 
 module _ {tally tally′ : ℕ → ℕ → ℕ} {ts : List Typ} {log : List Range} (T : Told tally ts log) (r : Range) (C : Counted tally tally′ ts r) where
   yes : (p : Range → Bool) → p r ≡ true → total p size (log ++ r ∷ []) ≡ total p size log + r .count
@@ -305,6 +353,24 @@ module _ {tally tally′ : ℕ → ℕ → ℕ} {ts : List Typ} {log : List Rang
   unfolding declared?
   declared-now = lt-ltb (r .type) (length ts) (C .known)
 
+  lying-kept : (t : ℕ) → t < 32 → given? (typeIn ts t .super) ≡ false → (n : ℕ) → any (holds? t n) (log ++ r ∷ []) ≡ (leb 1 n && leb n (tally′ t 1))
+  unfolding holds? of?
+  lying-kept t lt base n =
+      any-more (holds? t n) log r
+      ∙ ⊎-elim
+      (λ (e : t ≡ r .type).
+      let here : r .first ≡ tally t 1 = rw e (C .lies (rw e at base)) in
+      let sum : tally′ t 1 ≡ r .first + r .count = rw e (C .sum ∙ ap (λ (k : ℕ). k + r .count) (sym (C .lies (rw e at base)))) in
+      ap (λ (b : Bool). b || holds? t n r) (T .lying t lt base n)
+      ∙ rw (eq-eqb (r .type) t (sym e), ← here, sum) (joined 0 (r .first) (r .first + r .count) n (omega arith) (omega arith)))
+      (λ (ne : t ≢ r .type).
+      rw (ne-eqb (r .type) t (λ q. ne (sym q)), C .others t lt ne 1 (omega arith)) (or-no (any (holds? t n) log) ∙ T .lying t lt base n))
+      (same-or-not t (r .type))
+    where
+      or-no : (a : Bool) → (a || false) ≡ a
+      or-no true = refl
+      or-no false = refl
+
   pub told-range : Told tally′ ts (log ++ r ∷ [])
   told-range =
       record {
@@ -315,6 +381,7 @@ module _ {tally tally′ : ℕ → ℕ → ℕ} {ts : List Typ} {log : List Rang
         bases = C .bases ∙ ap (λ (k : ℕ). k + total (base? ts) size (r ∷ [])) (T .bases) ∙ sym (total-more (base? ts) size log r);
         beyond = beyond-kept;
         ended = ended-kept;
+        lying = lying-kept;
       }
 
 -- the same tallies 1 to 6, and the same sum of all
@@ -328,11 +395,12 @@ told-cong {tally} {tally′} {ts} {log} same same-all T =
       bases = same-all ∙ T .bases;
       beyond = λ u lt b le. T .beyond u lt b (omega (arith, same u 5 lt (omega arith) (omega arith)));
       ended = λ u lt. ap₂ (λ (a b : ℕ). all (clear? (a - 1) ts u b) log) (same u 5 lt (omega arith) (omega arith)) (same u 6 lt (omega arith) (omega arith)) ∙ T .ended u lt;
+      lying = λ t lt base n. T .lying t lt base n ∙ ap (λ (k : ℕ). leb 1 n && leb n k) (sym (same t 1 lt (omega arith) (omega arith)));
     }
 
 -- nothing is known yet, and every tally is 0
 pub told-none : {tally : ℕ → ℕ → ℕ} → ((t k : ℕ) → t < 32 → k < 8 → tally t k ≡ 0) → tally 32 0 ≡ 0 → Told tally [] []
-unfolding all total
+unfolding any all total
 told-none zeros zero-all =
     record {
       known = refl;
@@ -342,4 +410,5 @@ told-none zeros zero-all =
       bases = zero-all;
       beyond = λ u lt b le. refl;
       ended = λ u lt. refl;
+      lying = λ t lt base n. sym (ap (λ (k : ℕ). leb 1 n && leb n k) (zeros t 1 lt (omega arith)) ∙ none-lie n);
     }

@@ -102,11 +102,12 @@ pub fn push_field(work: &mut [u32], d: FieldRow)
     tally_field(work, d.owner, n);
 }
 
-// The tallies are told, and the range is one of a known type that has none in its block or in a later one.
-fn regular(work: &[u32], r: RangeRow) -> bool
+// The tallies are told, and the range is one of a known type that has none in its block or in a later one. Where the type has no
+// super type, its objects go on from those before.
+fn regular(work: &[u32], r: RangeRow, up: u32) -> bool
     requires { ⌜ length (now work) ≡ 16384 ⌝ }
     requires { ⌜ r .typ < 32 ⌝ }
-    ensures { λ x. ⌜ (x ≡ true → Regular r (now (work .entry))) ⌝ }
+    ensures { λ x. ⌜ (x ≡ true → Regular r up (now (work .entry))) ⌝ }
 {
     if work[7] != 1 {
         return false;
@@ -121,7 +122,13 @@ fn regular(work: &[u32], r: RangeRow) -> bool
     if 4294901760 < work[at + 1] {
         return false;
     }
-    work[16304] <= 4294901760
+    if 4294901760 < work[16304] {
+        return false;
+    }
+    if up != 0 {
+        return true;
+    }
+    r.first == work[at + 1]
 }
 
 fn share_of(up: u32, n: u32) -> u32
@@ -168,7 +175,7 @@ fn tally_range(work: &mut [u32], r: RangeRow, up: u32, n: u32)
     requires { ⌜ Small r ⌝ }
     ensures { λ _. ⌜ Tallied r up n (now (work .entry)) (now (work .exit)) ⌝ }
 {
-    if !regular(work, r) {
+    if !regular(work, r, up) {
         work[7] = 0;
         return;
     }

@@ -1,9 +1,10 @@
 // Questions to the ranges: one walk for "is there one", one for "how many objects", and `Ask` says of which ranges.
 ghost use mathlib.Core.Path.{_≡_};
 ghost use mathlib.Core.List.{[], _∷_};
-ghost use mathlib.Core.Bool.{true};
+ghost use mathlib.Core.Bool.{true, _&&_};
+ghost use lib.Dec.{leb};
 ghost use lib.ListN.{getD};
-ghost use Prim.Native.Nat.{_-_, _<_, _≤_};
+ghost use Prim.Native.Nat.{ℕ, _-_, _<_, _≤_};
 ghost use Rattle.paper.specs.Lists.{any, all, total};
 ghost use Rattle.paper.specs.Ledger.{of?, size, before?, base?, holds?};
 ghost use Rattle.paper.specs.Rules.{entryOf?, around?, clear?};
@@ -148,6 +149,26 @@ pub fn tally_at(work: &[u32], t: u32, k: u32) -> u32
 {
     let at = 16048 + 8 * (t as usize) + (k as usize);
     work[at]
+}
+
+// What is known of the objects of a type: that they are those from 1 up to a number, or that they may lie in several ranges.
+pub enum Pool {
+    Whole(u32),
+    Parts,
+}
+
+// The objects of a base type are those from 1 on. No range is looked at.
+pub fn pool_of(work: &[u32], t: u32) -> Pool
+    requires { ⌜ Ok (now work) ⌝ }
+    ensures { λ r. ⌜ ((n : ℕ) → r ≡ Pool.Whole n → (m : ℕ) → any (holds? t m) (logOf (now (work .entry))) ≡ (leb 1 m && leb m n)) ⌝ }
+{
+    if !told(work, t) {
+        return Pool::Parts;
+    }
+    if super_of(work, t) != 0 {
+        return Pool::Parts;
+    }
+    Pool::Whole(tally_at(work, t, 1))
 }
 
 // It is known that no block from b on has a range of type t.

@@ -1,6 +1,7 @@
 -- `table::pushes::regular` meets its contract. Assumes nothing.
+use native.Mathlib.Omega.{arith}
 use mathlib.Core.Bool.{false≢true}
-use borrow.Author.Tests.{not-true, not-false, ltb-true, leb-true}
+use borrow.Author.Tests.{eqb-true}
 use borrow.Author.Needs.{needs}
 use Rattle.table.proofs.pushes.regular.Statement.{statement}
 use Rattle.table.proofs.pushes.regular.Tie as tie
@@ -25,4 +26,9 @@ regular-spec =
     (λ c. search needs)
     (λ c. λ e. absurd (false≢true e))
     (λ c. search needs)
-    (λ c. λ e. record { told = c .before .before .before .before .before .before .before .before .before .before .if1 .left; known = c .before .before .before .before .before .before .before .if2 .left; later = c .before .before .before .if3 .left; sum-few = c .before .if4 .left; all-few = leb-true _ _ e }))
+    (λ c. λ e. absurd (false≢true e))
+    (λ c. λ e. record { told = c .before .before .before .before .before .before .before .before .before .before .before .before .if1 .left; known = c .before .before .before .before .before .before .before .before .before .if2 .left; later = c .before .before .before .before .before .if3 .left; sum-few = c .before .before .before .if4 .left; all-few = c .before .if5 .left; lies = λ none-above. absurd (c .if6 .taken none-above) })
+    (λ c. search needs)
+    (λ c. search needs)
+    (λ c. search needs)
+    (λ c. λ e. record { told = c .before .before .before .before .before .before .before .before .before .before .before .before .before .before .if1 .left; known = c .before .before .before .before .before .before .before .before .before .before .before .if2 .left; later = c .before .before .before .before .before .before .before .if3 .left; sum-few = c .before .before .before .before .before .if4 .left; all-few = c .before .before .before .if5 .left; lies = λ none-above. eqb-true _ _ e }))
