@@ -25,7 +25,7 @@ type Maker = fn(u64) -> Vec<u8>;
 
 /// All files at all sizes, the smallest of each first.
 pub fn files() -> Vec<Case> {
-    let makers: [(&str, Maker); 15] = [
+    let makers: [(&str, Maker); 18] = [
         ("v64 values", v64_values),
         ("v64 values, every number in nine bytes", padded),
         ("mixed kinds", mixed_kinds),
@@ -45,6 +45,12 @@ pub fn files() -> Vec<Case> {
         }),
         ("long field names", long_fields),
         ("small chunks in many pairs", small_chunks),
+        ("types entered by copies of their long names", copied_names),
+        ("references between subtypes in many pairs", subtypes),
+        (
+            "annotations beside many strings in many pairs",
+            few_annotations,
+        ),
     ];
     let mut cases = Vec::new();
     for (label, make) in makers {
@@ -278,11 +284,18 @@ fn alike(count: usize, length: usize, place: Place) -> Vec<Vec<u8>> {
 
 /// Types of these names without objects, each entered in each of some pairs.
 fn entered(names: Vec<Vec<u8>>, pairs: u64) -> Vec<u8> {
-    let numbers = 1..=names.len() as u64;
-    let block = |first: bool| {
-        let entries = numbers.clone().map(|name| EntryDraft {
-            name,
-            super_name: first.then_some(0),
+    entered_by(names, 1, pairs)
+}
+
+/// The same where the names come in so many copies, all names before they
+/// come again, and each pair names the types by the next copy.
+fn entered_by(strings: Vec<Vec<u8>>, copies: u64, pairs: u64) -> Vec<u8> {
+    let types = strings.len() as u64 / copies;
+    let block = |pair: u64| {
+        let before = pair % copies * types;
+        let entries = (1..=types).map(|number| EntryDraft {
+            name: before + number,
+            super_name: (pair == 0).then_some(0),
             start: None,
             count: 0,
             fields: Vec::new(),
@@ -292,10 +305,97 @@ fn entered(names: Vec<Vec<u8>>, pairs: u64) -> Vec<u8> {
             entries: entries.collect(),
         }
     };
-    let mut drafts = vec![block(true)];
-    drafts[0].strings = names;
-    drafts.extend((1..pairs).map(|_| block(false)));
+    let mut drafts: Vec<PairDraft> = (0..pairs).map(block).collect();
+    drafts[0].strings = strings;
     draft::write(&drafts)
+}
+
+/// 32 types without objects, each entered in each of 32 pairs, divided by
+/// `part`, by one copy of its name and by the other in turn. The names fill a
+/// megabyte, and differ in the last byte.
+pub fn copied_names(part: u64) -> Vec<u8> {
+    let names = alike(32, 16_250, Place::Last);
+    entered_by([names.clone(), names].concat(), 2, 32 / part)
+}
+
+/// A base type and 31 types right below it, each entered in each of 32 pairs,
+/// divided by `part`. A subtype has one object a pair, which refers to an
+/// object of the next subtype: no two ranges of a type join, and there is a
+/// chunk to be held to them at nearly every entry.
+pub fn subtypes(part: u64) -> Vec<u8> {
+    let mut random = Random::new(SEED);
+    let mut pairs: Vec<PairDraft> = (0..32 / part)
+        .map(|pair| subtype_pair(&mut random, pair))
+        .collect();
+    let types = (0..32).map(|index| format!("type {index}").into_bytes());
+    pairs[0].strings = types.chain([FIELD.to_vec()]).collect();
+    draft::write(&pairs)
+}
+
+fn subtype_pair(random: &mut Random, pair: u64) -> PairDraft {
+    let base = EntryDraft {
+        name: 1,
+        super_name: (pair == 0).then_some(0),
+        start: None,
+        count: 31,
+        fields: Vec::new(),
+    };
+    let below = (0..31).map(|index| {
+        let next = (index + 1) % 31;
+        let object = 31 * random.between(0, pair) + next + 1;
+        let kind = || kind_bytes(single(Element::Object(1 + next)));
+        EntryDraft {
+            name: 2 + index,
+            super_name: (pair == 0).then_some(1),
+            start: Some(index),
+            count: 1,
+            fields: vec![FieldDraft {
+                new: (pair == 0).then(|| (kind(), 33)),
+                chunk: v64::coded(object),
+            }],
+        }
+    });
+    PairDraft {
+        strings: Vec::new(),
+        entries: [base].into_iter().chain(below).collect(),
+    }
+}
+
+/// 32 types of one field, each entered in each of 32 pairs, divided by `part`,
+/// with one object and so one annotation. Beside the names there are as many
+/// strings as a file can have, as long as a name and no name of a type.
+pub fn few_annotations(part: u64) -> Vec<u8> {
+    let mut random = Random::new(SEED);
+    let mut pairs: Vec<PairDraft> = (1..=32 / part)
+        .map(|pair| annotated_pair(&mut random, pair))
+        .collect();
+    let types = (0..32).map(|index| format!("t{index:03}").into_bytes());
+    let others = (33..1_024).map(|index| format!("{index:04}").into_bytes());
+    pairs[0].strings = types.chain([FIELD.to_vec()]).chain(others).collect();
+    draft::write(&pairs)
+}
+
+/// The pair of this number, from 1, which is also how many objects a type has.
+fn annotated_pair(random: &mut Random, pair: u64) -> PairDraft {
+    let entries = (1..=32).map(|name| {
+        let mut chunk = v64::coded(random.between(1, 32));
+        v64::write(&mut chunk, random.between(1, pair));
+        let kind = || kind_bytes(single(Element::Annotation));
+        EntryDraft {
+            name,
+            super_name: (pair == 1).then_some(0),
+            start: None,
+            count: 1,
+            fields: vec![FieldDraft {
+                new: (pair == 1).then(|| (kind(), 33)),
+                chunk,
+            }],
+        }
+    });
+    PairDraft {
+        strings: Vec::new(),
+        entries: entries.collect(),
+    }
 }
 
 /// 32 types of four fields, each entered in each of 32 pairs, divided by

@@ -139,11 +139,18 @@ fn big_files_are_accepted_and_as_large_as_they_should_be() {
         big::long_types(Place::Last, 1).len(),
         big::long_types(Place::Middle, 1).len(),
         big::long_fields(1).len(),
+        big::copied_names(1).len(),
     ];
     for length in lengths {
         assert!(length > 800_000, "{length}");
     }
     assert_eq!(big::entered_types(1).len(), 3_392);
+    let file = big::subtypes(1);
+    assert_eq!(common::objects(&file, b"type 0"), Ok(32 * 31));
+    assert_eq!(common::objects(&file, b"type 31"), Ok(32));
+    assert!(common::column(&file, b"type 31", big::FIELD, 32).is_ok());
+    let file = big::few_annotations(1);
+    assert_eq!(common::objects(&file, b"t031"), Ok(32));
     let file = big::column(1);
     let values = common::column(&file, big::TYPE, big::FIELD, 11).unwrap();
     assert_eq!(values.len(), 65_535);

@@ -42,7 +42,7 @@ pub struct Task {
 type Maker = fn(u64) -> Vec<u8>;
 
 #[rustfmt::skip]
-const FILES: [(&str, Maker, Grows); 14] = [
+const FILES: [(&str, Maker, Grows); 17] = [
     ("v64 values", big::v64_values, Grows::Bytes),
     ("padded v64", big::padded, Grows::Bytes),
     ("mixed kinds", big::mixed_kinds, Grows::Bytes),
@@ -59,6 +59,9 @@ const FILES: [(&str, Maker, Grows); 14] = [
     ("type names, middle byte", |part| big::long_types(Place::Middle, part), Grows::Entries),
     ("field names, last byte", big::long_fields, Grows::Bytes),
     ("small chunks", big::small_chunks, Grows::Entries),
+    ("names by copies", big::copied_names, Grows::Entries),
+    ("subtypes in many pairs", big::subtypes, Grows::Entries),
+    ("annotations, many pairs", big::few_annotations, Grows::Entries),
 ];
 
 /// The columns that are not of one pair and in shortest coding, and what each is asked for with.
