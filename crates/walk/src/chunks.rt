@@ -16,7 +16,7 @@ ghost use Rattle.values.specs.Chunks.{Kinds};
 ghost use Rattle.lookups.specs.Low.{Low};
 ghost use Rattle.walk.specs.Listed.{Listed};
 ghost use Rattle.lookups.specs.Named.{Noted};
-ghost use Rattle.walk.specs.Steps.{stepOf, Valued, NotedKind, MapsValued};
+ghost use Rattle.walk.specs.Steps.{stepOf, Valued, Ranged, NotedKind, MapsValued};
 use lookups::ranges::gather;
 use lookups::ranges::group;
 use numbers::Cursor;
@@ -29,8 +29,66 @@ use table::rows::FieldRow;
 use table::rows::field_at;
 use table::rows::strings;
 use values::chunks::chunk_values;
+use values::guides::make_guide;
 use values::maps::map_kinds;
 use values::maps::maps;
+
+// n values whose elements refer to objects of these ranges, which are looked for by a guide.
+fn guided_values(
+    part: &[u8],
+    n: u32,
+    kind: FieldRow,
+    strings: u64,
+    first: &[u32],
+    last: &[u32],
+) -> Number
+    requires { ⌜ Kinds (kind .kind) (kind .a) (kind .e) × (4 < kind .kind) × (kind .kind ≡ 20 → ⊥) × (length (now first) ≡ length (now last)) ⌝ }
+    ensures { λ r. ⌜ Ranged n (kind .kind) (kind .a) (kind .e) strings (now (first .entry)) (now (last .entry)) (now (part .entry)) r ⌝ }
+{
+    let mut guide = [0u32; 257];
+    make_guide(last, &mut guide);
+    chunk_values(
+        part,
+        n,
+        kind.kind as u64,
+        kind.a,
+        kind.e,
+        strings,
+        &guide,
+        first,
+        last,
+    )
+}
+
+// The same, for any number of values and ranges. A guide is worth its making only where there are many values to one of several ranges.
+fn ranged_values(
+    part: &[u8],
+    n: u32,
+    kind: FieldRow,
+    strings: u64,
+    first: &[u32],
+    last: &[u32],
+) -> Number
+    requires { ⌜ Kinds (kind .kind) (kind .a) (kind .e) × (4 < kind .kind) × (kind .kind ≡ 20 → ⊥) × (length (now first) ≡ length (now last)) ⌝ }
+    ensures { λ r. ⌜ Ranged n (kind .kind) (kind .a) (kind .e) strings (now (first .entry)) (now (last .entry)) (now (part .entry)) r ⌝ }
+{
+    if 64 < n {
+        if 1 < first.len() {
+            return guided_values(part, n, kind, strings, first, last);
+        }
+    }
+    chunk_values(
+        part,
+        n,
+        kind.kind as u64,
+        kind.a,
+        kind.e,
+        strings,
+        &first[..0],
+        first,
+        last,
+    )
+}
 
 // n values whose elements refer to objects: the ranges of their type are gathered once, and not asked for at each value.
 fn linked_values(part: &[u8], n: u32, kind: FieldRow, work: &[u32]) -> Number
@@ -41,17 +99,7 @@ fn linked_values(part: &[u8], n: u32, kind: FieldRow, work: &[u32]) -> Number
     let mut first = [0u32; Ledger::RANGES as usize];
     let mut last = [0u32; Ledger::RANGES as usize];
     let k = gather(work, kind.e - 32, &mut first, &mut last);
-    chunk_values(
-        part,
-        n,
-        kind.kind as u64,
-        kind.a,
-        kind.e,
-        strings(work) as u64,
-        &work[..0],
-        &first[..k],
-        &last[..k],
-    )
+    ranged_values(part, n, kind, strings(work) as u64, &first[..k], &last[..k])
 }
 
 // n maps of these kinds, whose annotations are held to the pools: the ranges of all types are gathered once.
