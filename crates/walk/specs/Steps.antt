@@ -67,9 +67,9 @@ pub record MapsValued (n : ℕ) (kinds pools l f : List ℕ) (r : Number) : Type
   pub inside : placeOf r ≤ length f
 
 pub maps-valued :
-    {n strings : ℕ} {pools starts first last kinds l f : List ℕ} {r : Number} → strings ≡ stringsIn l → AllGrouped (logOf l) starts first last
+    {n strings : ℕ} {pools starts first last kinds l f : List ℕ} {r : Number} → strings ≡ stringsIn l → AllGrouped kinds l starts first last
     → MapsChecked n strings pools starts first last kinds f r → MapsValued n kinds pools l f r
-maps-valued {n} {strings} {pools} {starts} {first} {last} {kinds} {l} {f} {r} count A C = record { says = λ source H say. C .says (view source l) (map-known H count A pools kinds say); inside = C .inside }
+maps-valued {n} {strings} {pools} {starts} {first} {last} {kinds} {l} {f} {r} count A C = record { says = λ source H say. C .says (view source l) (map-known H count pools kinds A say); inside = C .inside }
 
 -- where the kind with these numbers has annotations, the pools say which of them keep the rule
 pub record NotedKind (pools : List ℕ) (k a e : ℕ) (s : State) : Type 0 where

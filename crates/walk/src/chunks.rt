@@ -19,6 +19,7 @@ ghost use Rattle.lookups.specs.Named.{Noted};
 ghost use Rattle.walk.specs.Steps.{stepOf, Valued, Ranged, NotedKind, MapsValued};
 use lookups::ranges::gather;
 use lookups::ranges::group;
+use lookups::ranges::refers;
 use numbers::Cursor;
 use numbers::Number;
 use numbers::Refusal;
@@ -102,7 +103,7 @@ fn linked_values(part: &[u8], n: u32, kind: FieldRow, work: &[u32]) -> Number
     ranged_values(part, n, kind, strings(work) as u64, &first[..k], &last[..k])
 }
 
-// n maps of these kinds, whose annotations are held to the pools: the ranges of all types are gathered once.
+// n maps of these kinds, whose annotations are held to the pools: the ranges of the types that they name are gathered once.
 fn grouped_values(part: &[u8], n: u32, kinds: &[u64], pools: &[u32], work: &[u32]) -> Number
     requires { ⌜ Ok (now work) × Low 0 (logOf (now work)) ⌝ }
     requires { ⌜ (2 ≤ length (now kinds)) × (all elementKind? (now kinds) ≡ true) ⌝ }
@@ -111,7 +112,7 @@ fn grouped_values(part: &[u8], n: u32, kinds: &[u64], pools: &[u32], work: &[u32
     let mut starts = [0u32; Ledger::TYPES as usize + 1];
     let mut first = [0u32; Ledger::RANGES as usize];
     let mut last = [0u32; Ledger::RANGES as usize];
-    group(work, &mut starts, &mut first, &mut last);
+    group(work, kinds, &mut starts, &mut first, &mut last);
     maps(
         part,
         n,
@@ -124,6 +125,27 @@ fn grouped_values(part: &[u8], n: u32, kinds: &[u64], pools: &[u32], work: &[u32
     )
 }
 
+// The same. Most maps refer to no object, and then nothing is gathered.
+fn mapped_values(part: &[u8], n: u32, kinds: &[u64], pools: &[u32], work: &[u32]) -> Number
+    requires { ⌜ Ok (now work) × Low 0 (logOf (now work)) ⌝ }
+    requires { ⌜ (2 ≤ length (now kinds)) × (all elementKind? (now kinds) ≡ true) ⌝ }
+    ensures { λ r. ⌜ MapsValued n (now (kinds .entry)) (now (pools .entry)) (now (work .entry)) (now (part .entry)) r ⌝ }
+{
+    if refers(kinds) {
+        return grouped_values(part, n, kinds, pools, work);
+    }
+    maps(
+        part,
+        n,
+        kinds,
+        strings(work) as u64,
+        pools,
+        &work[..0],
+        &work[..0],
+        &work[..0],
+    )
+}
+
 // n maps: their kinds stand in the row, a byte each.
 fn map_values(part: &[u8], n: u32, kind: FieldRow, pools: &[u32], work: &[u32]) -> Number
     requires { ⌜ Ok (now work) × Low 0 (logOf (now work)) ⌝ }
@@ -132,7 +154,7 @@ fn map_values(part: &[u8], n: u32, kind: FieldRow, pools: &[u32], work: &[u32]) 
 {
     let mut kinds = [0u64; 8];
     let k = map_kinds(kind.a, kind.e, &mut kinds);
-    grouped_values(part, n, &kinds[..k], pools, work)
+    mapped_values(part, n, &kinds[..k], pools, work)
 }
 
 // n values of any kind: the pools say which annotations keep the rule.
