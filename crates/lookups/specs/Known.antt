@@ -7,16 +7,29 @@ use native.Mathlib.Omega.{arith}
 use lib.Dec.{eqb}
 use lib.ListN.{length, take}
 use borrow.Author.Tests.{eq-eqb}
-use Rattle.paper.specs.Lists.{all}
+use Rattle.paper.specs.Lists.{any, all}
 use Rattle.paper.specs.Ledger.{State, object?, holds?}
 use Rattle.paper.specs.Rules.{annotation?}
 use Rattle.table.specs.View.{logOf, view, Holds, stringsIn}
 use Rattle.values.specs.Annotations.{placed?}
-use Rattle.values.specs.Items.{Known}
+use Rattle.values.specs.Items.{inRanges, Known}
+use Rattle.values.specs.Spans.{ranges}
 use Rattle.values.specs.MapChunks.{AllKnown}
 use Rattle.lookups.specs.Gather.{Gathered}
-use Rattle.lookups.specs.Group.{AllGrouped, ranges-are}
+use Rattle.lookups.specs.Group.{asked?, asked-first, asked-later, AllGrouped}
 use Rattle.lookups.specs.Named.{unnamed?}
+
+annotated : (k : ℕ) (ks : List ℕ) → k ≡ 5 → unnamed? (k ∷ ks) ≡ false
+unfolding unnamed? all
+annotated k ks is = rw (eq-eqb k 5 is)
+
+annotated-later : (k : ℕ) (ks : List ℕ) → unnamed? ks ≡ false → unnamed? (k ∷ ks) ≡ false
+unfolding unnamed? all
+annotated-later k ks some = go (not (eqb k 5)) some
+  where
+    go : (b : Bool) → all (λ k. not (eqb k 5)) ks ≡ false → (b && all (λ k. not (eqb k 5)) ks) ≡ false
+    go true some = some
+    go false some = refl
 
 module _ {f l : List ℕ} (H : Holds f l) {strings : ℕ} (count : strings ≡ stringsIn l) where
   strings-known : length (view f l .strings) ≡ strings
@@ -39,16 +52,19 @@ module _ {f l : List ℕ} (H : Holds f l) {strings : ℕ} (count : strings ≡ s
   noted-known is say = record { strings-are = strings-known; pools-are = λ e. say; objects-are = λ h. absurd (omega arith) }
 
   -- the elements of a map are any of these
+  kind-known :
+      {pools first last : List ℕ} (k : ℕ) → (32 ≤ k → (n : ℕ) → inRanges first last n ≡ any (holds? (k - 32) n) (logOf l))
+      → (k ≡ 5 → (m n : ℕ) → placed? pools m n ≡ annotation? (view f l) m n) → Known (view f l) k strings pools first last
+  unfolding object?
+  kind-known k are say = record { strings-are = strings-known; pools-are = say; objects-are = are }
+
   pub map-known :
-      {starts first last : List ℕ} → AllGrouped (logOf l) starts first last → (pools ks : List ℕ)
+      {starts first last : List ℕ} (pools ks : List ℕ) → AllGrouped ks l starts first last
       → (unnamed? ks ≡ false → (m n : ℕ) → placed? pools m n ≡ annotation? (view f l) m n) → AllKnown (view f l) strings pools starts first last ks
-  unfolding object? unnamed? all
-  map-known A pools [] say = tt
-  map-known {starts} {first} {last} A pools (k ∷ ks) say = (
-    record { strings-are = strings-known; pools-are = λ is. say (rw (eq-eqb k 5 is)); objects-are = λ h n. ranges-are l A k h n },
-    map-known A pools ks (λ some. say (go (not (eqb k 5)) some)),
-  )
+  map-known {starts} {first} {last} pools ks A say = go ks (A .objects-are) say
     where
-      go : (b : Bool) → all (λ k. not (eqb k 5)) ks ≡ false → (b && all (λ k. not (eqb k 5)) ks) ≡ false
-      go true some = some
-      go false some = refl
+      go :
+          (ks : List ℕ) → ((k : ℕ) → asked? ks k ≡ true → 32 ≤ k → (n : ℕ) → inRanges (ranges starts k first) (ranges starts k last) n ≡ any (holds? (k - 32) n) (logOf l))
+          → (unnamed? ks ≡ false → (m n : ℕ) → placed? pools m n ≡ annotation? (view f l) m n) → AllKnown (view f l) strings pools starts first last ks
+      go [] are say = tt
+      go (k ∷ ks) are say = (kind-known k (are k (asked-first k ks)) (λ is. say (annotated k ks is)), go ks (λ j asks. are j (asked-later k j ks asks)) (λ some. say (annotated-later k ks some)))

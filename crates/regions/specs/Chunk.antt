@@ -90,8 +90,8 @@ MapsTold n kinds l t from out at m r = Told (repeat n (valueText (view t l) (map
 
 pub maps-told :
     {n strings : ℕ} {pools starts first last kinds l t : List ℕ} {from : ℕ} {out : List ℕ} {at : ℕ} {m : List ℕ} {r : TextRead} → Holds t l → strings ≡ stringsIn l
-    → AllGrouped (logOf l) starts first last → PoolsSay kinds pools (view t l) → MapsTaken n strings pools starts first last kinds t from out at m r → MapsTold n kinds l t from out at m r
-maps-told {pools = pools} {kinds = kinds} {l = l} {t = t} H count A say C = C .told (view t l) (map-known H count A pools kinds say)
+    → AllGrouped kinds l starts first last → PoolsSay kinds pools (view t l) → MapsTaken n strings pools starts first last kinds t from out at m r → MapsTold n kinds l t from out at m r
+maps-told {pools = pools} {kinds = kinds} {l = l} {t = t} H count A say C = C .told (view t l) (map-known H count pools kinds A say)
 
 -- the kinds of a row
 pub row-say : (row : FieldRow) {kinds pools : List ℕ} {s : State} → row .kind ≡ 20 → kinds ≡ putFixed (row .a) (row .e) → NotedKind pools (row .kind) (row .a) (row .e) s → PoolsSay kinds pools s

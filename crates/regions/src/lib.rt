@@ -25,6 +25,7 @@ ghost use Rattle.regions.specs.Both.{DueLaid, LaidSized};
 use lookups::named::pools_due;
 use lookups::ranges::gather;
 use lookups::ranges::group;
+use lookups::ranges::refers;
 use paper::Ledger;
 use table::pushes::size_due;
 use table::rows::DueRow;
@@ -106,7 +107,7 @@ fn constant_bytes(
     )
 }
 
-// n maps of these kinds, whose annotations are held to the pools: the ranges of all types are gathered once.
+// n maps of these kinds, whose annotations are held to the pools: the ranges of the types that they name are gathered once.
 fn grouped_bytes(
     text: &[u8],
     p: Place,
@@ -124,7 +125,7 @@ fn grouped_bytes(
     let mut starts = [0u32; Ledger::TYPES as usize + 1];
     let mut first = [0u32; Ledger::RANGES as usize];
     let mut last = [0u32; Ledger::RANGES as usize];
-    group(work, &mut starts, &mut first, &mut last);
+    group(work, kinds, &mut starts, &mut first, &mut last);
     maps_text(
         text,
         p,
@@ -135,6 +136,39 @@ fn grouped_bytes(
         &starts,
         &first,
         &last,
+        out,
+        at,
+    )
+}
+
+// The same. Most maps refer to no object, and then nothing is gathered.
+fn mapped_bytes(
+    text: &[u8],
+    p: Place,
+    n: u32,
+    kinds: &[u64],
+    pools: &[u32],
+    work: &[u32],
+    out: &mut [u8],
+    at: usize,
+) -> TextRead
+    requires { ⌜ Holds (now text) (now work) × Low 0 (logOf (now work)) × PoolsSay (now kinds) (now pools) (view (now text) (now work)) ⌝ }
+    requires { ⌜ (1 ≤ length (now kinds)) × (all elementKind? (now kinds) ≡ true) ⌝ }
+    ensures { λ r. ⌜ MapsTold n (now (kinds .entry)) (now (work .entry)) (now (text .entry)) (p .at) (now (out .entry)) at (now (out .exit)) r ⌝ }
+{
+    if refers(kinds) {
+        return grouped_bytes(text, p, n, kinds, pools, work, out, at);
+    }
+    maps_text(
+        text,
+        p,
+        n,
+        kinds,
+        strings(work) as u64,
+        pools,
+        &work[..0],
+        &work[..0],
+        &work[..0],
         out,
         at,
     )
@@ -157,7 +191,7 @@ fn map_bytes(
 {
     let mut kinds = [0u64; 8];
     let k = map_kinds(kind.a, kind.e, &mut kinds);
-    grouped_bytes(text, p, n, &kinds[..k], pools, work, out, at)
+    mapped_bytes(text, p, n, &kinds[..k], pools, work, out, at)
 }
 
 // n values of any kind, whose annotations are held to the pools.

@@ -11,7 +11,7 @@ ghost use Rattle.values.specs.Listed.{Fixed, widthOf};
 ghost use Rattle.values.specs.Items.{Checked, linked, atMost};
 ghost use Rattle.values.specs.Chunks.{counted, listOf, Kinds, ChunkChecked};
 use crate::annotations::annotations;
-use crate::references::references;
+use crate::references::guided_references;
 use crate::runs::bools;
 use crate::runs::fixed_widths;
 use crate::runs::string_numbers;
@@ -34,7 +34,7 @@ fn width(k: u64) -> u64
 
 // m elements of kind k, one after the other: the cursor behind them, or the first refusal. Of strings there are so many, of the
 // base type that string s names there are pools[s - 1] objects, and the objects of a type are those behind first[i] up to last[i],
-// for each i. Only annotations ask for pools, and only references for ranges.
+// for each i. Only annotations ask for pools, and only references for ranges; a guide to these stands where the pools would.
 pub fn elements(
     part: &[u8],
     c: Cursor,
@@ -54,7 +54,7 @@ pub fn elements(
         7..=10 | 12..=13 => fixed_widths(part, c, m, width(k)),
         11 => v64s(part, c, m),
         14 => string_numbers(part, c, m, strings),
-        32..=18446744073709551615 => references(part, c, m, first, last),
+        32..=18446744073709551615 => guided_references(part, c, m, pools, first, last),
         // No element has such a kind.
         0..=4 | 15..=31 => Number::Got(0, c),
     }

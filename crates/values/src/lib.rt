@@ -4,6 +4,7 @@ pub mod annotations;
 pub mod chunks;
 pub mod columns;
 pub mod constants;
+pub mod guides;
 pub mod maps;
 pub mod references;
 pub mod runs;

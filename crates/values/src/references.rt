@@ -6,6 +6,8 @@ ghost use Rattle.paper.specs.Reader.{repeat};
 ghost use Rattle.values.specs.Pass.{Passed};
 ghost use Rattle.values.specs.Items.{inRange, linked, someObject};
 ghost use Rattle.values.specs.RangeLaws.{Placed};
+use crate::guides::bits_of;
+use crate::guides::guess;
 use numbers::Cursor;
 use numbers::Number;
 use numbers::Refusal;
@@ -113,6 +115,74 @@ pub fn references(part: &[u8], c: Cursor, m: u64, first: &[u32], last: &[u32]) -
     let mut rest = m;
     while 0 < rest {
         let a = reference(part, here, first, last);
+        let Number::Got(_, next) = a else {
+            return a;
+        };
+        here = next;
+        rest -= 1;
+    }
+    Number::Got(0, here)
+}
+
+// The same as `range_of`, with a look at the range that a guide names before it.
+fn guided_range(guide: &[u32], bits: u32, first: &[u32], last: &[u32], n: u64) -> usize
+    requires { ⌜ (bits < 64) × (length (now first) ≡ length (now last)) ⌝ }
+    ensures { λ r. ⌜ Placed (now (first .entry)) (now (last .entry)) n r ⌝ }
+{
+    let i = guess(guide, bits, n);
+    if i < first.len() {
+        if lies_in(first, last, i, n) {
+            return i;
+        }
+    }
+    range_of(first, last, n)
+}
+
+// The same as `reference`, with a guide.
+fn guided_reference(
+    part: &[u8],
+    c: Cursor,
+    guide: &[u32],
+    bits: u32,
+    first: &[u32],
+    last: &[u32],
+) -> Number
+    requires { ⌜ (bits < 64) × (length (now first) ≡ length (now last)) ⌝ }
+    ensures { λ r. ⌜ Passed (linked (someObject (now (first .entry)) (now (last .entry)))) (now (part .entry)) (c .at) r ⌝ }
+{
+    let a = c.v64(part);
+    let Number::Got(n, next) = a else {
+        return a;
+    };
+    if n == 0 {
+        return Number::Got(n, next);
+    }
+    if first.len() <= guided_range(guide, bits, first, last, n) {
+        return Number::No(Refusal {
+            number: 14,
+            place: c.at,
+        });
+    }
+    Number::Got(n, next)
+}
+
+// The same as `references`, with a guide.
+pub fn guided_references(
+    part: &[u8],
+    c: Cursor,
+    m: u64,
+    guide: &[u32],
+    first: &[u32],
+    last: &[u32],
+) -> Number
+    requires { ⌜ length (now first) ≡ length (now last) ⌝ }
+    ensures { λ r. ⌜ Passed (repeat m (linked (someObject (now (first .entry)) (now (last .entry))))) (now (part .entry)) (c .at) r ⌝ }
+{
+    let bits = bits_of(guide);
+    let mut here = c;
+    let mut rest = m;
+    while 0 < rest {
+        let a = guided_reference(part, here, guide, bits, first, last);
         let Number::Got(_, next) = a else {
             return a;
         };

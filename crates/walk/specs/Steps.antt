@@ -52,6 +52,13 @@ pub record Valued (n k a e : ℕ) (s : State) (f : List ℕ) (r : Number) : Type
 pub valued : {n k a e strings : ℕ} {pools first last f : List ℕ} {r : Number} (s : State) → Known s e strings pools first last → ChunkChecked n k a e strings pools first last f r → Valued n k a e s f r
 valued s K C = record { says = C .says s K; inside = C .inside }
 
+-- the same, in every state whose objects of the kind lie in these ranges, whatever stands where the pools would
+pub record Ranged (n k a e strings : ℕ) (first last f : List ℕ) (r : Number) : Type 0 where
+  pub says : (s : State) → ((pools : List ℕ) → Known s e strings pools first last) → Valued n k a e s f r
+
+pub ranged : {n k a e strings : ℕ} {pools first last f : List ℕ} {r : Number} → ChunkChecked n k a e strings pools first last f r → Ranged n k a e strings first last f r
+ranged {pools} C = record { says = λ s K. valued s (K pools) C }
+
 -- that of n maps of these kinds, in every state that the table l says and whose annotations the pools know
 pub record MapsValued (n : ℕ) (kinds pools l f : List ℕ) (r : Number) : Type 0 where
   pub says :
@@ -60,9 +67,9 @@ pub record MapsValued (n : ℕ) (kinds pools l f : List ℕ) (r : Number) : Type
   pub inside : placeOf r ≤ length f
 
 pub maps-valued :
-    {n strings : ℕ} {pools starts first last kinds l f : List ℕ} {r : Number} → strings ≡ stringsIn l → AllGrouped (logOf l) starts first last
+    {n strings : ℕ} {pools starts first last kinds l f : List ℕ} {r : Number} → strings ≡ stringsIn l → AllGrouped kinds l starts first last
     → MapsChecked n strings pools starts first last kinds f r → MapsValued n kinds pools l f r
-maps-valued {n} {strings} {pools} {starts} {first} {last} {kinds} {l} {f} {r} count A C = record { says = λ source H say. C .says (view source l) (map-known H count A pools kinds say); inside = C .inside }
+maps-valued {n} {strings} {pools} {starts} {first} {last} {kinds} {l} {f} {r} count A C = record { says = λ source H say. C .says (view source l) (map-known H count pools kinds A say); inside = C .inside }
 
 -- where the kind with these numbers has annotations, the pools say which of them keep the rule
 pub record NotedKind (pools : List ℕ) (k a e : ℕ) (s : State) : Type 0 where

@@ -16,9 +16,10 @@ ghost use Rattle.values.specs.Chunks.{Kinds};
 ghost use Rattle.lookups.specs.Low.{Low};
 ghost use Rattle.walk.specs.Listed.{Listed};
 ghost use Rattle.lookups.specs.Named.{Noted};
-ghost use Rattle.walk.specs.Steps.{stepOf, Valued, NotedKind, MapsValued};
+ghost use Rattle.walk.specs.Steps.{stepOf, Valued, Ranged, NotedKind, MapsValued};
 use lookups::ranges::gather;
 use lookups::ranges::group;
+use lookups::ranges::refers;
 use numbers::Cursor;
 use numbers::Number;
 use numbers::Refusal;
@@ -29,8 +30,66 @@ use table::rows::FieldRow;
 use table::rows::field_at;
 use table::rows::strings;
 use values::chunks::chunk_values;
+use values::guides::make_guide;
 use values::maps::map_kinds;
 use values::maps::maps;
+
+// n values whose elements refer to objects of these ranges, which are looked for by a guide.
+fn guided_values(
+    part: &[u8],
+    n: u32,
+    kind: FieldRow,
+    strings: u64,
+    first: &[u32],
+    last: &[u32],
+) -> Number
+    requires { ⌜ Kinds (kind .kind) (kind .a) (kind .e) × (4 < kind .kind) × (kind .kind ≡ 20 → ⊥) × (length (now first) ≡ length (now last)) ⌝ }
+    ensures { λ r. ⌜ Ranged n (kind .kind) (kind .a) (kind .e) strings (now (first .entry)) (now (last .entry)) (now (part .entry)) r ⌝ }
+{
+    let mut guide = [0u32; 257];
+    make_guide(last, &mut guide);
+    chunk_values(
+        part,
+        n,
+        kind.kind as u64,
+        kind.a,
+        kind.e,
+        strings,
+        &guide,
+        first,
+        last,
+    )
+}
+
+// The same, for any number of values and ranges. A guide is worth its making only where there are many values to one of several ranges.
+fn ranged_values(
+    part: &[u8],
+    n: u32,
+    kind: FieldRow,
+    strings: u64,
+    first: &[u32],
+    last: &[u32],
+) -> Number
+    requires { ⌜ Kinds (kind .kind) (kind .a) (kind .e) × (4 < kind .kind) × (kind .kind ≡ 20 → ⊥) × (length (now first) ≡ length (now last)) ⌝ }
+    ensures { λ r. ⌜ Ranged n (kind .kind) (kind .a) (kind .e) strings (now (first .entry)) (now (last .entry)) (now (part .entry)) r ⌝ }
+{
+    if 64 < n {
+        if 1 < first.len() {
+            return guided_values(part, n, kind, strings, first, last);
+        }
+    }
+    chunk_values(
+        part,
+        n,
+        kind.kind as u64,
+        kind.a,
+        kind.e,
+        strings,
+        &first[..0],
+        first,
+        last,
+    )
+}
 
 // n values whose elements refer to objects: the ranges of their type are gathered once, and not asked for at each value.
 fn linked_values(part: &[u8], n: u32, kind: FieldRow, work: &[u32]) -> Number
@@ -41,20 +100,10 @@ fn linked_values(part: &[u8], n: u32, kind: FieldRow, work: &[u32]) -> Number
     let mut first = [0u32; Ledger::RANGES as usize];
     let mut last = [0u32; Ledger::RANGES as usize];
     let k = gather(work, kind.e - 32, &mut first, &mut last);
-    chunk_values(
-        part,
-        n,
-        kind.kind as u64,
-        kind.a,
-        kind.e,
-        strings(work) as u64,
-        &work[..0],
-        &first[..k],
-        &last[..k],
-    )
+    ranged_values(part, n, kind, strings(work) as u64, &first[..k], &last[..k])
 }
 
-// n maps of these kinds, whose annotations are held to the pools: the ranges of all types are gathered once.
+// n maps of these kinds, whose annotations are held to the pools: the ranges of the types that they name are gathered once.
 fn grouped_values(part: &[u8], n: u32, kinds: &[u64], pools: &[u32], work: &[u32]) -> Number
     requires { ⌜ Ok (now work) × Low 0 (logOf (now work)) ⌝ }
     requires { ⌜ (2 ≤ length (now kinds)) × (all elementKind? (now kinds) ≡ true) ⌝ }
@@ -63,7 +112,7 @@ fn grouped_values(part: &[u8], n: u32, kinds: &[u64], pools: &[u32], work: &[u32
     let mut starts = [0u32; Ledger::TYPES as usize + 1];
     let mut first = [0u32; Ledger::RANGES as usize];
     let mut last = [0u32; Ledger::RANGES as usize];
-    group(work, &mut starts, &mut first, &mut last);
+    group(work, kinds, &mut starts, &mut first, &mut last);
     maps(
         part,
         n,
@@ -76,6 +125,27 @@ fn grouped_values(part: &[u8], n: u32, kinds: &[u64], pools: &[u32], work: &[u32
     )
 }
 
+// The same. Most maps refer to no object, and then nothing is gathered.
+fn mapped_values(part: &[u8], n: u32, kinds: &[u64], pools: &[u32], work: &[u32]) -> Number
+    requires { ⌜ Ok (now work) × Low 0 (logOf (now work)) ⌝ }
+    requires { ⌜ (2 ≤ length (now kinds)) × (all elementKind? (now kinds) ≡ true) ⌝ }
+    ensures { λ r. ⌜ MapsValued n (now (kinds .entry)) (now (pools .entry)) (now (work .entry)) (now (part .entry)) r ⌝ }
+{
+    if refers(kinds) {
+        return grouped_values(part, n, kinds, pools, work);
+    }
+    maps(
+        part,
+        n,
+        kinds,
+        strings(work) as u64,
+        pools,
+        &work[..0],
+        &work[..0],
+        &work[..0],
+    )
+}
+
 // n maps: their kinds stand in the row, a byte each.
 fn map_values(part: &[u8], n: u32, kind: FieldRow, pools: &[u32], work: &[u32]) -> Number
     requires { ⌜ Ok (now work) × Low 0 (logOf (now work)) ⌝ }
@@ -84,7 +154,7 @@ fn map_values(part: &[u8], n: u32, kind: FieldRow, pools: &[u32], work: &[u32]) 
 {
     let mut kinds = [0u64; 8];
     let k = map_kinds(kind.a, kind.e, &mut kinds);
-    grouped_values(part, n, &kinds[..k], pools, work)
+    mapped_values(part, n, &kinds[..k], pools, work)
 }
 
 // n values of any kind: the pools say which annotations keep the rule.

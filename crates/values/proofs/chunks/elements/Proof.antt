@@ -22,6 +22,6 @@ elements-spec =
     (λ c. checked-by ((c .before .before .before .before .before .before) .pre .0) _ (item-string _ _ _ _ _ (c .before .match .keys4)) (c .string-numbers .ensures))
     (λ c. let is : Fixed ((c .before .before .before .before .before .before .before .before .before) .args .k) = record { low = omega (arith, c .before .before .before .before .match .rest .0 .0 .1); high = omega arith; not-v64 = c .before .before .before .before .match .rest .0 .1 } in
     checked-by ((c .before .before .before .before .before .before .before .before .before) .pre .0) _ (rw (c .before .width .ensures .0) (item-fixed _ _ _ _ _ is)) (c .fixed-widths .ensures))
-    (λ c. checked-by ((c .before .before .before .before .before .before .before .before .before) .pre .0) _ (item-object _ _ _ _ _ (c .before .if3 .left)) (c .references .ensures))
+    (λ c. checked-by ((c .before .before .before .before .before .before .before .before .before) .pre .0) _ (item-object _ _ _ _ _ (c .before .if3 .left)) (c .guided-references .ensures))
     (λ c. absurd (omega (arith, listed-low (c .before .before .before .before .before .before .args .k) (other-single (c .before .before .before .before .before .before .args .k) ((c .before .before .before .before .before .before) .pre .0) (λ q. omega arith)))))
     (λ c. absurd (omega (arith, listed-object (c .before .before .before .before .before .before .before .before .args .k) (other-single (c .before .before .before .before .before .before .before .before .args .k) ((c .before .before .before .before .before .before .before .before) .pre .0) (λ q. omega arith)) (c .before .if2 .left) (c .before .before .before .match .rest .1)))))

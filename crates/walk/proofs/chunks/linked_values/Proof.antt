@@ -2,7 +2,6 @@
 use mathlib.Core.Path.{sym, _∙_}
 use Rattle.lookups.specs.Gather.{first-lent, last-lent}
 use Rattle.lookups.specs.Known.{linked-known}
-use Rattle.walk.specs.Steps.{valued}
 use borrow.Author.Needs.{needs}
 use Rattle.walk.proofs.chunks.linked_values.Statement.{statement}
 use Rattle.walk.proofs.chunks.linked_values.Tie as tie
@@ -15,13 +14,11 @@ linked-values-spec =
     (λ c. search needs)
     (λ c. search needs)
     (λ c κs. search needs)
-    (λ c. search needs)
     (λ c κs. search needs)
     (λ c. search needs)
     (λ c. search needs)
+    (λ c. first-lent (c .before .before .before .before .gather .ensures))
     (λ c. search needs)
-    (λ c. first-lent (c .before .before .before .before .before .before .gather .ensures))
-    (λ c. search needs)
-    (λ c. last-lent (c .before .before .before .before .before .before .before .gather .ensures))
-    (λ c κs. let kinds = c .before .before .before .before .before .before .before .before .before .before .before .before .before .pre .1 in (kinds .0, kinds .1, kinds .2, sym (first-lent (c .before .before .before .before .before .before .before .gather .ensures)) ∙ last-lent (c .before .before .before .before .before .before .before .gather .ensures)))
-    (λ c file holds. valued _ (linked-known holds (c .before .before .before .before .strings .ensures) (c .before .before .before .before .before .before .before .before .before .before .before .before .before .before .pre .1 .3) (c .before .before .before .before .before .before .before .before .gather .ensures)) (c .chunk-values .ensures)))
+    (λ c. last-lent (c .before .before .before .before .before .gather .ensures))
+    (λ c κs. let kinds = c .before .before .before .before .before .before .before .before .before .before .before .pre .1 in (kinds .0, kinds .1, kinds .2, sym (first-lent (c .before .before .before .before .before .gather .ensures)) ∙ last-lent (c .before .before .before .before .before .gather .ensures)))
+    (λ c file holds. c .ranged-values .ensures .says _ (λ pools. linked-known holds (c .before .before .before .strings .ensures) (c .before .before .before .before .before .before .before .before .before .before .before .before .pre .1 .3) (c .before .before .before .before .before .before .gather .ensures))))

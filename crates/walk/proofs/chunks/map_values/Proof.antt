@@ -14,4 +14,4 @@ map-values-spec =
     (λ c. omega (arith, c .before .map-kinds .ensures .0, kinds-few (c .before .before .before .before .before .before .pre .1 .0) (c .before .before .before .before .before .before .pre .1 .1) .1))
     (λ c. kinds-lent (c .before .before .before .before .before .before .before .pre .1 .0) (c .before .before .before .before .before .before .before .pre .1 .1) _ (c .before .before .map-kinds .ensures .0) (c .before .before .map-kinds .ensures .1))
     (λ c κs. (c .before .before .before .before .before .before .before .pre .0, kinds-due (c .before .before .before .before .before .before .before .pre .1 .0) (c .before .before .before .before .before .before .before .pre .1 .1) _ (c .before .before .map-kinds .ensures .0) (c .before .before .map-kinds .ensures .1)))
-    (λ c file holds noted. row-valued (c .before .before .before .before .before .before .before .before .pre .1 .0) (c .before .before .before .before .before .before .before .before .pre .1 .1) _ (c .before .before .before .map-kinds .ensures .0) (c .before .before .before .map-kinds .ensures .1) holds noted (c .grouped-values .ensures)))
+    (λ c file holds noted. row-valued (c .before .before .before .before .before .before .before .before .pre .1 .0) (c .before .before .before .before .before .before .before .before .pre .1 .1) _ (c .before .before .before .map-kinds .ensures .0) (c .before .before .before .map-kinds .ensures .1) holds noted (c .mapped-values .ensures)))
