@@ -4,6 +4,7 @@ pub mod Hexes
 pub mod Signs
 pub mod Answers
 pub mod Backwards
+pub mod Blocks
 pub mod Stored
 pub mod ReadBytes
 pub mod ReadDecimals

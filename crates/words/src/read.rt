@@ -1,10 +1,15 @@
 // Words read from a text, from a place in it. A reader answers what stands there with the place behind it, or `Bad`.
 ghost use mathlib.Core.Path.{_≡_};
+ghost use mathlib.Core.Bool.{true};
 ghost use Prim.Native.Nat.{_≤_, _<_};
+ghost use lib.ListN.{length};
+ghost use Rattle.lay.specs.Laid.{Laid};
 ghost use Rattle.paper.specs.Scan.{byteIs, literal, ended, tooLarge?, natural, integer, orNone, nibble, hexOn};
+ghost use Rattle.words.specs.Blocks.{valueOf, Hexes, unhexedFrom};
 ghost use Rattle.words.specs.Answers.{outStep, outNumber, outBits, outMaybe, Peeked, Digit, Unhexed};
 use crate::HALF;
 use crate::MOST;
+use crate::write::room;
 
 const DASH: u64 = 45;
 
@@ -97,6 +102,91 @@ fn nibble(b: u64) -> u64
         return b - 87;
     }
     16
+}
+
+// The value of a hex digit by its bits: those of a letter are 1 to 6. Reckoned and not asked, since nothing foretells which digit
+// comes.
+fn value_of(b: u8) -> u8
+    ensures { λ r. ⌜ (r ≡ valueOf b) × (r < 16) ⌝ }
+{
+    (b % 16 + 9 * (b / 64)) % 16
+}
+
+// Whether a byte is a hex digit: its value is written so.
+fn is_hex(b: u8) -> bool
+    ensures { λ r. ⌜ (r ≡ true → nibble b ≡ valueOf b) ⌝ }
+{
+    let v = value_of(b);
+    b == 48 + v + 39 * ((v + 6) / 16)
+}
+
+// Whether 64 hex digits stand at a place. There is no way out of the loop before its end, so that the compiler looks at many bytes
+// at once.
+fn block_there(t: &[u8], at: usize) -> bool
+    ensures { λ r. ⌜ (r ≡ true → Hexes (now (t .entry)) at 64) ⌝ }
+{
+    if room(t.len(), at) < 64 {
+        return false;
+    }
+    let mut others: u8 = 0;
+    let mut i: usize = 0;
+    while i < 64 {
+        if !is_hex(t[at + i]) {
+            others = 1;
+        }
+        i += 1;
+    }
+    others == 0
+}
+
+// The 32 bytes that stand in hex at a place.
+fn store_block(t: &[u8], at: usize, bytes: &mut [u8])
+    requires { ⌜ Hexes (now t) at 64 × (length (now bytes) ≡ 32) ⌝ }
+    ensures { λ _. ⌜ now (bytes .exit) ≡ unhexedFrom 32 (now (t .entry)) at ⌝ }
+{
+    let mut i: usize = 0;
+    while i < 32 {
+        let high = value_of(t[at + 2 * i]);
+        let low = value_of(t[at + 2 * i + 1]);
+        bytes[i] = high * 16 + low;
+        i += 1;
+    }
+}
+
+// These, laid into a buffer.
+fn put_block(t: &[u8], at: usize, out: &mut [u8], q: usize) -> usize
+    requires { ⌜ Hexes (now t) at 64 ⌝ }
+    ensures { λ r. ⌜ Laid (now (out .entry)) q (unhexedFrom 32 (now (t .entry)) at) (now (out .exit)) r ⌝ }
+{
+    let mut bytes = [0u8; 32];
+    store_block(t, at, &mut bytes);
+    lay::put_bytes(out, q, &bytes)
+}
+
+// Bytes in hex, one by one, as long as there are any, laid into a buffer from q on.
+fn hex_pairs(t: &[u8], from: usize, out: &mut [u8], at: usize) -> Bytes
+    ensures { λ r. ⌜ Unhexed (now (t .entry)) from (now (out .entry)) at (now (out .exit)) r ⌝ }
+{
+    let mut p = from;
+    let mut q = at;
+    loop {
+        let a = nibble(peek(t, p));
+        if a == 16 {
+            return Bytes {
+                next: Place { at: p },
+                at: q,
+            };
+        }
+        let b = nibble(peek(t, p + 1));
+        if b == 16 {
+            return Bytes {
+                next: Place { at: p },
+                at: q,
+            };
+        }
+        q = lay::put(out, q, (a * 16 + b) as u8);
+        p += 2;
+    }
 }
 
 impl Place {
@@ -249,29 +339,16 @@ impl Place {
         Number::Got(v, Place { at: p })
     }
 
-    // Bytes in hex, as long as there are any, laid into a buffer from `at` on.
+    // Bytes in hex, as long as there are any, laid into a buffer from `at` on: 32 at a time, and those that are left in turn.
     pub fn hex_bytes(self, t: &[u8], out: &mut [u8], at: usize) -> Bytes
         ensures { λ r. ⌜ Unhexed (now (t .entry)) (self .at) (now (out .entry)) at (now (out .exit)) r ⌝ }
     {
         let mut p = self.at;
         let mut q = at;
-        loop {
-            let a = nibble(peek(t, p));
-            if a == 16 {
-                return Bytes {
-                    next: Place { at: p },
-                    at: q,
-                };
-            }
-            let b = nibble(peek(t, p + 1));
-            if b == 16 {
-                return Bytes {
-                    next: Place { at: p },
-                    at: q,
-                };
-            }
-            q = lay::put(out, q, (a * 16 + b) as u8);
-            p += 2;
+        while block_there(t, p) {
+            q = put_block(t, p, out, q);
+            p += 64;
         }
+        hex_pairs(t, p, out, q)
     }
 }
