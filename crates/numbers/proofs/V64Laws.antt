@@ -198,8 +198,28 @@ three-read f at a b c room first second third on small more-on b-small end-byte 
 
 -- ── where a coding ends ──
 
-abbrev goes : {A : Type 0} → Out A → Out (Unit {0})
+abbrev pub goes : {A : Type 0} → Out A → Out (Unit {0})
 goes o = andThen o (λ a e. got tt e)
+
+module _ (f : List ℕ) (p : ℕ) where
+  -- this byte is the last
+  pub goes-last : (k : ℕ) → p < length f → (0 < k → getD f p 0 < 128) → goes (coding k f p) ≡ got tt (p + 1)
+  goes-last k h lt = ap goes (last f p k h lt)
+
+  -- another follows
+  pub goes-more : (k : ℕ) → p < length f → 128 ≤ getD f p 0 → goes (coding (suc k) f p) ≡ goes (coding k f (p + 1))
+  goes-more k h le = ap goes (more f p k h le) ∙ go (coding k f (p + 1))
+    where
+      go : (o : Out (List ℕ)) → goes (andThen o (λ bs e. got (getD f p 0 ∷ bs) e)) ≡ goes o
+      go (got bs e) = refl
+      go (no n m) = refl
+
+  pub ended : {e : ℕ} → goes (coding 8 f p) ≡ got tt e → e ≤ length f → Ended f p e
+  ended {e} says inside = record { says = ap goes (v64-held f p) ∙ go (coding 8 f p) says; inside = inside }
+    where
+      go : (o : Out (List ℕ)) → goes o ≡ got tt e → goes (held p o) ≡ got tt e
+      go (got bs m) q = q
+      go (no n m) q = clash (cc q)
 
 -- of two bytes
 pub two-there :

@@ -10,6 +10,7 @@ ghost use Rattle.paper.specs.File.{small};
 ghost use Rattle.numbers.specs.Cursors.{Read, Past, refusalOf, noStep, stepOf};
 ghost use Rattle.numbers.specs.Begun.{Begun, Ongoing, Ended};
 ghost use Rattle.numbers.specs.Turned.{lowBytes, Turned, TakenAt, TakenV64};
+ghost use Rattle.numbers.specs.Words.{marks, Ran};
 use paper::Ledger;
 
 // A place in the bytes, handed on by value.
@@ -43,6 +44,12 @@ pub enum Step {
 // A number that is known to be there, with the cursor behind it.
 pub struct Taken {
     pub number: u64,
+    pub next: Cursor,
+}
+
+// Numbers that are passed over at once: how many, and the cursor behind them.
+pub struct Run {
+    pub count: u64,
     pub next: Cursor,
 }
 
@@ -153,6 +160,14 @@ fn turned8(x: u64) -> u64
     ensures { λ r. ⌜ Turned 8 x r ⌝ }
 {
     turned(x, 8)
+}
+
+// Which of the eight bytes of x end a v64: those without their top bit, which is set here.
+fn ends(x: u64) -> u64
+    ensures { λ r. ⌜ r ≡ marks 8 x ⌝ }
+{
+    let tops: u64 = 0x8080_8080_8080_8080;
+    tops - (x & tops)
 }
 
 // The v64 that begins at `at` with a byte that another follows, and whose low seven bits are `low`: its other bytes. Each
@@ -295,6 +310,26 @@ impl Cursor {
         Step::Got(Cursor {
             at: at + long_length(s, at),
         })
+    }
+
+    // Past all v64s that end in the next eight bytes, where a ninth is there, or past the one that has all nine. What is counted is where they
+    // end; none of them is looked at by itself.
+    pub fn past_v64s(self, s: &[u8]) -> Run
+        requires { ⌜ self .at + 9 ≤ length (now s) ⌝ }
+        ensures { λ r. ⌜ Ran (now (s .entry)) (self .at) r ⌝ }
+    {
+        let at = self.at;
+        let marked = ends(low_first(s, at, 8));
+        if marked == 0 {
+            let next = Cursor { at: at + 9 };
+            return Run { count: 1, next };
+        }
+        let count = u64::count_ones(marked) as u64;
+        let behind = u64::leading_zeros(marked) / 8;
+        let next = Cursor {
+            at: at + ((8 - behind) as usize),
+        };
+        Run { count, next }
     }
 
     // A count, local start or length, which is held to the bound of objects.

@@ -3,9 +3,9 @@ ghost use mathlib.Core.Path.{_≡_};
 ghost use mathlib.Core.Bool.{true};
 ghost use Prim.Native.Nat.{_<_, _≤_};
 ghost use lib.ListN.{length};
-ghost use Rattle.paper.specs.Reader.{repeat};
+ghost use Rattle.paper.specs.Reader.{must, repeat};
 ghost use Rattle.paper.specs.Numbers.{fixed, v64};
-ghost use Rattle.paper.specs.Rules.{elementKind?};
+ghost use Rattle.paper.specs.Rules.{boolRules, elementKind?};
 ghost use Rattle.values.specs.Pass.{Passed};
 ghost use Rattle.values.specs.Listed.{Fixed, widthOf};
 ghost use Rattle.values.specs.Items.{Checked, linked, atMost};
@@ -128,6 +128,27 @@ fn fixed_lists(part: &[u8], n: u64, width: u64) -> Number
     Number::Got(0, here)
 }
 
+// n arrays of bools.
+fn bool_lists(part: &[u8], n: u64) -> Number
+    ensures { λ r. ⌜ Passed (repeat n (counted (must (fixed 1) boolRules))) (now (part .entry)) 0 r ⌝ }
+{
+    let mut here = Cursor { at: 0 };
+    let mut rest = n;
+    while 0 < rest {
+        let length = here.small(part);
+        let Number::Got(m, begin) = length else {
+            return length;
+        };
+        let a = bools(part, begin, m);
+        let Number::Got(_, next) = a else {
+            return a;
+        };
+        here = next;
+        rest -= 1;
+    }
+    Number::Got(0, here)
+}
+
 // n arrays of v64 numbers.
 fn v64_lists(part: &[u8], n: u64) -> Number
     ensures { λ r. ⌜ Passed (repeat n (counted v64)) (now (part .entry)) 0 r ⌝ }
@@ -184,6 +205,7 @@ fn lists_of(
     ensures { λ r. ⌜ Passed (repeat n (listOf strings (now (pools .entry)) (now (first .entry)) (now (last .entry)) e)) (now (part .entry)) 0 r ⌝ }
 {
     match e {
+        6 => bool_lists(part, n),
         7..=10 | 12..=13 => fixed_lists(part, n, width(e)),
         11 => v64_lists(part, n),
         14 => string_lists(part, n, strings),

@@ -2,7 +2,7 @@
 // in it.
 ghost use mathlib.Core.Path.{_≡_};
 ghost use mathlib.Core.Bool.{true};
-ghost use Prim.Native.Nat.{_+_, _<_, _≤_};
+ghost use Prim.Native.Nat.{_+_, _*_, _<_, _≤_};
 ghost use lib.ListN.{length};
 ghost use Rattle.paper.specs.Reader.{must, repeat};
 ghost use Rattle.paper.specs.Numbers.{fixed, v64};
@@ -11,9 +11,11 @@ ghost use Rattle.numbers.specs.Cursors.{Read};
 ghost use Rattle.values.specs.Pass.{Passed};
 ghost use Rattle.values.specs.Items.{linked, atMost};
 ghost use Rattle.values.specs.Held.{Bools};
+ghost use Rattle.values.specs.Overs.{Looks, RanTo};
 use numbers::Cursor;
 use numbers::Number;
 use numbers::Refusal;
+use numbers::Run;
 use numbers::Step;
 use numbers::refused_step;
 
@@ -103,8 +105,57 @@ pub fn fixed_widths(part: &[u8], c: Cursor, m: u64, width: u64) -> Number
     })
 }
 
-// m numbers of one byte or more.
+// How many times eight bytes can be looked at for the ends of at most `rest` numbers: each time there is a ninth behind them, and no more than
+// eight numbers are passed over.
+fn looks(part: &[u8], at: usize, rest: u64) -> u64
+    ensures { λ r. ⌜ Looks (length (now (part .entry))) at rest r ⌝ }
+{
+    if part.len() < at {
+        return 0;
+    }
+    let room = ((part.len() - at) / 9) as u64;
+    let most = rest / 8;
+    if room < most {
+        return room;
+    }
+    most
+}
+
+// As many numbers as end in so many looks.
+fn v64s_there(part: &[u8], c: Cursor, n: u64) -> Run
+    requires { ⌜ c .at + 9 * n ≤ length (now part) ⌝ }
+    ensures { λ r. ⌜ RanTo n (now (part .entry)) (c .at) r ⌝ }
+{
+    let mut here = c;
+    let mut count: u64 = 0;
+    let mut left = n;
+    while 0 < left {
+        let a = here.past_v64s(part);
+        count += a.count;
+        here = a.next;
+        left -= 1;
+    }
+    Run { count, next: here }
+}
+
+// m numbers of one byte or more: as many as are surely there are passed over at once, again and again; the last few one by one.
 pub fn v64s(part: &[u8], c: Cursor, m: u64) -> Number
+    ensures { λ r. ⌜ Passed (repeat m v64) (now (part .entry)) (c .at) r ⌝ }
+{
+    let mut here = c;
+    let mut rest = m;
+    let mut n = looks(part, here.at, rest);
+    while 0 < n {
+        let a = v64s_there(part, here, n);
+        here = a.next;
+        rest -= a.count;
+        n = looks(part, here.at, rest);
+    }
+    v64s_in_turn(part, here, rest)
+}
+
+// The same, number by number, up to the first that is refused.
+fn v64s_in_turn(part: &[u8], c: Cursor, m: u64) -> Number
     ensures { λ r. ⌜ Passed (repeat m v64) (now (part .entry)) (c .at) r ⌝ }
 {
     let mut here = c;

@@ -1,14 +1,17 @@
 use borrow.Author.Needs.{needs}
+use native.Mathlib.Omega.{arith}
+use lib.ListN.{length}
 use Rattle.paper.specs.Numbers.{v64}
-use Rattle.values.specs.Pass.{Running, running-start, running-past, running-stop, running-done}
+use Rattle.values.specs.Pass.{Running, running-start}
+use Rattle.values.specs.Overs.{Looks, running-over, running-rest}
 use Rattle.values.proofs.runs.v64s.Statement.{statement}
 use Rattle.values.proofs.runs.v64s.Tie as tie
 
 abbrev Inv-loop : tie.InvT-loop
-Inv-loop part m here₀ rest₀ here rest = Running v64 part m (here₀ .at) rest (here .at)
+Inv-loop part m here₀ rest₀ n₀ here rest n = Running v64 part m (here₀ .at) rest (here .at) × Looks (length part) (here .at) rest n
 
 abbrev μ-loop : tie.MeasureT-loop
-μ-loop part m here₀ rest₀ here rest = rest
+μ-loop part m here₀ rest₀ n₀ here rest n = rest
 
 pub v64s-spec : {M : Type 1} → statement M
 v64s-spec =
@@ -16,13 +19,12 @@ v64s-spec =
     (tie.spec
     Inv-loop
     μ-loop
-    (λ c. running-start v64 _ _ _)
     (λ c κs. search needs)
-    (λ c. search needs)
-    (λ c. search needs)
+    (λ c. (running-start v64 _ _ _, c .looks .ensures))
+    (λ c κs. c .before .loop .inv .1 .room (c .loop-test .taken))
+    (λ c. omega (arith, c .before .before .v64s-there .ensures .few, c .before .before .before .before .loop .inv .1 .few))
     (λ c κs. search needs)
-    (λ c. running-stop (c .before .before .before .before .before .loop .inv) (c .before .before .before .before .loop-test .taken) (c .before .before .before .past-v64 .ensures) (c .before .enum-told .given .1) (c .refused-step .ensures))
-    (λ c. search needs)
-    (λ c. search needs)
-    (λ c. running-past (c .before .before .before .before .before .loop .inv) (c .before .before .before .before .loop-test .taken) (c .before .before .before .past-v64 .ensures) (c .before .a .given .1))
-    (λ c. running-done (c .before .loop .inv) 0 (c .loop-test .left)))
+    (λ c. omega (arith, c .before .before .before .v64s-there .ensures .few, c .before .before .before .before .before .loop .inv .1 .few, c .before .before .before .v64s-there .ensures .some (omega arith)))
+    (λ c. (running-over (c .before .before .before .before .before .loop .inv .0) (c .before .before .before .v64s-there .ensures .over) (omega (arith, c .before .before .before .v64s-there .ensures .few, c .before .before .before .before .before .loop .inv .1 .few)), c .looks2 .ensures))
+    (λ c κs. search needs)
+    (λ c. running-rest (c .before .before .loop .inv .0) (c .v64s-in-turn .ensures)))
