@@ -12,6 +12,7 @@ pub mod Maps
 pub mod Spans
 pub mod Ways
 pub mod MapChunks
+pub mod Quick
 -- Values of a column
 pub mod Bare
 pub mod Linkable
