@@ -26,6 +26,7 @@ pub mod HeadLaws
 pub mod CountLaws
 pub mod TopLaws
 pub mod EnterLaws
+pub mod KnownHeads
 pub mod Entries
 pub mod FrontSteps
 pub mod EntryLaws

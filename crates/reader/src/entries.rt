@@ -14,13 +14,17 @@ use super::heads::Topped;
 use super::heads::enter_head;
 use super::heads::refused_top;
 use super::kinds::Named;
+use super::known::known_head;
 use super::strings::read_strings;
 use numbers::Cursor;
 use numbers::Number;
 use numbers::Step;
 use numbers::refused_step;
+use table::rows::range_at;
+use table::rows::ranges;
 
-pub fn entry(file: &[u8], c: Cursor, work: &mut [u32], end: u64, named: Named) -> Number
+// An entry whose head is read number by number.
+fn entry_anew(file: &[u8], c: Cursor, work: &mut [u32], end: u64, named: Named) -> Number
     requires { ⌜ Holds (now file) (now work) × Sound (said (now file) (now work)) ⌝ }
     ensures { λ r. ⌜ Passed (now (file .entry)) (now (work .exit)) (c .at) r (entryGo (named? named) (going (now (file .entry)) (now (work .entry)) end) (now (file .entry)) (c .at)) ⌝ }
 {
@@ -30,6 +34,19 @@ pub fn entry(file: &[u8], c: Cursor, work: &mut [u32], end: u64, named: Named) -
     };
     let name = top.name;
     fields(file, next, work, name.typ, top.count, end, named)
+}
+
+// An entry. Where its head was read the short way, its range is the last of the log.
+pub fn entry(file: &[u8], c: Cursor, work: &mut [u32], end: u64, named: Named) -> Number
+    requires { ⌜ Holds (now file) (now work) × Sound (said (now file) (now work)) ⌝ }
+    ensures { λ r. ⌜ Passed (now (file .entry)) (now (work .exit)) (c .at) r (entryGo (named? named) (going (now (file .entry)) (now (work .entry)) end) (now (file .entry)) (c .at)) ⌝ }
+{
+    let at = known_head(file, c.at, work);
+    if at == 0 {
+        return entry_anew(file, c, work, end, named);
+    }
+    let last = range_at(work, ranges(work) - 1);
+    fields(file, Cursor { at }, work, last.typ, last.count, end, named)
 }
 
 // So many entries. The first chunk of a block begins where its data region does.

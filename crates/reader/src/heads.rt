@@ -282,7 +282,7 @@ fn local_start(file: &[u8], c: Cursor, up: u32) -> Number
 }
 
 // The bound of objects, which only the counts of base types add up to: all others are objects of these too.
-fn few_objects(work: &[u32], up: u32, n: u64) -> bool
+pub fn few_objects(work: &[u32], up: u32, n: u64) -> bool
     requires { ⌜ Ok (now work) ⌝ }
     ensures { λ r. ⌜ ((f : List ℕ) → r ≡ fewObjects? (view f (now (work .entry))) (maybe up) n) ⌝ }
 {
@@ -297,7 +297,7 @@ fn few_objects(work: &[u32], up: u32, n: u64) -> bool
 
 // The range of n objects from `start` lies within that of the super type up - 1 and behind those of all earlier siblings;
 // no object has no range, and starts at 0.
-fn in_range(work: &[u32], up: u32, start: u32, n: u32) -> bool
+pub fn in_range(work: &[u32], up: u32, start: u32, n: u32) -> bool
     requires { ⌜ Ok (now work) ⌝ }
     ensures { λ r. ⌜ ((f : List ℕ) → r ≡ inRange? (view f (now (work .entry))) (maybe up) start n) ⌝ }
 {
@@ -392,7 +392,7 @@ pub fn read_head(file: &[u8], c: Cursor, work: &[u32]) -> Topped
 }
 
 // The base type of type t's pool: t itself, or that of the super type up - 1.
-fn base_for(work: &[u32], t: u32, up: u32) -> u32
+pub fn base_for(work: &[u32], t: u32, up: u32) -> u32
     requires { ⌜ Ok (now work) ⌝ }
     ensures { λ r. ⌜ r ≡ baseUnder (typesOf (now (work .entry))) t (maybe up) ⌝ }
 {

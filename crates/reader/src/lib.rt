@@ -3,5 +3,6 @@ pub mod entries;
 pub mod fields;
 pub mod heads;
 pub mod kinds;
+pub mod known;
 pub mod ruled;
 pub mod strings;
