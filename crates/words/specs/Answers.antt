@@ -48,9 +48,8 @@ pub record Peeked (t : List ℕ) (at r : ℕ) : Type 0 where
   pub past : 256 ≤ r → length t ≤ at
   pub small : r ≤ 256
 
--- d is the value of the digit b, 10 if b is no digit
+-- d is the value of the digit b, 10 or more if b is no digit
 pub record Digit (b d : ℕ) : Type 0 where
-  pub small : d ≤ 10
   pub value : d < 10 → (b ≡ 48 + d) × (digit? b ≡ true)
   pub none : 10 ≤ d → (b ≡ 48 → ⊥) × (digit? b ≡ false)
 

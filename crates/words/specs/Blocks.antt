@@ -2,20 +2,21 @@
 use mathlib.Core.Path.{_≡_, refl, sym, _∙_, ap}
 use mathlib.Core.Bool.{true, false}
 use mathlib.Core.List.{List, [], _∷_, _++_, append-assoc}
-use Prim.Native.Nat.{ℕ, zero, suc, _+_, _-_, _*_, _/_, _%_, _≤_, _<_}
+use Prim.Native.Nat.{ℕ, zero, suc, _+_, _-_, _*_, _/_, _%_, _^_, _≤_, _<_}
 use native.Mathlib.Omega.{arith}
 use native.Mathlib.Numerals.{add-one}
-use native.Mathlib.Nat.{add-zero, lt-of-not-le}
+use native.Mathlib.Nat.{add-zero, sub-zero, lt-of-not-le}
 use native.Mathlib.Decide.{decLe}
 use native.Nat.{ℕᴺ-discrete}
 use lib.ListN.{length, getD, drop, set, length-set}
 use lib.Seq.{drop-cons, length-sets, getD-set-same, getD-set-other, ext-getD}
 use borrow.Author.Tests.{ne-eqb}
 use Rattle.paper.specs.Reader.{if_then_else_, Out, got, no as bad, andThen}
-use Rattle.paper.specs.Scan.{nibble, hexPairs, hexBytes}
+use Rattle.paper.specs.Scan.{nibble, hexOn, hexPairs, hexBytes}
 use Rattle.lay.specs.Laid.{Laid, laid-then}
 use Rattle.words.specs.Answers.{Unhexed}
-use Rattle.words.specs.ReadHexes.{nibble-digit, nibble-letter, Unhexing}
+use Rattle.words.specs.ReadBytes.{peeked-in}
+use Rattle.words.specs.ReadHexes.{nibble-digit, nibble-letter, hex-on, hex-all, hex-grows, Unhexing}
 use Rattle.words.specs.declared.read.Bytes.{Bytes}
 
 -- ── a digit ──
@@ -117,6 +118,35 @@ module _ {k : ℕ} {t : List ℕ} {at : ℕ} {m : List ℕ} {i : ℕ} (R : Recko
 
   pub reckoned-all : k ≤ i → m ≡ unhexedFrom k t at
   reckoned-all h = ext-getD 0 m (unhexedFrom k t at) (R .long ∙ sym (unhexed-long k t at)) (λ j l. R .same j (omega (arith, R .long)))
+
+-- ── the number of n digits: v is that of the first i, which end at p ──
+
+pub record Valued (t : List ℕ) (at n p v i : ℕ) : Type 0 where
+  pub there : Hexes t at n
+  pub within : i ≤ n
+  pub place : p ≡ at + i
+  pub small : v < 16 ^ i
+  pub same : hexOn (n - i) v t p ≡ hexOn n 0 t at
+
+pub valued-none : (t : List ℕ) (at n : ℕ) → Hexes t at n → Valued t at n at 0 0
+valued-none t at n H = record { there = H; within = omega arith; place = omega arith; small = omega arith; same = rw sub-zero }
+
+module _ {t : List ℕ} {at n p v i : ℕ} (G : Valued t at n p v i) where
+  pub valued-on : {x : ℕ} → i < n → x ≡ valueOf (getD t p 0) → getD t p 0 < 256 → Valued t at n (p + 1) (16 * v + x) (i + 1)
+  valued-on {x} lt is byte =
+      let seen = peeked-in t p (omega (arith, G .there .inside, G .place)) byte in
+      let digit : x ≡ nibble (getD t p 0) = is ∙ sym (rw (← G .place) at (G .there .each i lt)) in
+      let low : x < 16 = rw is (value-small (getD t p 0)) in
+      record {
+        there = G .there;
+        within = omega arith;
+        place = omega (arith, G .place);
+        small = hex-grows i v x (G .small) low;
+        same = sym (hex-on seen digit n i v lt low) ∙ G .same;
+      }
+
+  pub valued-all : n ≤ i → got v p ≡ hexOn n 0 t at
+  valued-all h = sym (hex-all n i v t p h) ∙ G .same
 
 -- ── a reading goes over them ──
 

@@ -3,9 +3,10 @@ use mathlib.Core.Path.{_≡_, refl, sym, _∙_}
 use mathlib.Core.Bool.{true, false}
 use mathlib.Core.List.{List}
 use mathlib.Core.Option.{none, some}
-use Prim.Native.Nat.{ℕ, _+_, _-_, _*_, _≤_, _<_}
+use Prim.Native.Nat.{ℕ, _+_, _-_, _*_, _%_, _^_, _≤_, _<_}
 use native.Mathlib.Omega.{arith}
-use native.Mathlib.Nat.{lt-of-not-le}
+use native.Mathlib.Numerals.{add-one}
+use native.Mathlib.Nat.{lt-of-not-le, pow-suc, pow-le-pow-right}
 use native.Mathlib.Decide.{decLe}
 use lib.Dec.{ltb}
 use lib.ListN.{length, getD, drop}
@@ -17,20 +18,28 @@ use Rattle.words.specs.ReadBytes.{here, here-or-end}
 
 -- ── a digit ──
 
-pub digit-in : (b : ℕ) → 48 ≤ b → b ≤ 57 → Digit b (b - 48)
+digit-in : (b : ℕ) → 48 ≤ b → b ≤ 57 → Digit b (b - 48)
 unfolding digit?
-digit-in b h k =
-    record { small = omega arith; value = λ l. (omega arith, rw (le-leb 48 b h, le-leb b 57 k)); none = λ l. absurd (omega arith) }
+digit-in b h k = record { value = λ l. (omega arith, rw (le-leb 48 b h, le-leb b 57 k)); none = λ l. absurd (omega arith) }
 
-pub digit-below : (b : ℕ) → b < 48 → Digit b 10
+digit-below : (b d : ℕ) → b < 48 → 10 ≤ d → Digit b d
 unfolding digit?
-digit-below b h =
-    record { small = omega arith; value = λ l. absurd (omega arith); none = λ l. ((λ e. omega arith), rw (lt-leb 48 b h)) }
+digit-below b d h k = record { value = λ l. absurd (omega arith); none = λ l. ((λ e. omega arith), rw (lt-leb 48 b h)) }
 
-pub digit-above : (b : ℕ) → 57 < b → Digit b 10
+digit-above : (b d : ℕ) → 57 < b → 10 ≤ d → Digit b d
 unfolding digit?
-digit-above b h =
-    record { small = omega arith; value = λ l. absurd (omega arith); none = λ l. ((λ e. omega arith), rw (le-leb 48 b (omega arith), lt-leb b 57 h)) }
+digit-above b d h k = record { value = λ l. absurd (omega arith); none = λ l. ((λ e. omega arith), rw (le-leb 48 b (omega arith), lt-leb b 57 h)) }
+
+-- a byte below the digits goes round
+pub digit-reckoned : (b : ℕ) → b ≤ 256 → Digit b ((b + 208) % 256)
+digit-reckoned b h =
+    elim (decLe 48 b) [
+      | no d ↦ (let low = lt-of-not-le d in digit-below b ((b + 208) % 256) low (omega arith))
+      | yes d ↦ elim (decLe b 57) [
+        | yes k ↦ (let is : (b + 208) % 256 ≡ b - 48 = omega arith in rw is (digit-in b d k))
+        | no k ↦ (let high = lt-of-not-le k in digit-above b ((b + 208) % 256) high (omega arith))
+      ]
+    ]
 
 -- ── one digit more ──
 
@@ -53,6 +62,14 @@ large-last v d e =
 pub fits : (v d : ℕ) → tooLarge? v d ≡ false → 10 * v + d < 18446744073709551616
 unfolding tooLarge?
 fits v d h = leb-false 18446744073709551616 (10 * v + d) h
+
+-- k digits are read, of which 19 fit
+module _ (k v d : ℕ) (l : v < 10 ^ k) (h : d < 10) where
+  pub digits-room : k ≤ 18 → 10 * v + d < 18446744073709551616
+  digits-room q = let m : 10 ^ k ≤ 10 ^ 18 = pow-le-pow-right (omega arith) q in omega arith
+
+  pub digits-grow : 10 * v + d < 10 ^ (k + 1)
+  digits-grow = rw (add-one, pow-suc) (omega arith)
 
 -- ── a decimal ──
 
@@ -94,6 +111,35 @@ module _ {t : List ℕ} {at b d : ℕ} (k : Peeked t at b) (v : Digit b d) where
     pub digits-large : (n : ℕ) → tooLarge? n d ≡ true → digitsOn n at (drop at t) ≡ bad 20 0
     unfolding digitsOn if_then_else_
     digits-large n f = rw (here k byte, v .value l .1, less, f)
+
+-- ── digits that surely fit: v is the number of those from `at` up to p ──
+
+pub record Sure (t : List ℕ) (at v p : ℕ) : Type 0 where
+  pub behind : at ≤ p
+  pub small : v < 10 ^ (p - at)
+  pub same : digitsOn v p (drop p t) ≡ natural t at
+
+pub sure-start : {t : List ℕ} {at b d : ℕ} → Peeked t at b → Digit b d → d < 10 → (d ≡ 0 → ⊥) → Sure t at d (at + 1)
+sure-start {t} {at} k v l n =
+    let one : at + 1 - at ≡ 1 = omega arith in
+    record { behind = omega arith; small = rw one (omega arith); same = natural-starts k v l n }
+
+module _ {t : List ℕ} {at v p b d : ℕ} (S : Sure t at v p) (k : Peeked t p b) (g : Digit b d) where
+  pub sure-end : 10 ≤ d → got v p ≡ natural t at
+  sure-end h = sym (digits-end k g v h) ∙ S .same
+
+  module _ (l : d < 10) (near : p < at + 19) where
+    pub sure-room : 10 * v + d < 18446744073709551616
+    sure-room = digits-room (p - at) v d (S .small) l (omega (arith, S .behind))
+
+    pub sure-on : Sure t at (10 * v + d) (p + 1)
+    sure-on =
+        let more : p - at + 1 ≡ p + 1 - at = omega (arith, S .behind) in
+        record {
+          behind = omega (arith, S .behind);
+          small = rw more at (digits-grow (p - at) v d (S .small) l);
+          same = sym (digits-on k g l v (not-large v d sure-room)) ∙ S .same;
+        }
 
 -- ── a decimal or a dash ──
 

@@ -1,10 +1,10 @@
 // Words read from a text, from a place in it. A reader answers what stands there with the place behind it, or `Bad`.
 ghost use mathlib.Core.Path.{_≡_};
 ghost use mathlib.Core.Bool.{true};
-ghost use Prim.Native.Nat.{_≤_, _<_};
-ghost use lib.ListN.{length};
+ghost use Prim.Native.Nat.{_+_, _≤_, _<_};
+ghost use lib.ListN.{length, drop};
 ghost use Rattle.lay.specs.Laid.{Laid};
-ghost use Rattle.paper.specs.Scan.{byteIs, literal, ended, tooLarge?, natural, integer, orNone, nibble, hexOn};
+ghost use Rattle.paper.specs.Scan.{byteIs, literal, ended, tooLarge?, digitsOn, natural, integer, orNone, nibble, hexOn};
 ghost use Rattle.words.specs.Blocks.{valueOf, Hexes, unhexedFrom};
 ghost use Rattle.words.specs.Answers.{outStep, outNumber, outBits, outMaybe, Peeked, Digit, Unhexed};
 use crate::HALF;
@@ -58,17 +58,12 @@ pub fn peek(t: &[u8], at: usize) -> u64
     256
 }
 
-// A digit's value, 10 for any other byte: 0 to 9 are the bytes 48 to 57.
+// A digit's value, 10 or more for any other byte: 0 to 9 are the bytes 48 to 57, and a byte below them goes round.
 fn digit(b: u64) -> u64
+    requires { ⌜ b ≤ 256 ⌝ }
     ensures { λ r. ⌜ Digit b r ⌝ }
 {
-    if b < 48 {
-        return 10;
-    }
-    if 57 < b {
-        return 10;
-    }
-    b - 48
+    (b + 208) % 256
 }
 
 // One digit more does not fit 64 bits: held against the largest number, as 10 * v + d itself may not fit.
@@ -120,23 +115,62 @@ fn is_hex(b: u8) -> bool
     b == 48 + v + 39 * ((v + 6) / 16)
 }
 
-// Whether 64 hex digits stand at a place. There is no way out of the loop before its end, so that the compiler looks at many bytes
+// Whether n hex digits stand at a place. There is no way out of the loop before its end, so that the compiler looks at many bytes
 // at once.
-fn block_there(t: &[u8], at: usize) -> bool
-    ensures { λ r. ⌜ (r ≡ true → Hexes (now (t .entry)) at 64) ⌝ }
+fn digits_there(t: &[u8], at: usize, n: usize) -> bool
+    ensures { λ r. ⌜ (r ≡ true → Hexes (now (t .entry)) at n) ⌝ }
 {
-    if room(t.len(), at) < 64 {
+    if t.len() < at {
+        return false;
+    }
+    if t.len() - at < n {
         return false;
     }
     let mut others: u8 = 0;
     let mut i: usize = 0;
-    while i < 64 {
+    while i < n {
         if !is_hex(t[at + i]) {
             others = 1;
         }
         i += 1;
     }
     others == 0
+}
+
+// The number of n hex digits that are there.
+fn hex_value(t: &[u8], at: usize, n: usize) -> Number
+    requires { ⌜ Hexes (now t) at n × (n ≤ 16) ⌝ }
+    ensures { λ r. ⌜ outNumber r ≡ hexOn n 0 (now (t .entry)) at ⌝ }
+{
+    let mut p = at;
+    let mut v: u64 = 0;
+    let mut i: usize = 0;
+    while i < n {
+        v = 16 * v + value_of(t[p]) as u64;
+        p += 1;
+        i += 1;
+    }
+    Number::Got(v, Place { at: p })
+}
+
+// The number of n hex digits, one by one, up to the first byte that is none.
+fn hex_in_turn(t: &[u8], at: usize, n: usize) -> Number
+    requires { ⌜ n ≤ 16 ⌝ }
+    ensures { λ r. ⌜ outNumber r ≡ hexOn n 0 (now (t .entry)) at ⌝ }
+{
+    let mut p = at;
+    let mut v: u64 = 0;
+    let mut i: usize = 0;
+    while i < n {
+        let d = nibble(peek(t, p));
+        if 16 <= d {
+            return Number::Bad;
+        }
+        v = 16 * v + d;
+        p += 1;
+        i += 1;
+    }
+    Number::Got(v, Place { at: p })
 }
 
 // The 32 bytes that stand in hex at a place.
@@ -189,6 +223,35 @@ fn hex_pairs(t: &[u8], from: usize, out: &mut [u8], at: usize) -> Bytes
     }
 }
 
+// Up to where digits from a place on, of a text so long, fit 64 bits whichever they are: 19 do.
+fn sure_digits(all: usize, at: usize) -> usize
+    ensures { λ r. ⌜ (r ≤ all) × (r ≤ at + 19) ⌝ }
+{
+    if room(all, at) < 19 {
+        return all;
+    }
+    at + 19
+}
+
+// A decimal that begins with the number v and has more digits, if any stand there.
+fn more_digits(t: &[u8], at: usize, first: u64) -> Number
+    ensures { λ r. ⌜ outNumber r ≡ digitsOn first at (drop at (now (t .entry))) ⌝ }
+{
+    let mut v = first;
+    let mut p = at;
+    loop {
+        let d = digit(peek(t, p));
+        if 10 <= d {
+            return Number::Got(v, Place { at: p });
+        }
+        if too_large(v, d) {
+            return Number::Bad;
+        }
+        v = 10 * v + d;
+        p += 1;
+    }
+}
+
 impl Place {
     // The byte b.
     pub fn byte(self, t: &[u8], b: u64) -> Step
@@ -226,26 +289,25 @@ impl Place {
     {
         let at = self.at;
         let first = digit(peek(t, at));
-        if first == 10 {
+        if 10 <= first {
             return Number::Bad;
         }
         let next = at + 1;
         if first == 0 {
             return Number::Got(0, Place { at: next });
         }
+        let sure = sure_digits(t.len(), at);
         let mut v = first;
         let mut p = next;
-        loop {
-            let d = digit(peek(t, p));
-            if d == 10 {
+        while p < sure {
+            let d = digit(t[p] as u64);
+            if 10 <= d {
                 return Number::Got(v, Place { at: p });
-            }
-            if too_large(v, d) {
-                return Number::Bad;
             }
             v = 10 * v + d;
             p += 1;
         }
+        more_digits(t, p, v)
     }
 
     // A decimal and the byte that ends it.
@@ -324,19 +386,11 @@ impl Place {
         requires { ⌜ n ≤ 16 ⌝ }
         ensures { λ r. ⌜ outNumber r ≡ hexOn n 0 (now (t .entry)) (self .at) ⌝ }
     {
-        let mut p = self.at;
-        let mut v: u64 = 0;
-        let mut i: usize = 0;
-        while i < n {
-            let d = nibble(peek(t, p));
-            if 16 <= d {
-                return Number::Bad;
-            }
-            v = 16 * v + d;
-            p += 1;
-            i += 1;
+        let at = self.at;
+        if digits_there(t, at, n) {
+            return hex_value(t, at, n);
         }
-        Number::Got(v, Place { at: p })
+        hex_in_turn(t, at, n)
     }
 
     // Bytes in hex, as long as there are any, laid into a buffer from `at` on: 32 at a time, and those that are left in turn.
@@ -345,7 +399,7 @@ impl Place {
     {
         let mut p = self.at;
         let mut q = at;
-        while block_there(t, p) {
+        while digits_there(t, p, 64) {
             q = put_block(t, p, out, q);
             p += 64;
         }

@@ -1,39 +1,33 @@
-use native.Mathlib.Nat.{sub-zero}
-use mathlib.Core.Path.{_≡_, sym, _∙_}
-use mathlib.Core.List.{List}
-use Prim.Native.Nat.{ℕ, _-_, _^_, _≤_, _<_}
-use native.Mathlib.Omega.{arith}
 use borrow.Author.Needs.{needs}
-use Rattle.paper.specs.Scan.{hexOn}
-use Rattle.words.specs.ReadHexes.{inside, hex-on, hex-not, hex-all, hex-room, hex-grows}
 use Rattle.words.proofs.read.Place.hex.Statement.{statement}
 use Rattle.words.proofs.read.Place.hex.Tie as tie
+use Rattle.words.proofs.read.Place.hex.Reads as reads
+use Rattle.words.proofs.read.Place.hex.Lts as lts
+use Rattle.words.proofs.read.digits_there.Reads as digits-there-reads
+use Rattle.words.proofs.read.hex_in_turn.Reads as hex-in-turn-reads
+use Rattle.words.proofs.read.hex_value.Reads as hex-value-reads
 
-record Left (t : List ℕ) (n at p v i : ℕ) : Type 0 where
-  within : i ≤ n
-  small : v < 16 ^ i
-  same : hexOn (n - i) v t p ≡ hexOn n 0 t at
+-- src/read.rt:390:12
+digits-there-requires : tie.Need-digits-there-requires
+digits-there-requires c κs = search needs
 
-abbrev Inv-loop : tie.InvT-loop
-Inv-loop t n p₀ v₀ i₀ p v i = Left t n p₀ p v i
+-- src/read.rt:391:13
+hex-value-requires : tie.Need-hex-value-requires
+hex-value-requires c κs = (c .before .digits-there .ensures (c .if1 .taken), (c .before .before .before) .pre)
 
-abbrev μ-loop : tie.MeasureT-loop
-μ-loop t n p₀ v₀ i₀ p v i = n - i
+-- src/read.rt:391:13
+returns : tie.Need-returns
+returns c = search needs
+
+-- src/read.rt:393:9
+hex-in-turn-requires : tie.Need-hex-in-turn-requires
+hex-in-turn-requires c κs = search needs
+
+-- src/read.rt:385:5
+returns-2 : tie.Need-returns-2
+returns-2 c = search needs
 
 pub hex-spec : {M : Type 1} → statement M
 hex-spec =
     tie.close
-    (tie.spec
-    Inv-loop
-    μ-loop
-    (λ c. record { within = omega arith; small = omega arith; same = rw sub-zero })
-    (λ c κs. search needs)
-    (λ c κs. search needs)
-    (λ c. sym (hex-not (c .before .before .peek .ensures) (c .before .nibble .ensures .0) _ (c .before .before .before .before .loop .i) (c .before .before .before .before .loop .v) (omega arith) (omega arith)) ∙ c .before .before .before .before .loop .inv .same)
-    (λ c. let h = hex-room (c .before .before .before .before .loop .i) (c .before .before .before .before .loop .v) (c .before .nibble .result) (c .before .before .before .before .loop .inv .small) (omega arith) (omega arith) in omega arith)
-    (λ c. let h = hex-room (c .before .before .before .before .loop .i) (c .before .before .before .before .loop .v) (c .before .nibble .result) (c .before .before .before .before .loop .inv .small) (omega arith) (omega arith) in omega arith)
-    (λ c. let h = inside (c .before .before .peek .ensures) (c .before .nibble .ensures .0) (λ e. omega arith) in omega arith)
-    (λ c. omega arith)
-    (λ c. omega arith)
-    (λ c. record { within = omega arith; small = hex-grows (c .before .before .before .before .loop .i) (c .before .before .before .before .loop .v) (c .before .nibble .result) (c .before .before .before .before .loop .inv .small) (omega arith); same = sym (hex-on (c .before .before .peek .ensures) (c .before .nibble .ensures .0) _ (c .before .before .before .before .loop .i) (c .before .before .before .before .loop .v) (omega arith) (omega arith)) ∙ c .before .before .before .before .loop .inv .same })
-    (λ c. sym (hex-all _ (c .before .loop .i) (c .before .loop .v) _ (c .before .loop .p) (omega arith)) ∙ c .before .loop .inv .same))
+    (tie.spec digits-there-requires hex-value-requires returns hex-in-turn-requires returns-2)

@@ -27,10 +27,10 @@ hex-bytes-spec =
     μ-loop
     loop-holds
     (λ c κs. search needs)
-    (λ c κs. c .before .before .block-there .ensures (c .before .if1 .taken))
-    (λ c. omega (arith, c .before .before .before .before .before .block-there .ensures (c .before .before .before .before .if1 .taken) .inside))
-    (λ c. omega (arith, c .before .before .before .before .before .block-there .ensures (c .before .before .before .before .if1 .taken) .inside))
-    (λ c. unhexing-over (c .before .before .before .before .before .before .loop .inv) _ (pairs-over 32 _ _ (c .before .before .before .before .before .block-there .ensures (c .before .before .before .before .if1 .taken))) (c .before .before .put-block .ensures))
+    (λ c κs. c .before .before .digits-there .ensures (c .before .if1 .taken))
+    (λ c. omega (arith, c .before .before .before .before .before .digits-there .ensures (c .before .before .before .before .if1 .taken) .inside))
+    (λ c. omega (arith, c .before .before .before .before .before .digits-there .ensures (c .before .before .before .before .if1 .taken) .inside))
+    (λ c. unhexing-over (c .before .before .before .before .before .before .loop .inv) _ (pairs-over 32 _ _ (c .before .before .before .before .before .digits-there .ensures (c .before .before .before .before .if1 .taken))) (c .before .before .put-block .ensures))
     (λ c κs. search needs)
     (λ c. omega (arith, c .before .before .before .before .before .before .loop .inv .long, c .before .before .hex-pairs .kept))
     (λ c. unhexing-rest (c .before .before .before .before .before .before .loop .inv) (c .before .before .hex-pairs .ensures)))
