@@ -297,103 +297,40 @@ ending-all {f} {at} {i} {n} G E h =
     go (got bs e) q = q
     go (no k m) q = clash (cc q)
 
--- ── taken from the ninth byte back: from its byte i on it is the number x, and has n bytes ──
+-- ── taken: from p on, a coding and its number ──
 
-abbrev valued : Out (List ℕ) → Out ℕ
+abbrev pub valued : Out (List ℕ) → Out ℕ
 valued o = andThen o (λ bs e. got (lowFirst bs) e)
 
-pub record Backwards (f : List ℕ) (at i x n : ℕ) : Type 0 where
-  pub means : valued (coding (8 - i) f (at + i)) ≡ got x (at + n)
-  pub below : x < 256 * 128 ^ (8 - i)
-  pub high : i ≤ 8
-  pub on : i < n
-  pub most : n ≤ 9
-
-pub backwards-ninth : (f : List ℕ) (at b : ℕ) → at + 9 ≤ length f → b ≡ getD f (at + 8) 0 → b < 256 → Backwards f at 8 b 9
-unfolding lowFirst
-backwards-ninth f at b room is small =
-    let end : at + 8 + 1 ≡ at + 9 = omega arith in
-    record {
-      means = rw (last f (at + 8) 0 (omega arith) (λ i. absurd (omega arith)), end, sym is) refl;
-      below = omega arith;
-      high = omega arith;
-      on = omega arith;
-      most = omega arith;
-    }
-
-module _ {f : List ℕ} {at i x n : ℕ} (room : at + 9 ≤ length f) (B : Backwards f at i x n) (due : 0 < i) (b : ℕ) (is : b ≡ getD f (at + (i - 1)) 0) where
-  one-more-back : 8 - (i - 1) ≡ suc (8 - i)
-  one-more-back = omega (arith, B .high)
-
-  more-back : 128 ^ (8 - (i - 1)) ≡ 128 ^ (8 - i) * 128
-  more-back = rw (one-more-back, pow-suc 128 (8 - i))
-
-  -- the byte before ends it
-  pub backwards-here : b < 128 → Backwards f at (i - 1) b (i - 1 + 1)
+module _ (f : List ℕ) (p : ℕ) where
+  pub valued-last : (k : ℕ) → p < length f → (0 < k → getD f p 0 < 128) → valued (coding k f p) ≡ got (getD f p 0) (p + 1)
   unfolding lowFirst
-  backwards-here h =
-      let high = B .high in
-      let end : at + (i - 1) + 1 ≡ at + (i - 1 + 1) = omega arith in
-      let some = one-le-pow (8 - i) 128 (lit< tt) in
-      record {
-        means = rw (one-more-back, last f (at + (i - 1)) (suc (8 - i)) (omega arith) (λ z. rw (sym is) h), end, sym is) refl;
-        below = rw more-back (omega arith);
-        high = omega arith;
-        on = omega arith;
-        most = omega arith;
-      }
+  valued-last k h lt = ap valued (last f p k h lt)
 
-  -- it does not
-  pub backwards-on : 128 ≤ b → b < 256 → Backwards f at (i - 1) (b - 128 + 128 * x) n
+  pub valued-more :
+      (k : ℕ) {v e : ℕ} → p < length f → 128 ≤ getD f p 0 → valued (coding k f (p + 1)) ≡ got v e
+      → valued (coding (suc k) f p) ≡ got (getD f p 0 - 128 + 128 * v) e
   unfolding lowFirst
-  backwards-on h small =
-      let high = B .high in
-      let below = B .below in
-      let on = B .on in
-      let some = one-le-pow (8 - i) 128 (lit< tt) in
-      let next : at + (i - 1) + 1 ≡ at + i = omega arith in
-      record {
-        means =
-            rw (one-more-back, more f (at + (i - 1)) (8 - i) (omega arith) (rw (sym is) h), next, sym is)
-            (go (coding (8 - i) f (at + i)) (has-byte f (at + i) (8 - i)) (B .means));
-        below = rw more-back (omega arith);
-        high = omega arith;
-        on = omega arith;
-        most = B .most;
-      }
+  valued-more k {v} {e} h le is = ap valued (more f p k h le) ∙ go (coding k f (p + 1)) (has-byte f (p + 1) k) is
     where
       go :
-          (o : Out (List ℕ)) → ((e : ℕ) → o ≡ got [] e → ⊥) → valued o ≡ got x (at + n)
-          → valued (andThen o (λ bs e. got (b ∷ bs) e)) ≡ got (b - 128 + 128 * x) (at + n)
-      go (got [] e) some q = absurd (some e refl)
-      go (got (d ∷ bs) e) some q =
-          let v : lowFirst (d ∷ bs) ≡ x = cc q in
-          let p : e ≡ at + n = cc q in
-          rw (v, p) refl
-      go (no k m) some q = clash (cc q)
+          (o : Out (List ℕ)) → ((m : ℕ) → o ≡ got [] m → ⊥) → valued o ≡ got v e
+          → valued (andThen o (λ bs m. got (getD f p 0 ∷ bs) m)) ≡ got (getD f p 0 - 128 + 128 * v) e
+      go (got [] m) some q = absurd (some m refl)
+      go (got (d ∷ bs) m) some q =
+          let v-is : lowFirst (d ∷ bs) ≡ v = cc q in
+          let e-is : m ≡ e = cc q in
+          rw (v-is, e-is) refl
+      go (no n m) some q = clash (cc q)
 
-  pub backwards-fits : b < 256 → (128 * x < 2 ^ 64) × (b - 128 + 128 * x < 2 ^ 64)
-  backwards-fits small =
-      let below = B .below in
-      let most = pow-le-pow-right {n = 128} (lit< tt) {i = 8 - i} {j = 7} (omega arith) in
-      (omega arith, omega arith)
-
-pub backwards-all :
-    {f : List ℕ} {at i x n : ℕ} → Backwards f at i x n → i ≤ 0 → TakenV64 f at (record { number = x; next = record { at = at + n } })
-backwards-all {f} {at} {i} {x} {n} B h =
-    let none : i ≡ 0 = omega arith in
-    let here : at + 0 ≡ at = omega arith in
-    let all : valued (coding 8 f at) ≡ got x (at + n) = rw (none, here) at (B .means) in
-    record {
-      says = v64-held f at ∙ go (coding 8 f at) all;
-      on = omega (arith, B .on);
-      most = omega (arith, B .most);
-      below = rw none at (B .below);
-    }
-  where
-    go : (o : Out (List ℕ)) → valued o ≡ got x (at + n) → held at o ≡ got x (at + n)
-    go (got bs e) q = q
-    go (no k m) q = clash (cc q)
+  pub taken-v64 :
+      {x n : ℕ} → valued (coding 8 f p) ≡ got x (p + n) → 0 < n → n ≤ 9 → x < 2 ^ 64 → TakenV64 f p (record { number = x; next = record { at = p + n } })
+  taken-v64 {x} {n} is some most below =
+      record { says = v64-held f p ∙ go (coding 8 f p) is; on = omega arith; most = omega arith; below = below }
+    where
+      go : (o : Out (List ℕ)) → valued o ≡ got x (p + n) → held p o ≡ got x (p + n)
+      go (got bs m) q = q
+      go (no k m) q = clash (cc q)
 
 -- ── taken, by a look at each of the first three bytes ──
 

@@ -14,6 +14,11 @@ unfoldable pub marks : ℕ → ℕ → ℕ
 marks zero x = 0
 marks (suc n) x = 128 * stop (x % 256) + 256 * marks n (x / 256)
 
+-- the lowest seven bits of each of them, side by side
+unfoldable pub septets : ℕ → ℕ → ℕ
+septets zero x = 0
+septets (suc n) x = x % 128 + 128 * septets n (x / 256)
+
 -- k numbers one after the other, from `at` up to the last argument
 pub data Over (f : List ℕ) : ℕ → ℕ → ℕ → Type 0 where
   here : {at : ℕ} → Over f 0 at at

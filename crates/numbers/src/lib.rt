@@ -3,14 +3,14 @@ pub mod sign;
 pub mod write;
 
 ghost use mathlib.Core.Path.{_≡_};
-ghost use Prim.Native.Nat.{_+_, _^_, _≤_, _<_};
+ghost use Prim.Native.Nat.{_+_, _^_, _%_, _≤_, _<_};
 ghost use lib.ListN.{length, take, drop};
 ghost use Rattle.paper.specs.Numbers.{fixed, v64};
 ghost use Rattle.paper.specs.File.{small};
 ghost use Rattle.numbers.specs.Cursors.{Read, Past, refusalOf, noStep, stepOf};
 ghost use Rattle.numbers.specs.Begun.{Begun, Ongoing, Ended};
 ghost use Rattle.numbers.specs.Turned.{lowBytes, Turned, TakenAt, TakenV64};
-ghost use Rattle.numbers.specs.Words.{marks, Ran};
+ghost use Rattle.numbers.specs.Words.{marks, septets, Ran};
 use paper::Ledger;
 
 // A place in the bytes, handed on by value.
@@ -233,27 +233,50 @@ fn long_length(s: &[u8], at: usize) -> usize
     length
 }
 
-// The v64 that begins at `at`, where all nine bytes are there that it may have. They are taken from the ninth back: each that would end it
-// begins the number anew, and no jump depends on which does.
+// The lowest seven bits of each of the eight bytes of x, side by side: joined in twos, then in fours, then all eight. The twos are a
+// difference, since only so are all bits of x asked for at once, and the compiler keeps the one load of them.
+fn joined(x: u64) -> u64
+    ensures { λ r. ⌜ r ≡ septets 8 x ⌝ }
+{
+    let ones = x & 0x7F7F_7F7F_7F7F_7F7F;
+    let twos = ones - ((ones & 0x7F00_7F00_7F00_7F00) >> 1);
+    let fours = (twos & 0x3FFF_0000_3FFF) + ((twos & 0x3FFF_0000_3FFF_0000) >> 2);
+    (fours & 0x0FFF_FFFF) + ((fours & 0x0FFF_FFFF_0000_0000) >> 4)
+}
+
+// The bits of x up to this one.
+fn up_to(x: u64, bit: u32) -> u64
+    requires { ⌜ bit < 64 ⌝ }
+    ensures { λ r. ⌜ r ≡ x % 2 ^ (bit + 1) ⌝ }
+{
+    let over = 63 - bit;
+    (x << over) >> over
+}
+
+// The v64 that begins at `at`, where all nine bytes are there that it may have. Eight are looked at as one number: a jump depends only on
+// whether one of them ends it, and none on which does.
 fn long_v64(s: &[u8], at: usize) -> Taken
     requires { ⌜ at + 9 ≤ length (now s) ⌝ }
     ensures { λ r. ⌜ TakenV64 (now (s .entry)) at r ⌝ }
 {
-    let mut x = wide(s[at + 8]);
-    let mut length: usize = 9;
-    let mut i: usize = 8;
-    while 0 < i {
-        i -= 1;
-        let b = wide(s[at + i]);
-        if b < 128 {
-            x = b;
-            length = i + 1;
-        } else {
-            x = b - 128 + 128 * x;
-        }
+    let x = low_first(s, at, 8);
+    let marked = ends(x);
+    if marked == 0 {
+        let ninth = wide(s[at + 8]) << 56;
+        let next = Cursor { at: at + 9 };
+        return Taken {
+            number: joined(x) + ninth,
+            next,
+        };
     }
-    let next = Cursor { at: at + length };
-    Taken { number: x, next }
+    let bit = u64::trailing_zeros(marked);
+    let next = Cursor {
+        at: at + ((bit / 8) as usize) + 1,
+    };
+    Taken {
+        number: joined(up_to(x, bit)),
+        next,
+    }
 }
 
 impl Cursor {
