@@ -17,6 +17,7 @@ use Rattle.paper.specs.Rules.{singleKind?, elementKind?, linkRules, annotationR
 use Rattle.paper.specs.File.{wholeOf, twoNumbers, small, element, value}
 use Rattle.paper.specs.Listing.{ascii, tab, newline, glyph, shown, decimal, decimalℤ, hexDigits, elementWord, valueLine, printChunk}
 use Rattle.lay.specs.Laid.{Laid, laid-then, laid-as}
+use Rattle.words.specs.Stored.{Stored, stored-then}
 use Rattle.laws.specs.Laws.{not-got, bind-inv}
 use Rattle.laws.specs.Bools.{not-so}
 use Rattle.laws.specs.Lines.{tabs, line-tabs}
@@ -198,6 +199,55 @@ pub annotation-shows :
     {f : List ℕ} {from : ℕ} {l : List ℕ} {at : ℕ} {m n : List ℕ} {o o₂ : Behind} → Shows (λ s. v64) (λ n. tab ∷ decimal n) f from l at m o
     → Shows (λ s. v64) (λ n. tab ∷ decimal n) f (o .next .at) m (o .at) n o₂ → Shows (λ s. element s 5) (λ x. tab ∷ elementWord x) f from l at n o₂
 annotation-shows {f} {from} = shows-then (λ s x q h. annotation-parts s x f from q h)
+
+-- the two words of its line
+unfoldable pub twoWords : ℕ → ℕ → List ℕ
+twoWords m n = decimal m ++ (tab ∷ decimal n)
+
+pub two-stored : {l k o p : List ℕ} {at a b r : ℕ} (m n : ℕ) → Stored l at (decimal m) k a → Stored k a (tab ∷ []) o b → Stored o b (decimal n) p r → Stored l at (twoWords m n) p r
+unfolding twoWords
+two-stored m n x y z = stored-then x (stored-then y z)
+
+pub two-laid : {l k o p : List ℕ} {at a b r : ℕ} (m n : ℕ) → Laid l at (decimal m) k a → Laid k a (tab ∷ []) o b → Laid o b (decimal n) p r → Laid l at (twoWords m n) p r
+unfolding twoWords
+two-laid m n x y z = laid-then x (laid-then y z)
+
+module _ {f : List ℕ} {from : ℕ} {a : Number} (R : Read v64 (2 ^ 64) f from a) where
+  pub two-none : {u : Refusal} → a ≡ number.No u → {l : List ℕ} {at : ℕ} {k : List ℕ} {o : Behind} → Shows (λ s. element s 5) (λ x. lineOf (elementWord x)) f from l at k o
+  two-none is = shows-none (λ s x q h. not-got (sym (was-refused R is .says) ∙ annotation-parts s x f from q h .one))
+
+  module _ {m : ℕ} {c : Cursor} (is : a ≡ number.Got m c) {b : Number} (S : Read v64 (2 ^ 64) f (c .at) b) where
+    first-is : (s : State) (x : Element) (q : ℕ) (h : element s 5 f from ≡ got x q) → got m (c .at) ≡ got (annotation-parts s x f from q h .first) (annotation-parts s x f from q h .place)
+    first-is s x q h = sym (was-got R is .says) ∙ annotation-parts s x f from q h .one
+
+    second-is : (s : State) (x : Element) (q : ℕ) (h : element s 5 f from ≡ got x q) → v64 f (c .at) ≡ got (annotation-parts s x f from q h .second) q
+    second-is s x q h =
+        let P = annotation-parts s x f from q h in
+        let z : c .at ≡ P .place = cc (first-is s x q h) in
+        ap (λ (p : ℕ). v64 f p) z ∙ P .two
+
+    pub two-cut : {u : Refusal} → b ≡ number.No u → {l : List ℕ} {at : ℕ} {k : List ℕ} {o : Behind} → Shows (λ s. element s 5) (λ x. lineOf (elementWord x)) f from l at k o
+    two-cut is₂ = shows-none (λ s x q h. not-got (sym (was-refused S is₂ .says) ∙ second-is s x q h))
+
+    module _ {n : ℕ} {d : Cursor} (is₂ : b ≡ number.Got n d) where
+      there : (s : State) (x : Element) (q : ℕ) (h : element s 5 f from ≡ got x q) → got n (d .at) ≡ got (annotation-parts s x f from q h .second) q
+      there s x q h = sym (was-got S is₂ .says) ∙ second-is s x q h
+
+      words : (s : State) (x : Element) (q : ℕ) → element s 5 f from ≡ got x q → twoWords m n ≡ elementWord x
+      unfolding twoWords
+      words s x q h =
+          let P = annotation-parts s x f from q h in
+          let y : m ≡ P .first = cc (first-is s x q h) in
+          let z : n ≡ P .second = cc (there s x q h) in
+          let both : tab ∷ (decimal m ++ (tab ∷ decimal n)) ≡ tab ∷ elementWord x = rw (y, z) (P .is) in
+          cc both
+
+      pub two-shows : {l : List ℕ} {at : ℕ} {k : List ℕ} {r : ℕ} → Laid l at (lineOf (twoWords m n)) k r → Shows (λ s. element s 5) (λ x. lineOf (elementWord x)) f from l at k (record { next = d; at = r })
+      two-shows L =
+          record {
+            text = record { laid = λ s x q h. laid-as L (ap lineOf (words s x q h)) };
+            next = λ s x q h. cc (there s x q h);
+          }
 
 -- what is left of the kinds of elements
 pub element-low : (e : ℕ) → elementKind? e ≡ true → (e ≡ 5 → ⊥) → 5 < e

@@ -18,7 +18,7 @@ ghost use Rattle.values.specs.Chunks.{Kinds};
 ghost use Rattle.values.specs.Columns.{elementOf, Storable};
 ghost use Rattle.show.specs.Shown.{Shown, Shows};
 ghost use Rattle.show.specs.Single.{FlagWord, val, lineOf, Fixed, Width};
-ghost use Rattle.show.specs.Lines.{list, ChunkShown};
+ghost use Rattle.show.specs.Lines.{twoWords, list, ChunkShown};
 ghost use Rattle.show.specs.Maps.{Keyed, mapIn, keyIn};
 use lay::put;
 use lay::put_bytes;
@@ -307,6 +307,56 @@ fn put_v64_lines(part: &[u8], n: u32, out: &mut [u8], at: usize) -> usize
     here.at
 }
 
+// The line of two numbers, of a base type's name and of an object. It has at most 46 bytes.
+fn put_two_line(out: &mut [u8], at: usize, m: u64, n: u64) -> usize
+    ensures { λ r. ⌜ Laid (now (out .entry)) at (lineOf (twoWords m n)) (now (out .exit)) r ⌝ }
+{
+    if 46 <= room(out.len(), at) {
+        store_val(out, at);
+        let first = store_decimal(out, at + 4, m);
+        let second = store_byte(out, first, b'\t');
+        let end = store_decimal(out, second, n);
+        return store_byte(out, end, b'\n');
+    }
+    let word = put_bytes(out, at, b"val\t");
+    let first = put_decimal(out, word, m);
+    let second = put(out, first, b'\t');
+    let end = put_decimal(out, second, n);
+    put(out, end, b'\n')
+}
+
+// The line of an annotation.
+fn put_annotation_line(part: &[u8], c: Cursor, out: &mut [u8], at: usize) -> Behind
+    ensures { λ r. ⌜ Shows (λ s. repeat 1 (element s 5)) valueLine (now (part .entry)) (c .at) (now (out .entry)) at (now (out .exit)) r ⌝ }
+{
+    let a = c.v64(part);
+    let Number::Got(m, second) = a else {
+        return Behind { next: c, at };
+    };
+    let b = second.v64(part);
+    let Number::Got(n, next) = b else {
+        return Behind { next: c, at };
+    };
+    let end = put_two_line(out, at, m, n);
+    Behind { next, at: end }
+}
+
+// The lines of n of them.
+fn put_annotation_lines(part: &[u8], n: u32, out: &mut [u8], at: usize) -> usize
+    ensures { λ r. ⌜ Shown (λ s. repeat n (repeat 1 (element s 5))) printChunk (now (part .entry)) 0 (now (out .entry)) at (now (out .exit)) r ⌝ }
+{
+    let mut here = Behind {
+        next: Cursor { at: 0 },
+        at,
+    };
+    let mut rest = n;
+    while 0 < rest {
+        here = put_annotation_line(part, here.next, out, here.at);
+        rest -= 1;
+    }
+    here.at
+}
+
 // The line of a string's or an object's number.
 fn put_link_line(part: &[u8], c: Cursor, e: u64, out: &mut [u8], at: usize) -> Behind
     requires { ⌜ 13 < e ⌝ }
@@ -379,7 +429,7 @@ fn put_singles(part: &[u8], n: u32, e: u64, out: &mut [u8], at: usize) -> usize
         return put_link_lines(part, n, e, out, at);
     }
     if e == 5 {
-        return put_values(part, n, 1, e, out, at);
+        return put_annotation_lines(part, n, out, at);
     }
     put_other_lines(part, n, e, out, at)
 }
