@@ -2,12 +2,13 @@
 use mathlib.Core.Path.{_≡_, refl, sym, ap, _∙_}
 use mathlib.Core.Bool.{Bool, true, false}
 use mathlib.Core.List.{List, [], _∷_, _++_, append-nil}
-use Prim.Native.Nat.{ℕ, _*_, _^_, _≤_, _<_}
+use Prim.Native.Nat.{ℕ, _+_, _*_, _^_, _≤_, _<_, min}
 use native.Mathlib.Omega.{arith}
-use native.Mathlib.Nat.{lt-of-not-le}
+use native.Mathlib.Nat.{lt-of-not-le, min-eq-left}
 use native.Mathlib.Decide.{decLe}
 use lib.Dec.{eqb}
 use lib.IntN.{ℤ}
+use lib.ListN.{length}
 use borrow.Author.Tests.{lt-leb, ne-eqb}
 use Rattle.paper.specs.Reader.{if_then_else_, Reader, Out, got, andThen, _>>=_, give, Rule, _orNo_, hold, must, each, times, repeat}
 use Rattle.paper.specs.Numbers.{signed, fixed, v64, number}
@@ -16,7 +17,7 @@ use Rattle.paper.specs.Ledger.{Element, whole, link, annotation, Chunk, State}
 use Rattle.paper.specs.Rules.{singleKind?, elementKind?, linkRules, annotationRules}
 use Rattle.paper.specs.File.{wholeOf, twoNumbers, small, element, value}
 use Rattle.paper.specs.Listing.{ascii, tab, newline, glyph, shown, decimal, decimalℤ, hexDigits, elementWord, valueLine, printChunk}
-use Rattle.lay.specs.Laid.{Laid, laid-then, laid-as}
+use Rattle.lay.specs.Laid.{most, Laid, laid-then, laid-as}
 use Rattle.words.specs.Stored.{Stored, stored-then}
 use Rattle.laws.specs.Laws.{not-got, bind-inv}
 use Rattle.laws.specs.Bools.{not-so}
@@ -27,7 +28,9 @@ use Rattle.numbers.specs.declared.Cursor.{Cursor}
 use Rattle.numbers.specs.declared.Refusal.{Refusal}
 use Rattle.numbers.specs.declared.Number.{Number}
 use Rattle.numbers.specs.declared.Number.the-variants as number
-use Rattle.values.specs.Bare.{bare, boundOf, made, Linkable}
+use Rattle.values.specs.Pass.{forget}
+use Rattle.values.specs.Held.{fixed-there, fixed-cut}
+use Rattle.values.specs.Bare.{bare, boundOf, made, Linkable, element-stands}
 use Rattle.values.specs.Listed.{single-5}
 use Rattle.values.specs.Filling.{repeat-first, repeat-none}
 use Rattle.values.specs.Chunks.{value-constant, kind-array, kind-many, kind-plain}
@@ -90,6 +93,9 @@ module _ {e : ℕ} (K : Fixed e) {w : ℕ} (W : Width e w) {f : List ℕ} {from 
       let cut = value-cut one-number as-bare is refl in
       shows-none (λ s x q h. not-got (cut .reads s x q (linkable-low s) h))
 
+  pub fixed-nothing : {u : Refusal} → a ≡ number.No u → {l : List ℕ} {at : ℕ} {m : List ℕ} {p : ℕ} → Shown (λ s. element s e) (λ x. t (elementWord x)) f from l at m p
+  fixed-nothing is {l} {at} {m} {p} = let o : Behind = record { next = record { at = 0 }; at = p } in fixed-none is {l = l} {at = at} {m = m} {o = o} .text
+
   module _ {n : ℕ} {c : Cursor} (is : a ≡ number.Got n c) where
     pub fixed-below : n < boundOf e
     fixed-below = was-got as-bare is .below
@@ -106,6 +112,28 @@ module _ {e : ℕ} (K : Fixed e) {w : ℕ} (W : Width e w) {f : List ℕ} {from 
       where
         there : (s : State) (x : Element) (q : ℕ) → element s e f from ≡ got x q → got (elementOf v) (c .at) ≡ got x q
         there s x q h = value-got one-number as-bare is made-of .reads s x q (linkable-low s) h
+
+-- where a number of a fixed width ends
+fixed-ends : (w : ℕ) (f : List ℕ) (at n q : ℕ) → fixed w f at ≡ got n q → (at + w ≤ length f) × (at + w ≡ q)
+unfolding forget
+fixed-ends w f at n q h =
+    elim (decLe (at + w) (length f)) [
+      | yes d ↦ (let z : got (tt {0}) q ≡ got tt (at + w) = sym (ap forget h) ∙ fixed-there w f at d in (d, sym (cc z)))
+      | no d ↦ not-got (sym (fixed-cut w f at (lt-of-not-le d)) ∙ h)
+    ]
+
+-- so the place behind it is known without a reading
+pub fixed-steps :
+    {e w : ℕ} → Fixed e → Width e w → {f : List ℕ} {from : ℕ} {t : Element → List ℕ} {l : List ℕ} {at : ℕ} {m : List ℕ} {r next : ℕ} → length f ≤ most
+    → next ≡ min (from + w) most → Shown (λ s. element s e) t f from l at m r → Shows (λ s. element s e) t f from l at m (record { next = record { at = next }; at = r })
+fixed-steps {e} {w} K W {f} {from} {next = next} short is S =
+    record {
+      text = S;
+      next = λ s v q h.
+          let T = element-stands s e f from v q (single-5 e (single-low K)) (record { below = λ x. absurd (omega (arith, K .high)) }) h in
+          let (room, to) = fixed-ends w f from (T .number) q (rw (W .is) at (T .reads)) in
+          is ∙ min-eq-left (omega arith) ∙ to;
+    }
 
 -- a number as it stands there, and the text that is made of it
 module _ {f : List ℕ} {from : ℕ} {a : Number} (R : Read v64 (2 ^ 64) f from a) (w : ℕ → List ℕ) where
