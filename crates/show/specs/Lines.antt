@@ -2,12 +2,13 @@
 use mathlib.Core.Path.{_≡_, refl, sym, ap, _∙_}
 use mathlib.Core.Bool.{Bool, true, false}
 use mathlib.Core.List.{List, [], _∷_, _++_, append-nil}
-use Prim.Native.Nat.{ℕ, _*_, _^_, _≤_, _<_}
+use Prim.Native.Nat.{ℕ, _+_, _*_, _^_, _≤_, _<_, min}
 use native.Mathlib.Omega.{arith}
-use native.Mathlib.Nat.{lt-of-not-le}
+use native.Mathlib.Nat.{lt-of-not-le, min-eq-left}
 use native.Mathlib.Decide.{decLe}
 use lib.Dec.{eqb}
 use lib.IntN.{ℤ}
+use lib.ListN.{length}
 use borrow.Author.Tests.{lt-leb, ne-eqb}
 use Rattle.paper.specs.Reader.{if_then_else_, Reader, Out, got, andThen, _>>=_, give, Rule, _orNo_, hold, must, each, times, repeat}
 use Rattle.paper.specs.Numbers.{signed, fixed, v64, number}
@@ -16,7 +17,8 @@ use Rattle.paper.specs.Ledger.{Element, whole, link, annotation, Chunk, State}
 use Rattle.paper.specs.Rules.{singleKind?, elementKind?, linkRules, annotationRules}
 use Rattle.paper.specs.File.{wholeOf, twoNumbers, small, element, value}
 use Rattle.paper.specs.Listing.{ascii, tab, newline, glyph, shown, decimal, decimalℤ, hexDigits, elementWord, valueLine, printChunk}
-use Rattle.lay.specs.Laid.{Laid, laid-then, laid-as}
+use Rattle.lay.specs.Laid.{most, Laid, laid-then, laid-as}
+use Rattle.words.specs.Stored.{Stored, stored-then}
 use Rattle.laws.specs.Laws.{not-got, bind-inv}
 use Rattle.laws.specs.Bools.{not-so}
 use Rattle.laws.specs.Lines.{tabs, line-tabs}
@@ -26,7 +28,9 @@ use Rattle.numbers.specs.declared.Cursor.{Cursor}
 use Rattle.numbers.specs.declared.Refusal.{Refusal}
 use Rattle.numbers.specs.declared.Number.{Number}
 use Rattle.numbers.specs.declared.Number.the-variants as number
-use Rattle.values.specs.Bare.{bare, boundOf, made, Linkable}
+use Rattle.values.specs.Pass.{forget}
+use Rattle.values.specs.Held.{fixed-there, fixed-cut}
+use Rattle.values.specs.Bare.{bare, boundOf, made, Linkable, element-stands}
 use Rattle.values.specs.Listed.{single-5}
 use Rattle.values.specs.Filling.{repeat-first, repeat-none}
 use Rattle.values.specs.Chunks.{value-constant, kind-array, kind-many, kind-plain}
@@ -89,6 +93,9 @@ module _ {e : ℕ} (K : Fixed e) {w : ℕ} (W : Width e w) {f : List ℕ} {from 
       let cut = value-cut one-number as-bare is refl in
       shows-none (λ s x q h. not-got (cut .reads s x q (linkable-low s) h))
 
+  pub fixed-nothing : {u : Refusal} → a ≡ number.No u → {l : List ℕ} {at : ℕ} {m : List ℕ} {p : ℕ} → Shown (λ s. element s e) (λ x. t (elementWord x)) f from l at m p
+  fixed-nothing is {l} {at} {m} {p} = let o : Behind = record { next = record { at = 0 }; at = p } in fixed-none is {l = l} {at = at} {m = m} {o = o} .text
+
   module _ {n : ℕ} {c : Cursor} (is : a ≡ number.Got n c) where
     pub fixed-below : n < boundOf e
     fixed-below = was-got as-bare is .below
@@ -105,6 +112,28 @@ module _ {e : ℕ} (K : Fixed e) {w : ℕ} (W : Width e w) {f : List ℕ} {from 
       where
         there : (s : State) (x : Element) (q : ℕ) → element s e f from ≡ got x q → got (elementOf v) (c .at) ≡ got x q
         there s x q h = value-got one-number as-bare is made-of .reads s x q (linkable-low s) h
+
+-- where a number of a fixed width ends
+fixed-ends : (w : ℕ) (f : List ℕ) (at n q : ℕ) → fixed w f at ≡ got n q → (at + w ≤ length f) × (at + w ≡ q)
+unfolding forget
+fixed-ends w f at n q h =
+    elim (decLe (at + w) (length f)) [
+      | yes d ↦ (let z : got (tt {0}) q ≡ got tt (at + w) = sym (ap forget h) ∙ fixed-there w f at d in (d, sym (cc z)))
+      | no d ↦ not-got (sym (fixed-cut w f at (lt-of-not-le d)) ∙ h)
+    ]
+
+-- so the place behind it is known without a reading
+pub fixed-steps :
+    {e w : ℕ} → Fixed e → Width e w → {f : List ℕ} {from : ℕ} {t : Element → List ℕ} {l : List ℕ} {at : ℕ} {m : List ℕ} {r next : ℕ} → length f ≤ most
+    → next ≡ min (from + w) most → Shown (λ s. element s e) t f from l at m r → Shows (λ s. element s e) t f from l at m (record { next = record { at = next }; at = r })
+fixed-steps {e} {w} K W {f} {from} {next = next} short is S =
+    record {
+      text = S;
+      next = λ s v q h.
+          let T = element-stands s e f from v q (single-5 e (single-low K)) (record { below = λ x. absurd (omega (arith, K .high)) }) h in
+          let (room, to) = fixed-ends w f from (T .number) q (rw (W .is) at (T .reads)) in
+          is ∙ min-eq-left (omega arith) ∙ to;
+    }
 
 -- a number as it stands there, and the text that is made of it
 module _ {f : List ℕ} {from : ℕ} {a : Number} (R : Read v64 (2 ^ 64) f from a) (w : ℕ → List ℕ) where
@@ -198,6 +227,55 @@ pub annotation-shows :
     {f : List ℕ} {from : ℕ} {l : List ℕ} {at : ℕ} {m n : List ℕ} {o o₂ : Behind} → Shows (λ s. v64) (λ n. tab ∷ decimal n) f from l at m o
     → Shows (λ s. v64) (λ n. tab ∷ decimal n) f (o .next .at) m (o .at) n o₂ → Shows (λ s. element s 5) (λ x. tab ∷ elementWord x) f from l at n o₂
 annotation-shows {f} {from} = shows-then (λ s x q h. annotation-parts s x f from q h)
+
+-- the two words of its line
+unfoldable pub twoWords : ℕ → ℕ → List ℕ
+twoWords m n = decimal m ++ (tab ∷ decimal n)
+
+pub two-stored : {l k o p : List ℕ} {at a b r : ℕ} (m n : ℕ) → Stored l at (decimal m) k a → Stored k a (tab ∷ []) o b → Stored o b (decimal n) p r → Stored l at (twoWords m n) p r
+unfolding twoWords
+two-stored m n x y z = stored-then x (stored-then y z)
+
+pub two-laid : {l k o p : List ℕ} {at a b r : ℕ} (m n : ℕ) → Laid l at (decimal m) k a → Laid k a (tab ∷ []) o b → Laid o b (decimal n) p r → Laid l at (twoWords m n) p r
+unfolding twoWords
+two-laid m n x y z = laid-then x (laid-then y z)
+
+module _ {f : List ℕ} {from : ℕ} {a : Number} (R : Read v64 (2 ^ 64) f from a) where
+  pub two-none : {u : Refusal} → a ≡ number.No u → {l : List ℕ} {at : ℕ} {k : List ℕ} {o : Behind} → Shows (λ s. element s 5) (λ x. lineOf (elementWord x)) f from l at k o
+  two-none is = shows-none (λ s x q h. not-got (sym (was-refused R is .says) ∙ annotation-parts s x f from q h .one))
+
+  module _ {m : ℕ} {c : Cursor} (is : a ≡ number.Got m c) {b : Number} (S : Read v64 (2 ^ 64) f (c .at) b) where
+    first-is : (s : State) (x : Element) (q : ℕ) (h : element s 5 f from ≡ got x q) → got m (c .at) ≡ got (annotation-parts s x f from q h .first) (annotation-parts s x f from q h .place)
+    first-is s x q h = sym (was-got R is .says) ∙ annotation-parts s x f from q h .one
+
+    second-is : (s : State) (x : Element) (q : ℕ) (h : element s 5 f from ≡ got x q) → v64 f (c .at) ≡ got (annotation-parts s x f from q h .second) q
+    second-is s x q h =
+        let P = annotation-parts s x f from q h in
+        let z : c .at ≡ P .place = cc (first-is s x q h) in
+        ap (λ (p : ℕ). v64 f p) z ∙ P .two
+
+    pub two-cut : {u : Refusal} → b ≡ number.No u → {l : List ℕ} {at : ℕ} {k : List ℕ} {o : Behind} → Shows (λ s. element s 5) (λ x. lineOf (elementWord x)) f from l at k o
+    two-cut is₂ = shows-none (λ s x q h. not-got (sym (was-refused S is₂ .says) ∙ second-is s x q h))
+
+    module _ {n : ℕ} {d : Cursor} (is₂ : b ≡ number.Got n d) where
+      there : (s : State) (x : Element) (q : ℕ) (h : element s 5 f from ≡ got x q) → got n (d .at) ≡ got (annotation-parts s x f from q h .second) q
+      there s x q h = sym (was-got S is₂ .says) ∙ second-is s x q h
+
+      words : (s : State) (x : Element) (q : ℕ) → element s 5 f from ≡ got x q → twoWords m n ≡ elementWord x
+      unfolding twoWords
+      words s x q h =
+          let P = annotation-parts s x f from q h in
+          let y : m ≡ P .first = cc (first-is s x q h) in
+          let z : n ≡ P .second = cc (there s x q h) in
+          let both : tab ∷ (decimal m ++ (tab ∷ decimal n)) ≡ tab ∷ elementWord x = rw (y, z) (P .is) in
+          cc both
+
+      pub two-shows : {l : List ℕ} {at : ℕ} {k : List ℕ} {r : ℕ} → Laid l at (lineOf (twoWords m n)) k r → Shows (λ s. element s 5) (λ x. lineOf (elementWord x)) f from l at k (record { next = d; at = r })
+      two-shows L =
+          record {
+            text = record { laid = λ s x q h. laid-as L (ap lineOf (words s x q h)) };
+            next = λ s x q h. cc (there s x q h);
+          }
 
 -- what is left of the kinds of elements
 pub element-low : (e : ℕ) → elementKind? e ≡ true → (e ≡ 5 → ⊥) → 5 < e

@@ -18,8 +18,9 @@ ghost use Rattle.values.specs.Chunks.{Kinds};
 ghost use Rattle.values.specs.Columns.{elementOf, Storable};
 ghost use Rattle.show.specs.Shown.{Shown, Shows};
 ghost use Rattle.show.specs.Single.{FlagWord, val, lineOf, Fixed, Width};
-ghost use Rattle.show.specs.Lines.{list, ChunkShown};
+ghost use Rattle.show.specs.Lines.{twoWords, list, ChunkShown};
 ghost use Rattle.show.specs.Maps.{Keyed, mapIn, keyIn};
+use lay::behind;
 use lay::put;
 use lay::put_bytes;
 use numbers::Cursor;
@@ -209,18 +210,58 @@ fn width_of(e: u64) -> usize
     }
 }
 
-// A tab, and the word of the bool, the fixed number or the float of kind e that comes next, by way of its value.
-fn put_other(part: &[u8], c: Cursor, e: u64, out: &mut [u8], at: usize) -> Behind
+// A tab, and the word of the bool, the fixed number or the float of kind e that comes next, by way of its value: the place behind the
+// word alone, which no memory is needed for.
+fn put_other(part: &[u8], c: Cursor, e: u64, out: &mut [u8], at: usize) -> usize
     requires { ⌜ Fixed e ⌝ }
-    ensures { λ r. ⌜ Shows (λ s. element s e) (λ x. tab ∷ elementWord x) (now (part .entry)) (c .at) (now (out .entry)) at (now (out .exit)) r ⌝ }
+    ensures { λ r. ⌜ Shown (λ s. element s e) (λ x. tab ∷ elementWord x) (now (part .entry)) (c .at) (now (out .entry)) at (now (out .exit)) r ⌝ }
 {
     let a = c.fixed(part, width_of(e));
-    let Number::Got(n, next) = a else {
-        return Behind { next: c, at };
+    let Number::Got(n, _) = a else {
+        return at;
     };
     let word = put(out, at, b'\t');
-    let end = put_element(out, word, value_of(n, e));
+    put_element(out, word, value_of(n, e))
+}
+
+// The same, with the place behind what was read: it is known from the width.
+fn put_wide(part: &[u8], c: Cursor, e: u64, width: usize, out: &mut [u8], at: usize) -> Behind
+    requires { ⌜ Fixed e × Width e width ⌝ }
+    ensures { λ r. ⌜ Shows (λ s. element s e) (λ x. tab ∷ elementWord x) (now (part .entry)) (c .at) (now (out .entry)) at (now (out .exit)) r ⌝ }
+{
+    let end = put_other(part, c, e, out, at);
+    let next = Cursor {
+        at: behind(c.at, width),
+    };
     Behind { next, at: end }
+}
+
+// m of them.
+fn put_others(part: &[u8], c: Cursor, m: u64, e: u64, out: &mut [u8], at: usize) -> Behind
+    requires { ⌜ Fixed e ⌝ }
+    ensures { λ r. ⌜ Shows (λ s. repeat m (element s e)) (tabs elementWord) (now (part .entry)) (c .at) (now (out .entry)) at (now (out .exit)) r ⌝ }
+{
+    let width = width_of(e);
+    let mut here = Behind { next: c, at };
+    let mut rest = m;
+    while 0 < rest {
+        here = put_wide(part, here.next, e, width, out, here.at);
+        rest -= 1;
+    }
+    here
+}
+
+// Whether all elements of kind e have as many bytes.
+fn is_fixed(e: u64) -> bool
+    ensures { λ r. ⌜ (r ≡ true → Fixed e) ⌝ }
+{
+    if e < 6 {
+        return false;
+    }
+    if e == 11 {
+        return false;
+    }
+    e < 14
 }
 
 // A tab, and the word of the element of kind e that comes next. The kinds that are met most have a way of their own, which is
@@ -238,7 +279,11 @@ fn put_next(part: &[u8], c: Cursor, e: u64, out: &mut [u8], at: usize) -> Behind
     if e == 5 {
         return put_annotation(part, c, out, at);
     }
-    put_other(part, c, e, out, at)
+    let end = put_other(part, c, e, out, at);
+    let next = Cursor {
+        at: behind(c.at, width_of(e)),
+    };
+    Behind { next, at: end }
 }
 
 // m such elements. Where there are none, e need not be the kind of an element: a constant has no other.
@@ -246,6 +291,9 @@ fn put_elements(part: &[u8], c: Cursor, m: u64, e: u64, out: &mut [u8], at: usiz
     requires { ⌜ (0 < m → elementKind? e ≡ true) ⌝ }
     ensures { λ r. ⌜ Shows (λ s. repeat m (element s e)) (tabs elementWord) (now (part .entry)) (c .at) (now (out .entry)) at (now (out .exit)) r ⌝ }
 {
+    if is_fixed(e) {
+        return put_others(part, c, m, e, out, at);
+    }
     let mut here = Behind { next: c, at };
     let mut rest = m;
     while 0 < rest {
@@ -302,6 +350,56 @@ fn put_v64_lines(part: &[u8], n: u32, out: &mut [u8], at: usize) -> usize
     let mut rest = n;
     while 0 < rest {
         here = put_v64_line(part, here.next, out, here.at);
+        rest -= 1;
+    }
+    here.at
+}
+
+// The line of two numbers, of a base type's name and of an object. It has at most 46 bytes.
+fn put_two_line(out: &mut [u8], at: usize, m: u64, n: u64) -> usize
+    ensures { λ r. ⌜ Laid (now (out .entry)) at (lineOf (twoWords m n)) (now (out .exit)) r ⌝ }
+{
+    if 46 <= room(out.len(), at) {
+        store_val(out, at);
+        let first = store_decimal(out, at + 4, m);
+        let second = store_byte(out, first, b'\t');
+        let end = store_decimal(out, second, n);
+        return store_byte(out, end, b'\n');
+    }
+    let word = put_bytes(out, at, b"val\t");
+    let first = put_decimal(out, word, m);
+    let second = put(out, first, b'\t');
+    let end = put_decimal(out, second, n);
+    put(out, end, b'\n')
+}
+
+// The line of an annotation.
+fn put_annotation_line(part: &[u8], c: Cursor, out: &mut [u8], at: usize) -> Behind
+    ensures { λ r. ⌜ Shows (λ s. repeat 1 (element s 5)) valueLine (now (part .entry)) (c .at) (now (out .entry)) at (now (out .exit)) r ⌝ }
+{
+    let a = c.v64(part);
+    let Number::Got(m, second) = a else {
+        return Behind { next: c, at };
+    };
+    let b = second.v64(part);
+    let Number::Got(n, next) = b else {
+        return Behind { next: c, at };
+    };
+    let end = put_two_line(out, at, m, n);
+    Behind { next, at: end }
+}
+
+// The lines of n of them.
+fn put_annotation_lines(part: &[u8], n: u32, out: &mut [u8], at: usize) -> usize
+    ensures { λ r. ⌜ Shown (λ s. repeat n (repeat 1 (element s 5))) printChunk (now (part .entry)) 0 (now (out .entry)) at (now (out .exit)) r ⌝ }
+{
+    let mut here = Behind {
+        next: Cursor { at: 0 },
+        at,
+    };
+    let mut rest = n;
+    while 0 < rest {
+        here = put_annotation_line(part, here.next, out, here.at);
         rest -= 1;
     }
     here.at
@@ -379,7 +477,7 @@ fn put_singles(part: &[u8], n: u32, e: u64, out: &mut [u8], at: usize) -> usize
         return put_link_lines(part, n, e, out, at);
     }
     if e == 5 {
-        return put_values(part, n, 1, e, out, at);
+        return put_annotation_lines(part, n, out, at);
     }
     put_other_lines(part, n, e, out, at)
 }

@@ -1,10 +1,15 @@
 use mathlib.Core.List.{_∷_}
 use native.Mathlib.Omega.{arith}
 use Rattle.paper.specs.Listing.{tab}
-use Rattle.show.specs.Lines.{link-shows, element-low}
+use Rattle.lay.specs.Laid.{most}
+use Rattle.show.specs.Lines.{fixed-steps, link-shows, element-low}
 use borrow.Author.Needs.{needs}
 use Rattle.show.proofs.put_next.Statement.{statement}
 use Rattle.show.proofs.put_next.Tie as tie
+
+returns-4 : tie.Need-returns-4
+unfolding most
+returns-4 c = fixed-steps (record { low = element-low _ (c .before .before .before .before .before .before .before .before .before .before .before .pre) (c .before .before .before .before .before .before .if3 .left); high = omega arith; other = c .before .before .before .before .before .before .before .before .if1 .left }) (c .before .width-of .ensures) (omega arith) (c .behind .ensures) (c .before .before .before .before .put-other .ensures)
 
 pub put-next-spec : {M : Type 1} → statement M
 put-next-spec =
@@ -20,5 +25,7 @@ put-next-spec =
     (λ c. search needs)
     (λ c. rw (c .before .before .before .before .if3 .taken) (c .before .before .put-annotation .ensures))
     (λ c κs. record { low = element-low _ (c .before .before .before .before .before .before .pre) (c .before .if3 .left); high = omega arith; other = c .before .before .before .if1 .left })
+    (λ c κs. record { low = element-low _ (c .before .before .before .before .before .before .before .before .before .pre) (c .before .before .before .before .if3 .left); high = omega arith; other = c .before .before .before .before .before .before .if1 .left })
+    (λ c κs. search needs)
     (λ c. search needs)
-    (λ c. search needs))
+    returns-4)
