@@ -11,8 +11,8 @@ use borrow.Author.Tests.{leb-true}
 use Rattle.paper.specs.Reader.{if_then_else_, Reader, Out, got, no, Rule, _orNo_, _>>=_, times}
 use Rattle.paper.specs.Numbers.{v64, number}
 use Rattle.paper.specs.Bounds.{mostFields}
-use Rattle.paper.specs.Lists.{flat, given?}
-use Rattle.paper.specs.Ledger.{New, Head, Entry, State, fieldsOf}
+use Rattle.paper.specs.Lists.{flat, given?, places}
+use Rattle.paper.specs.Ledger.{New, Head, Entry, State, Field, fieldsOf, owns?}
 use Rattle.paper.specs.Rules.{anyType, typeOf, afterHead, knownDue, fieldCountRules, afterEntry}
 use Rattle.paper.specs.Keeps.{hold?}
 use Rattle.paper.specs.File.{Upto, endOffset, newField, uptoNew, what, ends, head, fields, entry, uptoEntry}
@@ -20,7 +20,7 @@ use Rattle.paper.specs.Listing.{typeLine, oldLine, newLine, printEntry, printEn
 use Rattle.laws.specs.Bools.{and-split}
 use Rattle.laws.specs.Laws.{not-got, bind-inv}
 use Rattle.lay.specs.Laid.{most, Laid, laid-then, laid-as, Leads, leads-start, leads-on, leads-end}
-use Rattle.table.specs.View.{maybe, view, said, Holds}
+use Rattle.table.specs.View.{maybe, view, Said, said, Holds}
 use Rattle.numbers.specs.Cursors.{Read, was-got, was-refused}
 use Rattle.numbers.specs.declared.Cursor.{Cursor}
 use Rattle.numbers.specs.declared.Refusal.{Refusal}
@@ -35,7 +35,7 @@ use Rattle.reader.specs.Going.{Going, goEntry}
 use Rattle.reader.specs.Fields.{oldsOf, going, outGoing}
 use Rattle.reader.specs.Entries.{entryGo, entriesGo}
 use Rattle.reader.specs.EntryLaws.{Passed, EntriesGoing, entries-begin, entries-done, entries-no, entries-next}
-use Rattle.reader.specs.Heads.{due, headOf, outTop, TopRead}
+use Rattle.reader.specs.Heads.{due, headOf, outTop, toldTop, TopRead, addHead, leftTop, TopEntered}
 use Rattle.reader.specs.Runs.{times-many}
 use Rattle.listing.specs.declared.fields.Listed.{Listed}
 use Rattle.listing.specs.declared.fields.Listed.the-variants as listed
@@ -139,6 +139,21 @@ enough s known n h =
     let (_, b) = and-split (leb (length (s .fields) + (n - known)) mostFields) _ h in
     let (c, _) = and-split (leb known n) true b in
     leb-true known n c
+
+-- ── a head that was entered was read ──
+
+pub entered-read : {f l l₁ : List ℕ} {at : ℕ} {a : Topped} → TopEntered f l l₁ at a → TopRead (view f l) f at a
+entered-read {f} {l} {l₁} {at} {a} e = record { says = e .says; inside = e .inside; told = go a (e .left) }
+  where
+    go : (a : Topped) → leftTop f l l₁ a → toldTop (view f l) a
+    go (topped.Got h c) x = x .placed
+    go (topped.No u) x = tt
+
+-- the known fields are the same before it and behind it
+pub olds-kept : {f l l₁ : List ℕ} {at : ℕ} {top : Top} {c : Cursor} → TopEntered f l l₁ at (topped.Got top c) → {known : ℕ} → known ≡ length (oldsOf (top .count) (view f l₁) (top .name .typ)) → known ≡ length (oldsOf (top .count) (view f l) (top .name .typ))
+unfolding oldsOf fieldsOf addHead afterHead
+olds-kept {top = top} e is =
+    is ∙ ap (λ (x : List Field). length (if eqb (top .count) 0 then [] else places (owns? (top .name .typ)) 0 x)) (ap (λ (g : Said). g .state .fields) (e .left .now .says))
 
 -- ── the ways out ──
 

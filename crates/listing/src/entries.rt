@@ -1,12 +1,14 @@
 // The lines of an entry, and of all entries of a block.
 ghost use mathlib.Core.Path.{_≡_};
+ghost use mathlib.Core.List.{List};
+ghost use Prim.Native.Nat.{ℕ};
 ghost use Rattle.lay.specs.Laid.{Laid};
 ghost use Rattle.words.specs.Answers.{option};
 ghost use Rattle.table.specs.View.{Holds};
 ghost use Rattle.paper.specs.Listing.{typeLine};
 ghost use Rattle.paper.specs.Lists.{given?};
 ghost use Rattle.table.specs.View.{maybe};
-ghost use Rattle.reader.specs.Heads.{due, headOf};
+ghost use Rattle.reader.specs.Heads.{due, headOf, TopEntered};
 ghost use Rattle.table.specs.View.{said};
 ghost use Rattle.reader.specs.Sound.{Sound};
 ghost use Rattle.listing.specs.Entries.{EntryPrinted, EntriesDone};
@@ -15,12 +17,13 @@ use crate::fields::print_fields;
 use lines::put_type;
 use numbers::Cursor;
 use numbers::Number;
-use reader::entries::entry;
+use reader::fields::fields;
 use reader::fields::known_fields;
 use reader::heads::Top;
 use reader::heads::Topped;
-use reader::heads::read_head;
+use reader::heads::refused_top;
 use reader::kinds::Named;
+use reader::known::enter_any;
 use words::read::Maybe;
 
 // What a reading answered, and the place behind what was printed meanwhile.
@@ -62,18 +65,14 @@ fn put_head(out: &mut [u8], at: usize, top: Top, n: u64) -> usize
     put_type(out, at, name.number, sup, start, top.count as u64, n)
 }
 
-// The lines of the entry at c, of which the table says what is known before it. A read that fails ends the entry at once: the
-// refusal is given by `entry`, which reads the same bytes next and holds them to their rules.
-fn print_entry(file: &[u8], c: Cursor, work: &[u32], out: &mut [u8], at: usize) -> usize
+// The lines of an entry whose head was read and entered, and has c behind it. A read that fails ends the entry at once: the
+// refusal is given by `fields`, which reads the same bytes next and holds them to their rules.
+fn print_entry(file: &[u8], c: Cursor, work: &[u32], top: Top, out: &mut [u8], at: usize) -> usize
     requires { ⌜ Holds (now file) (now work) ⌝ }
-    ensures { λ r. ⌜ EntryPrinted (now (file .entry)) (now (work .entry)) (c .at) (now (out .entry)) at (now (out .exit)) r ⌝ }
+    ensures { λ r. ⌜ ((l : List ℕ) (from : ℕ) → TopEntered (now (file .entry)) l (now (work .entry)) from (Topped.Got top c) → EntryPrinted (now (file .entry)) l from (now (out .entry)) at (now (out .exit)) r) ⌝ }
 {
-    let a = read_head(file, c, work);
-    let Topped::Got(top, c1) = a else {
-        return at;
-    };
-    let b = c1.v64(file);
-    let Number::Got(n, c2) = b else {
+    let a = c.v64(file);
+    let Number::Got(n, fields_at) = a else {
         return at;
     };
     let name = top.name;
@@ -82,15 +81,15 @@ fn print_entry(file: &[u8], c: Cursor, work: &[u32], out: &mut [u8], at: usize) 
         return at;
     }
     let behind_head = put_head(out, at, top, n);
-    let all = print_fields(file, c2, known, n - known, out, behind_head);
+    let all = print_fields(file, fields_at, known, n - known, out, behind_head);
     let Listed::Got(_, end) = all else {
         return at;
     };
     end
 }
 
-// The lines of so many entries. Each is printed from what the table says before it, and then read into the table: the answer
-// is that of reading them all.
+// The lines of so many entries. Of each the head is entered, then it is printed, and then its fields are entered: the answer is
+// that of reading them all.
 pub fn print_entries(
     file: &[u8],
     c: Cursor,
@@ -111,8 +110,14 @@ pub fn print_entries(
     let mut p = at;
     let mut rest = count;
     while 0 < rest {
-        p = print_entry(file, Cursor { at: here }, work, out, p);
-        let a = entry(file, Cursor { at: here }, work, last, any);
+        let h = enter_any(file, Cursor { at: here }, work);
+        let Topped::Got(top, c1) = h else {
+            let read = Number::No(refused_top(h));
+            return Printed { read, at: p };
+        };
+        p = print_entry(file, c1, work, top, out, p);
+        let name = top.name;
+        let a = fields(file, c1, work, name.typ, top.count, last, any);
         let Number::Got(e, next) = a else {
             return Printed { read: a, at: p };
         };

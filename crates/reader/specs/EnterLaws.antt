@@ -149,7 +149,7 @@ module _ {g : Said} (k : Sound g) {t : Top} (p : Placed (g .state) t) where
   head-opens is =
       rw (is, p .name .typ) (opened {g = g} {g′ = addHead g (headOf t)} k headed refl refl (subst (λ (u : ℕ). entered? (g .state) u ≡ false) (p .name .typ) not-entered))
 
-no-up : (up : ℕ) → given? (maybe up) ≡ false → up ≡ 0
+pub no-up : (up : ℕ) → given? (maybe up) ≡ false → up ≡ 0
 unfolding given?
 no-up zero e = refl
 no-up (suc u) e = differ (cc e)

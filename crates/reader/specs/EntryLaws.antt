@@ -14,7 +14,7 @@ use Rattle.numbers.specs.declared.Number.{Number}
 use Rattle.numbers.specs.declared.Number.the-variants.{Got, No}
 use Rattle.numbers.specs.declared.Cursor.{Cursor}
 use Rattle.numbers.specs.declared.Refusal.{Refusal}
-use Rattle.table.specs.View.{fldsOf, logOf, view, Ok, Holds, Said, said, rangesIn}
+use Rattle.table.specs.View.{fldsOf, logOf, view, Holds, Said, said, rangesIn}
 use Rattle.table.specs.Answers.{rangeIn, noRange}
 use Rattle.table.specs.declared.rows.RangeRow.{RangeRow}
 use Rattle.reader.specs.declared.heads.Top.{Top}
@@ -26,7 +26,7 @@ use Rattle.reader.specs.Sound.{Sound, Open}
 use Rattle.reader.specs.Going.{Going, goHead}
 use Rattle.reader.specs.Fields.{going, fieldsGo, outGoing, Went}
 use Rattle.reader.specs.Heads.{noTop, headOf, addHead, TopEntered}
-use Rattle.reader.specs.KnownHeads.{HeadKnown, some-range, last-typ, last-count}
+use Rattle.reader.specs.KnownHeads.{HeadKnown, last-typ, last-count}
 use Rattle.reader.specs.Strings.{Did, addStrings}
 use Rattle.reader.specs.StringLaws.{strings-sound}
 use Rattle.reader.specs.Entries.{entryGo, entry-is, entriesGo, entries-stop, entries-step, frontGo}
@@ -77,22 +77,16 @@ module _ {f l l₁ : List ℕ} (named : ℕ → Bool) (end : ℕ) {at : ℕ} {a 
 module _ {f l l₁ : List ℕ} {at at₁ : ℕ} (k : HeadKnown f l l₁ at at₁) where
   -- nothing was done
   module _ (is : at₁ ≡ 0) where
-    pub known-still : Holds f l × Sound (said f l) → Holds f l₁ × Sound (said f l₁)
-    known-still h = rw (k .none is) h
-
     pub known-anew : (named : ℕ → Bool) (end : ℕ) {l₂ : List ℕ} {r : Number} → Passed f l₂ at r (entryGo named (going f l₁ end) f at) → Passed f l₂ at r (entryGo named (going f l end) f at)
     known-anew named end {l₂} {r} p = subst (λ (x : List ℕ). Passed f l₂ at r (entryGo named (going f x end) f at)) (k .none is) p
 
   module _ (ne : at₁ ≡ 0 → ⊥) where
-    pub known-range-there : Ok l₁ × (0 < rangesIn l₁)
-    known-range-there = let (h, e) = k .some ne in (e .left .now .holds .ok, some-range (e .left))
-
     module _ {last : RangeRow} (row : rangeIn last ≡ getD (logOf l₁) (rangesIn l₁ - 1) noRange) where
       pub known-opens : Holds f l₁ × Open (said f l₁) (last .typ) 0
-      known-opens = let (h, e) = k .some ne in (e .left .now .holds, rw (last-typ (e .left) row) (e .left .opens))
+      known-opens = let (h, w) = k .some ne in (w .top .left .now .holds, rw (last-typ (w .top .left) row) (w .top .left .opens))
 
       pub known-got : (named : ℕ → Bool) (end : ℕ) {l₂ : List ℕ} {i : ℕ} {r : Number} → Went f l₂ (last .typ) i at₁ r (fieldsGo named (last .typ) (last .count) (going f l₁ end) f at₁) → Passed f l₂ at r (entryGo named (going f l end) f at)
-      known-got named end went = let (h, e) = k .some ne in entry-got named end e refl (last-typ (e .left) row) (rw (last-count (e .left) row) at went)
+      known-got named end went = let (h, w) = k .some ne in entry-got named end (w .top) refl (last-typ (w .top .left) row) (rw (last-count (w .top .left) row) at went)
 
 -- ── all entries ──
 

@@ -5,16 +5,19 @@ ghost use mathlib.Core.Path.{_≡_};
 ghost use mathlib.Core.Bool.{true, false};
 ghost use Prim.Native.Nat.{_<_, _≤_};
 ghost use lib.ListN.{length};
-ghost use Rattle.table.specs.View.{view, said, Ok, Holds, stringsIn};
+ghost use Rattle.table.specs.View.{view, said, Ok, Holds, stringsIn, rangesIn};
 ghost use Rattle.reader.specs.Sound.{Sound};
-ghost use Rattle.reader.specs.Heads.{Placed, Entered};
-ghost use Rattle.reader.specs.KnownHeads.{OneByte, Called, Knows, behind, StartByte, CountByte, HeadKnown};
+ghost use Rattle.reader.specs.Heads.{Placed, Entered, TopEntered};
+ghost use Rattle.reader.specs.KnownHeads.{OneByte, Called, Knows, behind, StartByte, CountByte, HeadKnown, LastTop};
 use super::heads::Name;
 use super::heads::Super;
 use super::heads::Top;
+use super::heads::Topped;
 use super::heads::base_for;
+use super::heads::enter_head;
 use super::heads::few_objects;
 use super::heads::in_range;
+use numbers::Cursor;
 use table::pushes::push_range;
 use table::ranges::entered;
 use table::ranges::pool_before;
@@ -199,4 +202,40 @@ pub fn known_head(file: &[u8], at: usize, work: &mut [u32]) -> usize
     };
     enter_known(file, work, top);
     next + 1
+}
+
+// The head of a known type that was entered last, as it stands at a place.
+fn last_top(file: &[u8], at: usize, work: &[u32]) -> Top
+    requires { ⌜ Ok (now work) × (0 < rangesIn (now work)) ⌝ }
+    requires { ⌜ at < length (now file) ⌝ }
+    ensures { λ r. ⌜ LastTop (now (file .entry)) at (now (work .entry)) r ⌝ }
+{
+    let last = range_at(work, ranges(work) - 1);
+    let name = Name {
+        number: wide(file[at]),
+        typ: last.typ,
+        fresh: false,
+    };
+    let up = super_of(work, last.typ);
+    let above = Super { number: 0, up };
+    Top {
+        name,
+        above,
+        start: last.start,
+        count: last.count,
+    }
+}
+
+// Reads a head of any form, and enters it. A head that is refused leaves the table as it was.
+pub fn enter_any(file: &[u8], c: Cursor, work: &mut [u32]) -> Topped
+    requires { ⌜ Holds (now file) (now work) ⌝ }
+    requires { ⌜ Sound (said (now file) (now work)) ⌝ }
+    ensures { λ r. ⌜ TopEntered (now (file .entry)) (now (work .entry)) (now (work .exit)) (c .at) r ⌝ }
+{
+    let at = known_head(file, c.at, work);
+    if at == 0 {
+        return enter_head(file, c, work);
+    }
+    let top = last_top(file, c.at, work);
+    Topped::Got(top, Cursor { at })
 }
