@@ -1,21 +1,25 @@
 -- The call: the file whose listing a text is. Assumes nothing.
 use mathlib.Core.Path.{_≡_, refl, sym, ap, _∙_, subst}
+use mathlib.Core.Bool.{true}
 use mathlib.Core.List.{List, [], _∷_, _++_}
 use mathlib.Core.Option.{Option, none, some}
 use Prim.Native.Nat.{ℕ, _+_, _^_, _≤_, _<_}
 use native.Mathlib.Omega.{arith}
 use lib.ListN.{length, take, drop, length-take}
-use borrow.Author.Tests.{le-leb, lt-leb}
+use borrow.Author.Tests.{le-leb, lt-leb, leb-true}
 use Rattle.paper.specs.Reader.{if_then_else_}
 use Rattle.paper.specs.Bounds.{mostBytes, mostPairs, tableLength}
+use Rattle.paper.specs.Ledger.{Ledger}
 use Rattle.paper.specs.Encode.{encode}
+use Rattle.paper.specs.Keeps.{keeps?}
 use Rattle.paper.specs.Listing.{print}
 use Rattle.paper.specs.Scan.{short, fileOf}
 use Rattle.paper.specs.Calls.{refused, _>>=_, _>>_, need, found, fitted, build, howMany, leftIn, writes, overFront, afterBuild}
 use Rattle.lay.specs.Laid.{most}
 use Rattle.laws.specs.Says.{Bytes}
 use Rattle.laws.specs.Promises.{accepted-exactly, forth, fitted-done}
-use Rattle.laws.specs.Short.{print-short}
+use Rattle.laws.specs.Bools.{every-split}
+use Rattle.laws.specs.Room.{print-room, empty-few}
 use Rattle.table.specs.Counts.{noughts, Begun}
 use Rattle.walk.specs.FileLaws.{steady-begun, state-begun}
 use Rattle.texts.specs.declared.Taken.{Taken}
@@ -41,19 +45,24 @@ module _ (room : ℕ) (t : List ℕ) where
   unfolding build need found _>>=_ _>>_
   build-some h = rw h
 
--- a text whose places do not fit 32 bits is no listing
-pub text-too-long : (t : List ℕ) → Bytes t → 4294967295 < length t → fileOf t ≡ none
+-- a listing has fewer bytes than what the table keeps of a string's place can say
+print-few : (l : Ledger) → keeps? l ≡ true → length (print l) < 66000000
+unfolding keeps?
+print-few l h = let (a, _) = every-split _ h in omega (arith, leb-true (length (encode l)) mostBytes a, print-room l h, empty-few l h)
+
+-- so a longer text is none
+pub text-too-long : (t : List ℕ) → Bytes t → 65999999 < length t → fileOf t ≡ none
 text-too-long t b h = go (fileOf t) refl
   where
     go : (o : Option (List ℕ)) → fileOf t ≡ o → o ≡ none
     go none is = refl
     go (some f) is =
         let (l, a, p, _) = forth t f b is in
-        let s : length (print l) < 4294967296 = print-short l (accepted-exactly f l .0 a .0) in
+        let s : length (print l) < 66000000 = print-few l (accepted-exactly f l .0 a .0) in
         let q : length (print l) ≡ length t = ap length p in
         absurd (omega arith)
 
-pub text-ready : {t l : List ℕ} → length t < 4294967296 → Begun l → Bytes t → TextReady t l
+pub text-ready : {t l : List ℕ} → length t < 66000000 → Begun l → Bytes t → TextReady t l
 text-ready {t} lt begun bytes = record { steady = steady-begun t lt begun; bytes = bytes; none = state-begun t lt begun }
 
 -- ── a text that was read, by its file's length ──
@@ -118,7 +127,7 @@ module _ {t ps : List ℕ} {a : TextRead} (C : FileCounted t ps a) where
             (ap (λ (x : List ℕ). x ++ drop (k .at) out) stands ∙ ap (λ (n : ℕ). file ++ drop n out) (sym many))
 
 -- a text that is too long is not read at all
-pub build-too-long : (t : List ℕ) → Bytes t → 4294967295 < length t → {out : List ℕ} → Wrote (build (length out) tableLength t) out (Refused 20) out
+pub build-too-long : (t : List ℕ) → Bytes t → 65999999 < length t → {out : List ℕ} → Wrote (build (length out) tableLength t) out (Refused 20) out
 build-too-long t b h {out} = wrote-none (build-none (length out) t (text-too-long t b h))
 
 -- ── by the length of the lent work table ──

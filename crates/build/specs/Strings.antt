@@ -86,7 +86,7 @@ module _ {t l₀ : List ℕ} {n at₀ : ℕ} {l : List ℕ} {rest at : ℕ} (g :
 
         pub stringing-next : {l₁ : List ℕ} → Pushed 0 16 2 (start ∷ end ∷ []) l l₁ → length l₁ ≡ length l → Stringing t l₀ n at₀ l₁ (rest - 1) (next .at)
         stringing-next {l₁} p same =
-            let now : Now t l₁ (addString (said t l) (slice start end t)) = pushed-string (g .holds) (omega (arith, g .room)) (there .inside) (p .push) in
+            let now : Now t l₁ (addString (said t l) (slice start end t)) = pushed-string (g .holds) (omega (arith, g .room)) (omega (arith, there .forward, there .inside)) (there .inside) (p .push) in
             record {
               holds = now .holds;
               long = same ∙ g .long;

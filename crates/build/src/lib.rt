@@ -23,7 +23,7 @@ use texts::TextRead;
 
 // How long the file of a text is, and where the values of its pairs begin.
 fn count_file(text: &[u8], table: &mut [u32], places: &mut [u64]) -> TextRead
-    requires { ⌜ (length (now table) ≡ tableLength) × (length (now text) < 4294967296) × (length (now places) ≡ mostPairs) ⌝ }
+    requires { ⌜ (length (now table) ≡ tableLength) × (length (now text) < 66000000) × (length (now places) ≡ mostPairs) ⌝ }
     ensures { λ r. ⌜ FileCounted (now (text .entry)) (now (places .exit)) r ⌝ }
 {
     begin(table);
@@ -32,7 +32,7 @@ fn count_file(text: &[u8], table: &mut [u32], places: &mut [u64]) -> TextRead
 
 // The file of a text that is known to have one, of just the length that is lent.
 fn fill_file(text: &[u8], table: &mut [u32], places: &[u64], out: &mut [u8])
-    requires { ⌜ (length (now table) ≡ tableLength) × (length (now text) < 4294967296) × FileGiven (now text) (now places) ⌝ }
+    requires { ⌜ (length (now table) ≡ tableLength) × (length (now text) < 66000000) × FileGiven (now text) (now places) ⌝ }
     ensures { λ _. ⌜ Filled (now (text .entry)) (now (out .entry)) (now (out .exit)) ⌝ }
 {
     begin(table);
@@ -41,7 +41,7 @@ fn fill_file(text: &[u8], table: &mut [u32], places: &[u64], out: &mut [u8])
 
 // Nothing is written before all of the text is known to be the listing of a file, and the file to fit.
 fn write_file(text: &[u8], table: &mut [u32], out: &mut [u8]) -> Reply
-    requires { ⌜ (length (now table) ≡ tableLength) × (length (now text) < 4294967296) ⌝ }
+    requires { ⌜ (length (now table) ≡ tableLength) × (length (now text) < 66000000) ⌝ }
     ensures { λ r. ⌜ Wrote (build (length (now (out .entry))) tableLength (now (text .entry))) (now (out .entry)) r (now (out .exit)) ⌝ }
 {
     let mut places = [0u64; Ledger::PAIRS as usize];
@@ -63,12 +63,12 @@ fn write_file(text: &[u8], table: &mut [u32], out: &mut [u8]) -> Reply
     Reply::Done(count as u64)
 }
 
-// No file has a listing whose places pass 32 bits, which is what the table keeps of them.
+// No file has a listing whose places pass 66,000,000, which is what the table keeps of a string's.
 fn build_read(text: &[u8], table: &mut [u32], out: &mut [u8]) -> Reply
     requires { ⌜ length (now table) ≡ tableLength ⌝ }
     ensures { λ r. ⌜ Wrote (build (length (now (out .entry))) tableLength (now (text .entry))) (now (out .entry)) r (now (out .exit)) ⌝ }
 {
-    if 4294967295 < text.len() {
+    if 65999999 < text.len() {
         return Reply::Refused(20);
     }
     write_file(text, table, out)

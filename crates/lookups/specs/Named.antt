@@ -1,5 +1,5 @@
 -- The objects that an annotation may name, string by string. Assumes nothing.
-use mathlib.Core.Path.{_≡_, refl, sym, ap, _∙_}
+use mathlib.Core.Path.{_≡_, refl, sym, ap, _∙_, subst}
 use mathlib.Core.Bool.{Bool, true, false, _&&_, not}
 use mathlib.Core.List.{List, [], _∷_}
 use mathlib.Core.Option.{Option, none, some}
@@ -12,7 +12,7 @@ use lib.Dec.{eqb}
 use borrow.Author.Tests.{le-leb, eq-eqb, ne-eqb}
 use Rattle.laws.specs.Bools.{not-so}
 use lib.ListN.{length, getD, take, set, length-set}
-use lib.Seq.{slice, length-take-le, getD-take, getD-set-same, getD-set-other}
+use lib.Seq.{length-take-le, getD-take, getD-set-same, getD-set-other}
 use Rattle.paper.specs.Reader.{if_then_else_}
 use Rattle.paper.specs.Numbers.{putFixed}
 use Rattle.paper.specs.Lists.{same, all, place, total, given?}
@@ -22,12 +22,10 @@ use Rattle.laws.specs.Pools.{poolOf, Pooled, annotation-pools}
 use Rattle.values.specs.Annotations.{placed?}
 use Rattle.values.specs.Chunks.{kind-array, kind-many, kind-plain}
 use Rattle.lookups.specs.Bytes.{and-true, none-asked, Asked, asked-first, asked-out, asked-on}
-use Rattle.table.specs.View.{maybe, kindFrom, strsOf, namesOf, view, Holds, stringsIn}
-use Rattle.table.specs.Answers.{Stands, fieldIn}
+use Rattle.table.specs.View.{maybe, kindFrom, strsOf, namesOf, typesOf, logOf, view, said, Said, Holds, Now, stringsIn}
+use Rattle.table.specs.Answers.{fieldIn}
 use Rattle.table.specs.declared.rows.FieldRow.{FieldRow}
-use Rattle.table.specs.Asks.{found}
-use Rattle.table.specs.declared.names.Found.{Found}
-use Rattle.table.specs.declared.names.Found.the-variants.{At, Nothing}
+use Rattle.table.specs.Asks.{Recalled}
 
 -- the objects of a base type
 unfoldable pub basePool : List Typ → List Range → ℕ → ℕ
@@ -48,20 +46,29 @@ module _ (ts : List Typ) (log : List Range) (t : ℕ) {up : ℕ} (is : maybe up 
   unfolding basePool if_then_else_ given?
   pool-base h q = rw (← is, h) q
 
-module _ (f : List ℕ) {l : List ℕ} {i a b : ℕ} (row : Stands strsOf l i a b) (o : Found) (says : found o ≡ place (same (slice a b f)) 0 (namesOf f l)) where
-  type-is : typeNamed (view f l) (text (view f l) (suc i)) ≡ found o
-  unfolding typeNamed text
-  type-is =
-      let less : suc i - 1 ≡ i = omega arith in
-      rw less (ap (λ (x : List ℕ). place (same x) 0 (namesOf f l)) (row .is f) ∙ sym says)
+-- r objects of the base type that string i names, counted from 0; the table says what it said
+pub record PoolTold (f l : List ℕ) (i r : ℕ) (l′ : List ℕ) : Type 0 where
+  pub now : Now f l′ (said f l)
+  pub is : r ≡ poolOf (view f l) (typeNamed (view f l) (text (view f l) (suc i)))
 
-  pub pool-none : o ≡ Nothing → 0 ≡ poolOf (view f l) (typeNamed (view f l) (text (view f l) (suc i)))
+module _ {f l l′ : List ℕ} {i m : ℕ} (R : Recalled f l i m l′) where
+  its-text : text (view f l) (suc i) ≡ getD (strsOf f l) i []
+  unfolding text
+  its-text = let less : suc i - 1 ≡ i = omega arith in ap (λ (k : ℕ). getD (strsOf f l) k []) less
+
+  its-type : {o : Option ℕ} → place (same (getD (strsOf f l) i [])) 0 (namesOf f l) ≡ o → typeNamed (view f l) (text (view f l) (suc i)) ≡ o
+  unfolding typeNamed
+  its-type q = ap (λ (x : List ℕ). place (same x) 0 (namesOf f l)) its-text ∙ q
+
+  pub pool-none : m < 33 → PoolTold f l i 0 l′
   unfolding poolOf
-  pool-none is = rw (type-is, is)
+  pool-none lt = record { now = R .now; is = rw (its-type (R .none-has lt)) }
 
-  pub pool-some : {t r : ℕ} → o ≡ At t → r ≡ basePool (view f l .types) (view f l .log) t → r ≡ poolOf (view f l) (typeNamed (view f l) (text (view f l) (suc i)))
+  pub pool-some : 33 ≤ m → {r : ℕ} → r ≡ basePool (typesOf l′) (logOf l′) (m - 33) → PoolTold f l i r l′
   unfolding poolOf basePool objectsOf
-  pool-some is q = rw (type-is, is) q
+  pool-some le {r} q =
+      let was : r ≡ basePool (typesOf l) (logOf l) (m - 33) = q ∙ ap (λ (s : Said). basePool (s .state .types) (s .state .log) (m - 33)) (R .now .says) in
+      record { now = R .now; is = rw (its-type (R .one-has le)) was }
 
 -- ── all strings ──
 
@@ -90,6 +97,41 @@ module _ {s : State} {pools : List ℕ} {k : ℕ} (P : Pooling s pools k) where
   -- so many are lent
   pub pools-lent : k ≡ length (take k pools)
   pools-lent = sym (length-take-le k pools (omega (arith, P .few, P .long)))
+
+-- the first i of n strings are gathered; the table l₀ has become l, which says the same
+pub record PoolsGoing (f l₀ : List ℕ) (n : ℕ) (l list : List ℕ) (i : ℕ) : Type 0 where
+  pub begun : Holds f l₀
+  pub now : Now f l (said f l₀)
+  pub all-of : n ≡ stringsIn l₀
+  pub upto : i ≤ n
+  pub pooling : Pooling (view f l₀) list i
+
+module _ {f l₀ : List ℕ} {n : ℕ} where
+  pub pools-begin : {list : List ℕ} → Holds f l₀ → length list ≡ 1024 → n ≡ stringsIn l₀ → PoolsGoing f l₀ n l₀ list 0
+  pools-begin {list} H long is = record { begun = H; now = record { holds = H; says = refl }; all-of = is; upto = omega arith; pooling = pooling-start (view f l₀) list long }
+
+  module _ {l list : List ℕ} {i : ℕ} (G : PoolsGoing f l₀ n l list i) where
+    module _ (lt : i < n) where
+      pub pool-there : Holds f l × (i < stringsIn l)
+      pool-there =
+          let same : stringsIn l ≡ stringsIn l₀ = sym (G .now .holds .strs-count) ∙ ap (λ (g : Said). length (g .state .strings)) (G .now .says) ∙ G .begun .strs-count in
+          (G .now .holds, omega (arith, G .all-of))
+
+      pub place-there : i < 1024
+      place-there = omega (arith, G .all-of, G .begun .ok .strs-fit)
+
+      pub pools-next : {r : ℕ} {l′ : List ℕ} → PoolTold f l i r l′ → PoolsGoing f l₀ n l′ (set list i r) (i + 1)
+      pools-next T =
+          record {
+            begun = G .begun;
+            now = record { holds = T .now .holds; says = T .now .says ∙ G .now .says };
+            all-of = G .all-of;
+            upto = omega arith;
+            pooling = pooling-on (G .pooling) place-there (T .is ∙ ap (λ (u : Said). poolOf (u .state) (typeNamed (u .state) (text (u .state) (suc i)))) (G .now .says));
+          }
+
+    pub pools-done : n ≤ i → (Pooling (view f l₀) list i × (i ≡ stringsIn l₀)) × Now f l (said f l₀)
+    pools-done le = ((G .pooling, omega (arith, G .all-of, G .upto)), G .now)
 
 -- they say which annotations keep the rule
 pub pools-say :
@@ -136,6 +178,10 @@ due-none long h = record { long = long; few = omega arith; noted = record { say 
 -- so many are lent
 pub due-lent : {s : State} {pools : List ℕ} {k : ℕ} → PoolsDue s pools k → k ≡ length (take k pools)
 due-lent {s} {pools} {k} P = sym (length-take-le k pools (omega (arith, P .few, P .long)))
+
+-- and a table that says the same keeps to them
+pub noted-now : {f l : List ℕ} {g : Said} → Now f l g → {pools : List ℕ} {k : ℕ} → PoolsDue (g .state) pools k → Noted (take k pools) (view f l)
+noted-now N {pools} {k} P = subst (λ (u : Said). Noted (take k pools) (u .state)) (sym (N .says)) (P .noted)
 
 -- one field is enough
 all-fails : {A : Type 0} (p : A → Bool) (xs : List A) (i : ℕ) (d : A) → i < length xs → p (getD xs i d) ≡ false → all p xs ≡ false

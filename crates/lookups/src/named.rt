@@ -1,22 +1,18 @@
 // The objects that an annotation may name: those of the base type whose name a string has.
 ghost use mathlib.Core.Path.{_≡_};
-ghost use mathlib.Core.Option.{some};
-ghost use Prim.Native.Nat.{suc, _<_};
+ghost use Prim.Native.Nat.{_<_};
 ghost use lib.ListN.{length};
 ghost use Rattle.paper.specs.Numbers.{putFixed};
 ghost use Rattle.paper.specs.Lists.{all};
-ghost use Rattle.paper.specs.Ledger.{text, typeNamed};
-ghost use Rattle.laws.specs.Pools.{poolOf, Pooled};
-ghost use Rattle.table.specs.View.{view, typesOf, fldsOf, logOf, Ok, Holds, stringsIn};
+ghost use Rattle.laws.specs.Pools.{Pooled};
+ghost use Rattle.table.specs.View.{view, typesOf, fldsOf, logOf, said, Ok, Holds, Now, stringsIn};
 ghost use Rattle.table.specs.Answers.{fieldIn};
-ghost use Rattle.lookups.specs.Named.{basePool, Pooling, unnamed?, unnamedField?, PoolsDue};
-use table::names::Found;
-use table::names::find_type;
+ghost use Rattle.lookups.specs.Named.{basePool, PoolTold, Pooling, unnamed?, unnamedField?, PoolsDue};
+use table::names::recall_type;
 use table::ranges::objects_of;
 use table::rows::FieldRow;
 use table::rows::field_at;
 use table::rows::fields;
-use table::rows::string_at;
 use table::rows::strings;
 use table::types::super_of;
 
@@ -32,21 +28,23 @@ fn base_pool(work: &[u32], t: u32) -> u32
 }
 
 // How many objects the base type has that the i-th string names, counted from 0: none where it names no base type.
-fn pool_of(file: &[u8], work: &[u32], i: u32) -> u32
+fn pool_of(file: &[u8], work: &mut [u32], i: u32) -> u32
     requires { ⌜ Holds (now file) (now work) × (i < stringsIn (now work)) ⌝ }
-    ensures { λ r. ⌜ r ≡ poolOf (view (now (file .entry)) (now (work .entry))) (typeNamed (view (now (file .entry)) (now (work .entry))) (text (view (now (file .entry)) (now (work .entry))) (suc i))) ⌝ }
+    ensures { λ r. ⌜ PoolTold (now (file .entry)) (now (work .entry)) i r (now (work .exit)) ⌝ }
 {
-    let name = string_at(work, i);
-    match find_type(file, work, name) {
-        Found::At(t) => base_pool(work, t),
-        Found::Nothing => 0,
+    let memo = recall_type(file, work, i);
+    if memo < 33 {
+        return 0;
     }
+    base_pool(work, memo - 33)
 }
 
-// The same for all strings, at the front of the list: how many strings there are.
-pub fn pools(file: &[u8], work: &[u32], list: &mut [u32]) -> usize
+// The same for all strings, at the front of the list: how many strings there are. What each names is noted in the table, so that
+// it is looked for once in a file, and not in each pair.
+pub fn pools(file: &[u8], work: &mut [u32], list: &mut [u32]) -> usize
     requires { ⌜ Holds (now file) (now work) × (length (now list) ≡ 1024) ⌝ }
     ensures { λ r. ⌜ Pooling (view (now (file .entry)) (now (work .entry))) (now (list .exit)) r × (r ≡ stringsIn (now (work .entry))) ⌝ }
+    ensures { λ _. ⌜ Now (now (file .entry)) (now (work .exit)) (said (now (file .entry)) (now (work .entry))) ⌝ }
 {
     let n = strings(work);
     let mut i = 0;
@@ -108,9 +106,10 @@ fn all_unnamed(work: &[u32]) -> bool
 }
 
 // The same where a field has annotations; where none has, no string is asked for. It is found out once for all chunks of a pair.
-pub fn pools_due(file: &[u8], work: &[u32], list: &mut [u32]) -> usize
+pub fn pools_due(file: &[u8], work: &mut [u32], list: &mut [u32]) -> usize
     requires { ⌜ Holds (now file) (now work) × Pooled (view (now file) (now work)) × (length (now list) ≡ 1024) ⌝ }
     ensures { λ r. ⌜ PoolsDue (view (now (file .entry)) (now (work .entry))) (now (list .exit)) r ⌝ }
+    ensures { λ _. ⌜ Now (now (file .entry)) (now (work .exit)) (said (now (file .entry)) (now (work .entry))) ⌝ }
 {
     if all_unnamed(work) {
         return 0;

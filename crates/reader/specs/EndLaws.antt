@@ -42,7 +42,7 @@ module _ {f l : List ℕ} (h : Holds f l) {b prev at : ℕ} {a : Number} (read :
     pub end-read : {l′ : List ℕ} {x y : ℕ} → stringsIn l < 1024 → prev ≤ e → x ≡ capped (length f) (b + prev) → y ≡ capped (length f) (b + e) → Push 0 16 2 (x ∷ y ∷ []) l l′ → EndRead f l l′ b prev at (Got e next)
     unfolding stringEnd endRules
     end-read few le is-x is-y push =
-        let n = pushed-string h few (rw is-y (cap-most (length f) (b + e))) push in
+        let n = pushed-string h few (rw is-x (cap-most (length f) (b + prev))) (rw is-y (cap-most (length f) (b + e))) push in
         let v = was-got read is in
         record {
           holds = n .holds;

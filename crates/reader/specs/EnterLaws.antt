@@ -12,12 +12,15 @@ use Rattle.paper.specs.Ledger.{State, Head, Range, Typ, typeNamed, typeIn, text
 use Rattle.paper.specs.Rules.{entered?, new?, typeOf, superOf, baseUnder, baseOf, newName, newType, newRange, afterHead}
 use Rattle.numbers.specs.declared.Cursor.{Cursor}
 use Rattle.numbers.specs.declared.Refusal.{Refusal}
-use Rattle.table.specs.View.{view, Said, said, maybe, typesOf, strsOf, namesOf, sumOf, Ok, Holds, rangesIn}
+use Rattle.table.specs.View.{view, Said, said, maybe, typesOf, strsOf, namesOf, sumOf, Ok, Holds, Now, Memo, rangesIn}
 use Rattle.table.specs.Adds.{addType, addRange}
 use Rattle.table.specs.Answers.{Stands, rangeIn, Small}
 use Rattle.table.specs.Packed.{rangeCells}
 use Rattle.table.specs.Pushes.{Pushed}
 use Rattle.table.specs.ViewLaws.{pushed-type, pushed-range}
+use Rattle.table.specs.ApartLaws.{same-self, place-last}
+use Rattle.table.specs.Memos.{memo-yes}
+use Rattle.table.specs.Notes.{NoteTaken}
 use Rattle.table.specs.declared.rows.RangeRow.{RangeRow}
 use Rattle.reader.specs.declared.heads.Name.{Name}
 use Rattle.reader.specs.declared.heads.Top.{Top}
@@ -103,6 +106,28 @@ known-below s n e = go (typeNamed s (text s n)) refl e
     go none is w = differ (cc w)
     go (some u) is w = named-below s (text s n) u is
 
+known-at : (s : State) (n : ℕ) → new? s n ≡ false → typeNamed s (text s n) ≡ some (typeOf s n)
+unfolding new? typeOf given? or
+known-at s n e = go (typeNamed s (text s n)) e
+  where
+    go : (o : Option ℕ) → not (given? o) ≡ false → o ≡ some (or o (length (s .typeNames)))
+    go none w = differ (cc w)
+    go (some u) w = refl
+
+-- once the type is entered, its string names it
+named-entered : (g : Said) (n t : ℕ) (ty : Typ) (b : Bool) → new? (g .state) n ≡ b → t ≡ typeOf (g .state) n → typeNamed (addNew b g (text (g .state) n) ty .state) (text (addNew b g (text (g .state) n) ty .state) n) ≡ some t
+unfolding addType text typeNamed
+named-entered g n t ty false e is = known-at (g .state) n e ∙ ap some (sym is)
+named-entered g n t ty true e is =
+    let x = text (g .state) n in
+    let last : 0 + length (g .state .typeNames) ≡ t = omega (arith, unknown (g .state) n e) in
+    place-last (same x) 0 (g .state .typeNames) x (no-type (g .state) n e) (same-self x) ∙ ap some last
+
+same-strings : (b : Bool) (g : Said) (name : List ℕ) (ty : Typ) → addNew b g name ty .state .strings ≡ g .state .strings
+unfolding addType
+same-strings false g name ty = refl
+same-strings true g name ty = refl
+
 -- ── a head that was read finds room, and its type is open afterwards ──
 
 module _ {g : Said} (k : Sound g) {t : Top} (p : Placed (g .state) t) where
@@ -164,6 +189,33 @@ module _ {f l : List ℕ} (h : Holds f l) {t : Top} (placed : Placed (view f l) 
         high = omega (arith, placed .name .high, h .strs-count);
         room = λ w. omega (arith, placed .name .room w, h .names-count);
       }
+
+  -- that string's number names the type is noted
+  module _ (k : Sound (said f l)) {up base : ℕ} {l₁ : List ℕ} (typed : TypeEntered f (t .name) up base l l₁) where
+    then-says : Now f l₁ (addNew (t .name .fresh) (said f l) (text (view f l) (t .name .number)) (record { super = maybe up; base = base }))
+    then-says = typed .says (nameless k placed)
+
+    pub note-fits : Ok l₁ × ((t .name .number - 1 < getD l₁ 0 0) × (33 + t .name .typ ≤ 64))
+    note-fits =
+        let many = ap (λ (g : Said). length (g .state .strings)) (then-says .says) ∙ ap length (same-strings (t .name .fresh) (said f l) (text (view f l) (t .name .number)) (record { super = maybe up; base = base })) in
+        (then-says .holds .ok, (omega (arith, then-says .holds .strs-count, many, placed .name .low, placed .name .high), omega (arith, placed .name .few)))
+
+    its-memo : Memo (namesOf f l₁) (getD (strsOf f l₁) (t .name .number - 1) []) (33 + t .name .typ)
+    unfolding text typeNamed
+    its-memo =
+        memo-yes (namesOf f l₁) (getD (strsOf f l₁) (t .name .number - 1) [])
+        (ap (λ (g : Said). typeNamed (g .state) (text (g .state) (t .name .number))) (then-says .says)
+        ∙ named-entered (said f l) (t .name .number) (t .name .typ) (record { super = maybe up; base = base }) (t .name .fresh) (sym (placed .name .fresh)) (placed .name .typ))
+
+    pub type-noted : {l₂ : List ℕ} → NoteTaken (t .name .number - 1) (33 + t .name .typ) l₁ l₂ → TypeEntered f (t .name) up base l l₂
+    type-noted N =
+        record {
+          ranges = N .counts 3 (omega arith) ∙ typed .ranges;
+          says = λ none-has.
+              let now = typed .says none-has in
+              let kept = N .says f (now .holds) its-memo in
+              record { holds = kept .holds; says = kept .says ∙ now .says };
+        }
 
   module _ (k : Sound (said f l)) {base : ℕ} (isb : base ≡ baseUnder (typesOf l) (t .name .typ) (maybe (t .above .up))) {r : RangeRow} (isr : rangeIn r ≡ rangeFor l t base) {l₁ : List ℕ} (typed : TypeEntered f (t .name) (t .above .up) base l l₁) where
     pub range-fits : Ok l₁ × ((rangesIn l₁ < 1024) × Small r)

@@ -8,8 +8,7 @@ use Prim.Native.Nat.{ℕ, zero, suc, _+_, _-_, _^_, _≤_, _<_}
 use native.Mathlib.Omega.{arith}
 use native.Mathlib.Numerals.{add-one}
 use lib.Dec.{leb}
-use lib.ListN.{length}
-use lib.Seq.{slice}
+use lib.ListN.{length, getD}
 use borrow.Author.Tests.{le-leb, lt-leb, lt-ltb, le-ltb, ne-eqb, leb-true}
 use Rattle.paper.specs.Reader.{if_then_else_, Reader, Out, got, no, andThen, _>>=_, give, hold, must, only, turned, Rule}
 use Rattle.paper.specs.Numbers.{v64, number}
@@ -23,7 +22,6 @@ use Rattle.numbers.specs.declared.Cursor.{Cursor}
 use Rattle.numbers.specs.declared.Refusal.{Refusal}
 use Rattle.laws.specs.Bools.{and-split}
 use Rattle.table.specs.View.{view, maybe, strsOf, namesOf, typesOf, logOf, Ok, Holds, stringsIn, typesIn, blockIn}
-use Rattle.table.specs.Answers.{Stands}
 use Rattle.table.specs.Asks.{found}
 use Rattle.table.specs.declared.names.Found.{Found}
 use Rattle.table.specs.declared.names.Found.the-variants.{At, Nothing}
@@ -81,11 +79,9 @@ pub named-below : (s : State) (name : List ℕ) (u : ℕ) → typeNamed s name �
 unfolding typeNamed
 named-below s name u is = omega (arith, place-below (same name) 0 (s .typeNames) u is)
 
-pub looked-up : {f l : List ℕ} → Holds f l → {n a b : ℕ} → Stands strsOf l (n - 1) a b → (o : Found) → found o ≡ place (same (slice a b f)) 0 (namesOf f l) → Known f l n o
+pub looked-up : {f l : List ℕ} → Holds f l → {n : ℕ} (o : Found) → found o ≡ place (same (getD (strsOf f l) (n - 1) [])) 0 (namesOf f l) → Known f l n o
 unfolding typeNamed text
-looked-up {f} {l} h {n} {a} {b} row o says =
-    let is : typeNamed (view f l) (text (view f l) n) ≡ found o = ap (λ (x : List ℕ). place (same x) 0 (namesOf f l)) (row .is f) ∙ sym says in
-    record { is = is; below = go o is }
+looked-up {f} {l} h {n} o says = record { is = sym says; below = go o (sym says) }
   where
     go : (o : Found) → typeNamed (view f l) (text (view f l) n) ≡ found o → foundBelow (typesIn l) o
     go (At u) is = omega (arith, named-below (view f l) (text (view f l) n) u is, h .names-count)

@@ -25,6 +25,7 @@ use paper::Ledger;
 use table::names::Found;
 use table::names::find_type;
 use table::names::string_sum;
+use table::pushes::note;
 use table::pushes::push_range;
 use table::pushes::push_type;
 use table::ranges::around;
@@ -133,8 +134,7 @@ fn type_named(names: &[u8], work: &[u32], n: u64) -> Found
     requires { ⌜ (0 < n) × (n ≤ stringsIn (now work)) ⌝ }
     ensures { λ r. ⌜ Known (now (names .entry)) (now (work .entry)) n r ⌝ }
 {
-    let name = string_at(work, (n - 1) as u32);
-    find_type(names, work, name)
+    find_type(names, work, (n - 1) as u32)
 }
 
 // The place of the type that string n names, which was looked up. A new type must find room, and a known one must not
@@ -455,6 +455,7 @@ pub fn enter_top(names: &[u8], work: &mut [u32], top: Top)
     let base = base_for(work, name.typ, up);
     let range = range_for(work, top, base);
     enter_type(names, work, name, up, base);
+    note(work, (name.number - 1) as u32, 33 + name.typ);
     push_range(work, range);
 }
 

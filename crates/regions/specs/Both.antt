@@ -1,6 +1,6 @@
 -- The chunks that are due laid as their bytes, with the size of each put down on the way. Assumes nothing.
 use mathlib.Core.Path.{_≡_, refl, sym, ap, _∙_, subst}
-use mathlib.Core.List.{List, [], _∷_, _++_, append-assoc}
+use mathlib.Core.List.{List, [], _∷_, _++_, append-assoc, map}
 use Prim.Native.Nat.{ℕ, _+_, _-_, _≤_, _<_}
 use native.Mathlib.Omega.{arith}
 use lib.ListN.{length, getD, length-append}
@@ -12,7 +12,7 @@ use Rattle.paper.specs.Encode.{putChunk, putChunks}
 use Rattle.paper.specs.Scan.{chunkText}
 use Rattle.lay.specs.Laid.{most, Laid, laid-none, laid-then, laid-as, laid-long}
 use Rattle.laws.specs.Laws.{not-got}
-use Rattle.table.specs.View.{duesOf, chunksOf, view, Holds, Now, duesIn}
+use Rattle.table.specs.View.{duesOf, chunksOf, view, said, Said, Holds, Now, duesIn}
 use Rattle.table.specs.Answers.{noDue}
 use Rattle.table.specs.Sizes.{resized, DueSized}
 use Rattle.words.specs.declared.read.Step.the-variants as step
@@ -22,7 +22,7 @@ use Rattle.texts.specs.declared.TextRead.{TextRead}
 use Rattle.texts.specs.declared.TextRead.the-variants.{Got, Bad}
 use Rattle.regions.specs.Chunks.{chunksText, left-one, put-none, put-more, put-longer}
 use Rattle.regions.specs.Sizes.{counted}
-use Rattle.regions.specs.Turns.{RegionReady, DueReady, DueTold, dueAt, whatDue, OneSized, ChunkSized, Sized, RegionSized, Sizing, sizing-start, sizing-next, sizing-done, regionBytes, there, as-first}
+use Rattle.regions.specs.Turns.{RegionReady, DueReady, DueTold, dueAt, whatDue, OneSized, ChunkSized, Sized, RegionSized, Sizing, sizing-start, sizing-next, sizing-done, regionBytes, there, as-first, text-same, all-sized-same}
 
 -- ── one chunk ──
 
@@ -155,3 +155,19 @@ module _ {t l₀ : List ℕ} (R : RegionReady t l₀) {from : ℕ} {out : List �
           sizing = sizing-next R (G .sizing) lt C refl;
           laid = laid-as (laid-then (G .laid) (laid-as (O .laid) (sym (as-first R (G .sizing) lt (λ s d. putChunk s d c))))) (one-laid c);
         }
+
+-- ── a table that says the same ──
+
+pub laid-sized-same :
+    {t : List ℕ} (l : List ℕ) {l₁ : List ℕ} → Now t l₁ (said t l) → {from : ℕ} {out : List ℕ} {at : ℕ} {m : List ℕ} {r : TextRead} {l₂ : List ℕ} → LaidSized t l₁ from out at m r l₂
+    → LaidSized t l from out at m r l₂
+unfolding all-sized-same
+laid-sized-same {t} l N {from} {out} {at} {m} C =
+    let says = N .says in
+    record {
+      holds = C .holds;
+      laid = λ k q.
+          let L = C .laid k q in
+          record { sized = all-sized-same l N (L .sized); laid = subst (λ (g : Said). Laid out at (regionBytes (g .state) (map what (g .due)) (L .sized .chunks)) m (k .at)) says (L .laid) };
+      refused = λ q cs e is. subst (λ (g : Said). most ≤ at + length (regionBytes (g .state) (map what (g .due)) cs)) says (C .refused q cs e (text-same l N from ∙ is));
+    }

@@ -246,3 +246,39 @@ module _ {t l₀ : List ℕ} {from : ℕ} (R : RegionReady t l₀) {l : List ℕ
 
 abbrev pub regionBytes : State → List Due → List Chunk → List ℕ
 regionBytes s ds cs = flat (λ b. b) (putChunks s ds cs)
+
+-- ── a table that says the same ──
+
+module _ {t : List ℕ} (l : List ℕ) {l₁ : List ℕ} (N : Now t l₁ (said t l)) where
+  pub ready-same : RegionReady t l → RegionReady t l₁
+  ready-same R =
+      let says = N .says in
+      record {
+        holds = N .holds;
+        sound = subst Sound (sym says) (R .sound);
+        low = subst (λ (g : Said). Low 0 (g .state .log)) (sym says) (R .low);
+        pooled = subst (λ (g : Said). Pooled (g .state)) (sym says) (R .pooled);
+        listed = subst (λ (g : Said). Listed (g .state .fields)) (sym says) (R .listed);
+      }
+
+  pub text-same : (from : ℕ) → chunksText (view t l₁) (whatDue l₁) t from ≡ chunksText (view t l) (whatDue l) t from
+  text-same from = ap (λ (g : Said). chunksText (g .state) (map what (g .due)) t from) (N .says)
+
+  unfoldable pub all-sized-same : {from e : ℕ} {l₂ : List ℕ} → Sized t l₁ from e l₂ → Sized t l from e l₂
+  all-sized-same {from} {e} {l₂} S =
+      let says = N .says in
+      record {
+        chunks = S .chunks;
+        count = S .count ∙ ap (λ (g : Said). length (map what (g .due))) says;
+        reads = sym (text-same from) ∙ S .reads;
+        now = subst (λ (g : Said). Now t l₂ (record { state = g .state; due = zip (map what (g .due)) (map counted (putChunks (g .state) (map what (g .due)) (S .chunks))); chunks = g .chunks })) says (S .now);
+      }
+
+  pub region-sized-same : Holds t l → {from : ℕ} {r : Step} {l₂ : List ℕ} → RegionSized t l₁ from r l₂ → RegionSized t l from r l₂
+  region-sized-same H {from} C =
+      record {
+        holds = C .holds;
+        long = C .long ∙ N .holds .ok .long ∙ sym (H .ok .long);
+        sized = λ next q. all-sized-same (C .sized next q);
+        refused = λ q. sym (text-same from) ∙ C .refused q;
+      }

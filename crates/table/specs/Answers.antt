@@ -7,7 +7,7 @@ use lib.Seq.{slice}
 use Rattle.paper.specs.Lists.{places}
 use Rattle.paper.specs.Ledger.{Typ, Field, Range, Due, owns?}
 use Rattle.paper.specs.Places.{Spot}
-use Rattle.table.specs.View.{maybe, kindFrom, sumOf, Holds}
+use Rattle.table.specs.View.{maybe, kindFrom, strsOf, namesOf, sumOf, Memo, Holds}
 use Rattle.table.specs.declared.rows.TypeRow.{TypeRow}
 use Rattle.table.specs.declared.rows.FieldRow.{FieldRow}
 use Rattle.table.specs.declared.rows.RangeRow.{RangeRow}
@@ -25,6 +25,10 @@ pub record Named (texts : List ℕ → List ℕ → List (List ℕ)) (l : List �
   pub is : (f : List ℕ) → getD (texts f l) i [] ≡ slice start end f
   pub within : (f : List ℕ) → Holds f l → end ≤ length f
   pub sums : (f : List ℕ) → Holds f l → sum ≡ sumOf (slice start end f)
+
+-- what m says of string i as a type's name is true
+pub record Remembered (l : List ℕ) (i m : ℕ) : Type 0 where
+  pub is : (f : List ℕ) → Holds f l → Memo (namesOf f l) (getD (strsOf f l) i []) m
 
 abbrev pub typIn : TypeRow → Typ
 typIn r = record { super = maybe (r .sup); base = r .base }

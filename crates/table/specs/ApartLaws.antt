@@ -16,17 +16,17 @@ use Rattle.table.specs.View.{Apart}
 use Rattle.table.specs.Loops.{place-in}
 
 -- a list is the same as itself
-same-self : (xs : List ℕ) → same xs xs ≡ true
+pub same-self : (xs : List ℕ) → same xs xs ≡ true
 unfolding same
 same-self [] = refl
 same-self (x ∷ xs) = rw (eq-eqb x x refl, same-self xs) refl
 
 module _ {A : Type 0} (p : A → Bool) where
-  nowhere : {i : ℕ} → _≡_ {A = Option ℕ} none (some i) → ⊥
+  pub nowhere : {i : ℕ} → _≡_ {A = Option ℕ} none (some i) → ⊥
   nowhere q = let z : _≡_ {A = ℕ} 0 1 = cc q in omega arith
 
   -- what is found is found in a longer list
-  place-longer : (k : ℕ) (xs ys : List A) {i : ℕ} → place p k xs ≡ some i → place p k (xs ++ ys) ≡ some i
+  pub place-longer : (k : ℕ) (xs ys : List A) {i : ℕ} → place p k xs ≡ some i → place p k (xs ++ ys) ≡ some i
   unfolding place if_then_else_
   place-longer k [] ys q = absurd (nowhere q)
   place-longer k (x ∷ xs) ys {i} q = go (place-longer (suc k) xs ys) (p x) q
@@ -36,12 +36,22 @@ module _ {A : Type 0} (p : A → Bool) where
       go rest false e = rest e
 
   -- what is found nowhere before is found behind
-  place-last : (k : ℕ) (xs : List A) (x : A) → place p k xs ≡ none → p x ≡ true → place p k (xs ++ x ∷ []) ≡ some (k + length xs)
+  pub place-last : (k : ℕ) (xs : List A) (x : A) → place p k xs ≡ none → p x ≡ true → place p k (xs ++ x ∷ []) ≡ some (k + length xs)
   unfolding place if_then_else_
   place-last k [] x q holds = rw (holds, add-zero) refl
   place-last k (y ∷ ys) x q holds = go (λ e. place-last (suc k) ys x e holds ∙ ap some (omega arith)) (p y) q
     where
       go : (place p (suc k) ys ≡ none → place p (suc k) (ys ++ x ∷ []) ≡ some (k + suc (length ys))) → (b : Bool) → (if b then some k else place p (suc k) ys) ≡ none → (if b then some k else place p (suc k) (ys ++ x ∷ [])) ≡ some (k + suc (length ys))
+      go rest true e = absurd (nowhere (sym e))
+      go rest false e = rest e
+
+  -- and is looked for there
+  pub place-behind : (k : ℕ) (xs ys : List A) → place p k xs ≡ none → place p k (xs ++ ys) ≡ place p (k + length xs) ys
+  unfolding place if_then_else_
+  place-behind k [] ys q = let z : k + 0 ≡ k = omega arith in rw z refl
+  place-behind k (x ∷ xs) ys q = let z : suc k + length xs ≡ k + suc (length xs) = omega arith in go (λ e. place-behind (suc k) xs ys e ∙ ap (λ (j : ℕ). place p j ys) z) (p x) q
+    where
+      go : (place p (suc k) xs ≡ none → place p (suc k) (xs ++ ys) ≡ place p (k + suc (length xs)) ys) → (b : Bool) → (if b then some k else place p (suc k) xs) ≡ none → (if b then some k else place p (suc k) (xs ++ ys)) ≡ place p (k + suc (length xs)) ys
       go rest true e = absurd (nowhere (sym e))
       go rest false e = rest e
 

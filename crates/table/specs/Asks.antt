@@ -1,20 +1,16 @@
 -- What the answers and the questions of lookups say. Assumes nothing.
-use Prim.Native.Nat.{ℕ, _≤_}
+use Prim.Native.Nat.{ℕ, _-_, _≤_, _<_}
 use mathlib.Core.Bool.{Bool, false}
 use mathlib.Core.List.{List, []}
 use mathlib.Core.Option.{Option, none, some}
 use Rattle.paper.specs.Ledger.{Typ, Range, of?, before?, base?, holds?}
 use Rattle.paper.specs.Rules.{entryOf?, around?}
 use mathlib.Core.Path.{_≡_}
-use lib.ListN.{length, getD, drop}
-use lib.Seq.{slice}
+use lib.ListN.{length, getD}
 use Rattle.paper.specs.Lists.{same, place}
-use Rattle.table.specs.View.{namesOf, Holds}
-use Rattle.table.specs.declared.rows.Span.{Span}
+use Rattle.table.specs.View.{strsOf, namesOf, said, Passed, Holds, Now}
 use Rattle.table.specs.declared.names.Found.{Found}
 use Rattle.table.specs.declared.names.Found.the-variants.{At, Nothing}
-use Rattle.table.specs.declared.names.Spot.{Spot}
-use Rattle.table.specs.declared.names.Spot.the-variants as spot
 use Rattle.table.specs.declared.ranges.Ask.{Ask}
 use Rattle.table.specs.declared.ranges.Ask.the-variants.{Of, Entry, Before, Around, Holding, Base}
 
@@ -22,26 +18,16 @@ abbrev pub found : Found → Option ℕ
 found (At i) = some i
 found Nothing = none
 
--- type i has the name that stands at this place, in whatever source the table is read over
-pub record Standing (l : List ℕ) (name : Span) (i : ℕ) : Type 0 where
-  pub is : (f : List ℕ) → Holds f l → some i ≡ place (same (slice (name .start) (name .end) f)) 0 (namesOf f l)
+-- a name of length n that the first k types have not is not one of the first i either
+pub record Shorter (l : List ℕ) (n k i : ℕ) : Type 0 where
+  pub few : i ≤ getD l 1 0
+  pub is : (f : List ℕ) → Holds f l → (name : List ℕ) → length name ≡ n → Passed (namesOf f l) name k → Passed (namesOf f l) name i
 
--- the name of type i is not n long, so it is no name of that length
-pub record Other (l : List ℕ) (i n : ℕ) : Type 0 where
-  pub is : (f : List ℕ) → Holds f l → (name : List ℕ) → length name ≡ n → false ≡ same name (getD (namesOf f l) i [])
-
--- no type before the i-th has a name of length n
-pub record Unseen (l : List ℕ) (n i : ℕ) : Type 0 where
-  pub is : (f : List ℕ) → Holds f l → (name : List ℕ) → length name ≡ n → place (same name) 0 (namesOf f l) ≡ place (same name) i (drop i (namesOf f l))
-
--- no type has the name that stands at this place
-pub record Missing (l : List ℕ) (name : Span) : Type 0 where
-  pub is : (f : List ℕ) → Holds f l → name .end ≤ length f → none ≡ place (same (slice (name .start) (name .end) f)) 0 (namesOf f l)
-
-abbrev pub Spotted : List ℕ → Span → Spot → Type 0
-Spotted l name (spot.At i) = Standing l name i
-Spotted l name spot.Alike = Unit {0}
-Spotted l name spot.Nothing = Missing l name
+-- string i names the type m - 33, and none where m is below 33; the table, which may have a note of it now, says what it said
+pub record Recalled (f l : List ℕ) (i m : ℕ) (l′ : List ℕ) : Type 0 where
+  pub now : Now f l′ (said f l)
+  pub none-has : m < 33 → place (same (getD (strsOf f l) i [])) 0 (namesOf f l) ≡ none
+  pub one-has : 33 ≤ m → place (same (getD (strsOf f l) i [])) 0 (namesOf f l) ≡ some (m - 33)
 
 -- the ranges that a question is about
 abbrev pub asks : List Typ → Ask → Range → Bool

@@ -9,10 +9,10 @@ use lib.ListN.{length, getD, set, take, replicate, length-set}
 use lib.Seq.{sets, length-sets, getD-set-same, getD-set-other, take-all, take-append-le}
 use Rattle.paper.specs.Ledger.{Typ, Field, Range, nothing}
 use Rattle.paper.specs.Rules.{closed}
-use Rattle.table.specs.Segs.{tab, cells, seg}
-use Rattle.table.specs.RowLaws.{same-or-not, length-tab, tab-cong, cells-cong, cells-sets, sets-other, seg-none}
+use Rattle.table.specs.Segs.{tab, cells, seg, Each}
+use Rattle.table.specs.RowLaws.{same-or-not, length-tab, tab-cong, cells-cong, cells-sets, sets-other, seg-none, each-kept}
 use Rattle.table.specs.Layout.{width, most, starts, head-le}
-use Rattle.table.specs.View.{textOf, typOf, fldOf, rangeOf, dueOf, spotOf, strsOf, namesOf, typesOf, titlesOf, fldsOf, logOf, duesOf, chunksOf, said, tally, Telling, Owning, Ok, Within, Holds, Said, Now, Apart}
+use Rattle.table.specs.View.{textOf, stringOf, typOf, fldOf, rangeOf, dueOf, spotOf, strsOf, namesOf, typesOf, titlesOf, fldsOf, logOf, duesOf, chunksOf, said, tally, Telling, Owning, Ok, Within, Holds, Said, Now, Apart, Recalls, Noting}
 use Rattle.table.specs.Told.{Told, Owned}
 use Rattle.table.specs.ToldLaws.{told-none}
 use Rattle.table.specs.OwnedLaws.{owned-none}
@@ -79,7 +79,7 @@ pub record Recounted (n : Counts) (b : ℕ) (l l′ : List ℕ) : Type 0 where
 
 pub record Begun (l′ : List ℕ) : Type 0 where
   pub ok : Ok l′
-  pub says : (f : List ℕ) → length f < 4294967296 → Now f l′ begun
+  pub says : (f : List ℕ) → length f < 66000000 → Now f l′ begun
 
 pub record Next (l l′ : List ℕ) : Type 0 where
   pub ok : Ok l′
@@ -91,12 +91,12 @@ pub record Cut (n : Counts) (l l′ : List ℕ) : Type 0 where
   pub counts : Recounted n (getD l 6 0) l l′
   pub says : (f : List ℕ) → Holds f l → Now f l′ (cutTo n (said f l))
 
--- the counts are the first eight cells
-pub recounted-by : (n : Counts) (b told : ℕ) {l l′ : List ℕ} → length l ≡ 16384 → l′ ≡ sets l 0 (n .strings ∷ n .types ∷ n .fields ∷ n .ranges ∷ 0 ∷ n .chunks ∷ b ∷ told ∷ []) → Recounted n b l l′ × (getD l′ 7 0 ≡ told)
+-- the counts are the first nine cells
+pub recounted-by : (n : Counts) (b told noted : ℕ) {l l′ : List ℕ} → length l ≡ 16384 → l′ ≡ sets l 0 (n .strings ∷ n .types ∷ n .fields ∷ n .ranges ∷ 0 ∷ n .chunks ∷ b ∷ told ∷ noted ∷ []) → Recounted n b l l′ × ((getD l′ 7 0 ≡ told) × (getD l′ 8 0 ≡ noted))
 unfolding cells
-recounted-by n b told {l} {l′} long is =
-    let vs : List ℕ = n .strings ∷ n .types ∷ n .fields ∷ n .ranges ∷ 0 ∷ n .chunks ∷ b ∷ told ∷ [] in
-    let head : cells l′ 0 8 ≡ vs = ap (λ (t : List ℕ). cells t 0 8) is ∙ cells-sets vs l 0 (omega arith) in (
+recounted-by n b told noted {l} {l′} long is =
+    let vs : List ℕ = n .strings ∷ n .types ∷ n .fields ∷ n .ranges ∷ 0 ∷ n .chunks ∷ b ∷ told ∷ noted ∷ [] in
+    let head : cells l′ 0 9 ≡ vs = ap (λ (t : List ℕ). cells t 0 9) is ∙ cells-sets vs l 0 (omega arith) in (
       record {
         long = ap length is ∙ length-sets l 0 vs;
         rest = λ j high. rw is (sets-other vs l 0 j (λ p. omega arith));
@@ -108,7 +108,7 @@ recounted-by n b told {l} {l′} long is =
         chunks = ap (λ (xs : List ℕ). getD xs 5 0) head;
         block = ap (λ (xs : List ℕ). getD xs 6 0) head;
       },
-      ap (λ (xs : List ℕ). getD xs 7 0) head,
+      (ap (λ (xs : List ℕ). getD xs 7 0) head, ap (λ (xs : List ℕ). getD xs 8 0) head),
     )
 
 -- ── rows, fewer of them ──
@@ -150,7 +150,7 @@ fits-of l a b d e g h (suc (suc (suc (suc zero)))) lt = g
 fits-of l a b d e g h (suc (suc (suc (suc (suc zero))))) lt = h
 fits-of l a b d e g h (suc (suc (suc (suc (suc (suc k)))))) lt = absurd (omega arith)
 
-module _ (n : Counts) {b : ℕ} {l l′ : List ℕ} (r : Recounted n b l l′) (ok : Ok l) (fewer : NotAbove n l) (telling : Telling l′) (owning : Owning l′) where
+module _ (n : Counts) {b : ℕ} {l l′ : List ℕ} (r : Recounted n b l l′) (ok : Ok l) (fewer : NotAbove n l) (telling : Telling l′) (owning : Owning l′) (noting : (f : List ℕ) → Holds f l → Noting f l′) where
   ok-cut : Ok l′
   ok-cut = ok-of (r .long ∙ ok .long) (fits-of l′ (omega arith) (omega arith) (omega arith) (omega arith) (omega arith) (omega arith)) telling owning
 
@@ -162,10 +162,11 @@ module _ (n : Counts) {b : ℕ} {l l′ : List ℕ} (r : Recounted n b l l′) (
             (in-cut r 0 (omega arith) f (holds-in h 0 (omega arith)))
             (in-cut r 1 (omega arith) f (holds-in h 1 (omega arith)))
             (in-cut r 2 (omega arith) f (holds-in h 2 (omega arith)))
-            (subst Apart (sym (seg-cut r 1 (omega arith) (textOf f) (r .types))) (apart-cut (n .types) (namesOf f l) (h .names-apart)));
+            (subst Apart (sym (seg-cut r 1 (omega arith) (textOf f) (r .types))) (apart-cut (n .types) (namesOf f l) (h .names-apart)))
+            (noting f h);
         says = λ i. record {
           state = record {
-            strings = seg-cut r 0 (omega arith) (textOf f) (r .strings) i;
+            strings = seg-cut r 0 (omega arith) (stringOf f) (r .strings) i;
             typeNames = seg-cut r 1 (omega arith) (textOf f) (r .types) i;
             types = seg-cut r 1 (omega arith) typOf (r .types) i;
             fieldNames = seg-cut r 2 (omega arith) (textOf f) (r .fields) i;
@@ -178,11 +179,12 @@ module _ (n : Counts) {b : ℕ} {l l′ : List ℕ} (r : Recounted n b l l′) (
         };
       }
 
-pub cut-of : (n : Counts) {l l′ : List ℕ} → Ok l → NotAbove n l → Recounted n (getD l 6 0) l l′ → getD l′ 7 0 ≡ 0 → Cut n l l′
-cut-of n {l} {l′} ok fewer r off =
+pub cut-of : (n : Counts) {l l′ : List ℕ} → Ok l → NotAbove n l → Recounted n (getD l 6 0) l l′ → getD l′ 7 0 ≡ 0 → getD l′ 8 0 ≡ 0 → Cut n l l′
+cut-of n {l} {l′} ok fewer r off forgot =
     let untold : Telling l′ = λ on. absurd (omega (arith, off, on)) in
     let unowned : Owning l′ = λ on. absurd (omega (arith, off, on)) in
-    record { ok = ok-cut n r ok fewer untold unowned; counts = r; says = said-cut n r ok fewer untold unowned }
+    let unnoted : (f : List ℕ) → Holds f l → Noting f l′ = λ f h. record { rows = λ on. absurd (omega (arith, forgot, on)) } in
+    record { ok = ok-cut n r ok fewer untold unowned unnoted; counts = r; says = said-cut n r ok fewer untold unowned unnoted }
 
 -- all of the rows are all of them
 all-kept : (f : List ℕ) {l : List ℕ} → Holds f l → recounted (countsIn l) (getD l 6 0 + 1) (said f l) ≡ nextBlock (said f l)
@@ -217,15 +219,26 @@ owned-next {b} {l} {l′} ok r flag on =
     let fields-same : fldsOf l′ ≡ fldsOf l = seg-cut r 2 (omega (arith, r .fields)) fldOf (r .fields) ∙ take-all (getD l 2 0) (fldsOf l) (omega (arith, ok .flds-count)) in
     subst (λ (x : (ℕ → ℕ → ℕ) × List Field). Owned (x .0) (x .1)) (λ i. (sym cells-same i, sym fields-same i)) (ok .owning (sym flag ∙ on))
 
-pub next-of : {l l′ : List ℕ} → Ok l → Recounted (countsIn l) (getD l 6 0 + 1) l l′ → getD l′ 7 0 ≡ getD l 7 0 → Next l l′
-next-of {l} ok r flag =
+noted-next : {b : ℕ} {l l′ : List ℕ} → Recounted (countsIn l) b l l′ → getD l′ 8 0 ≡ getD l 8 0 → (f : List ℕ) → Holds f l → Noting f l′
+unfolding starts width most namesOf
+noted-next {b} {l} {l′} r flag f h =
+    let names-same : namesOf f l′ ≡ namesOf f l = seg-cut r 1 (omega (arith, r .types)) (textOf f) (r .types) ∙ take-all (getD l 1 0) (namesOf f l) (omega (arith, h .names-count)) in
+    record {
+      rows = λ on.
+          subst (λ (x : List (List ℕ)). Each (Recalls f x) 0 16 2 l′) (sym names-same)
+          (each-kept 0 16 2 l l′ (λ j a lt. r .rest j (omega arith)) (Recalls f (namesOf f l)) (r .strings) (h .noting .rows (sym flag ∙ on)));
+    }
+
+pub next-of : {l l′ : List ℕ} → Ok l → Recounted (countsIn l) (getD l 6 0 + 1) l l′ → getD l′ 7 0 ≡ getD l 7 0 → getD l′ 8 0 ≡ getD l 8 0 → Next l l′
+next-of {l} ok r flag noted =
     let telling = told-next ok r flag in
     let owning = owned-next ok r flag in
+    let noting = noted-next r noted in
     let none-lost : NotAbove (countsIn l) l = record { strings-had = le-refl _; types-had = le-refl _; fields-had = le-refl _; ranges-had = le-refl _; chunks-had = le-refl _ } in
     record {
-      ok = ok-cut (countsIn l) r ok none-lost telling owning;
+      ok = ok-cut (countsIn l) r ok none-lost telling owning noting;
       counts = r;
-      says = λ f h. let now = said-cut (countsIn l) r ok none-lost telling owning f h in record { holds = now .holds; says = now .says ∙ all-kept f h };
+      says = λ f h. let now = said-cut (countsIn l) r ok none-lost telling owning noting f h in record { holds = now .holds; says = now .says ∙ all-kept f h };
     }
 
 -- no rows at all, whatever stood in the table
@@ -242,10 +255,10 @@ begun-of {l} {l′} long zeros r =
     record {
       ok = fine;
       says = λ f small. record {
-        holds = holds-of fine small (record { row = λ i lt. absurd (omega arith) }) (record { row = λ i lt. absurd (omega arith) }) (record { row = λ i lt. absurd (omega arith) }) (subst Apart (sym (seg-none (textOf f) 1 2064 5 l′ (r .types))) apart-none);
+        holds = holds-of fine small (record { row = λ i lt. absurd (omega arith) }) (record { row = λ i lt. absurd (omega arith) }) (record { row = λ i lt. absurd (omega arith) }) (subst Apart (sym (seg-none (textOf f) 1 2064 5 l′ (r .types))) apart-none) (record { rows = λ on. record { row = λ i lt. absurd (omega arith) } });
         says = λ i. record {
           state = record {
-            strings = seg-none (textOf f) 0 16 2 l′ (r .strings) i;
+            strings = seg-none (stringOf f) 0 16 2 l′ (r .strings) i;
             typeNames = seg-none (textOf f) 1 2064 5 l′ (r .types) i;
             types = seg-none typOf 1 2064 5 l′ (r .types) i;
             fieldNames = seg-none (textOf f) 2 2224 16 l′ (r .fields) i;

@@ -10,11 +10,13 @@ pub mod Adds
 pub mod Answers
 pub mod Packed
 pub mod ApartLaws
+pub mod Memos
 pub mod ViewLaws
 pub mod Below
 pub mod Pushes
 pub mod RowReads
 pub mod Sizes
+pub mod Notes
 pub mod Counts
 pub mod Asks
 pub mod Loops

@@ -14,13 +14,14 @@ use lib.Seq.{slice, slice-cons, length-slice, length-take-le, take-nil, drop-con
 use borrow.Author.Tests.{eq-eqb, ne-eqb, eqb-true}
 use Rattle.paper.specs.Lists.{same, place}
 use Rattle.table.specs.RowLaws.{lt-or-ge}
-use Rattle.table.specs.View.{namesOf, summed, sumOf, Holds}
-use Rattle.table.specs.Answers.{Named}
-use Rattle.table.specs.Asks.{Standing, Other, Unseen, Missing, Spotted}
-use Rattle.table.specs.Loops.{place-on, place-end}
-use Rattle.table.specs.declared.rows.Span.{Span}
-use Rattle.table.specs.declared.names.Spot.{Spot}
-use Rattle.table.specs.declared.names.Spot.the-variants.{At, Nothing}
+use Rattle.table.specs.View.{strsOf, namesOf, summed, sumOf, Passed, Holds}
+use Rattle.table.specs.Answers.{Stands, Named, Remembered}
+use Rattle.table.specs.Asks.{found, Shorter, Recalled}
+use Rattle.table.specs.Loops.{place-on, place-in}
+use Rattle.table.specs.Memos.{passed-all, memo-no, memo-yes}
+use Rattle.table.specs.Notes.{NoteTaken}
+use Rattle.table.specs.declared.names.Found.{Found}
+use Rattle.table.specs.declared.names.Found.the-variants.{At, Nothing}
 
 -- lists of different lengths are not the same
 pub lengths-differ : (xs ys : List ℕ) → (length xs ≡ length ys → ⊥) → same xs ys ≡ false
@@ -123,43 +124,72 @@ part-of s e n f is in-f =
     (λ (ge : e ≤ s). over f e in-f (e - n) (omega arith) ∙ sym (over f e in-f s ge))
     (lt-or-ge s e)
 
--- a type by the place where its name stands: no other has that name
-pub standing : {l : List ℕ} {i a b sum : ℕ} {name : Span} → i < getD l 1 0 → Named namesOf l i a b sum → a ≡ name .start → b ≡ name .end → Standing l name i
-standing {l} {i} {a} {b} {sum} {name} lt row p q =
-    record {
-      is = λ f h.
-          sym (ap (λ (x : List ℕ). place (same x) 0 (namesOf f l)) (sym (row .is f ∙ rw (p, q) refl)) ∙ h .names-apart .first i (omega (arith, h .names-count)));
-    }
-
-module _ {f l : List ℕ} (name : Span) (h : Holds f l) {r : Spot} (told : Spotted l name r) where
-  pub spotted : {i : ℕ} → r ≡ At i → some i ≡ place (same (slice (name .start) (name .end) f)) 0 (namesOf f l)
-  spotted e = subst (Spotted l name) e told .is f h
-
-  pub not-spotted : name .end ≤ length f → r ≡ Nothing → none ≡ place (same (slice (name .start) (name .end) f)) 0 (namesOf f l)
-  not-spotted in-f e = subst (Spotted l name) e told .is f h in-f
-
 -- ── types whose names are as long ──
 
-pub other-length : {l : List ℕ} {i a b sum n : ℕ} → Named namesOf l i a b sum → (b - a ≡ n → ⊥) → Other l i n
-other-length {l} {i} {a} {b} row ne =
+pub shorter-start : {l : List ℕ} {n k : ℕ} → k ≤ getD l 1 0 → Shorter l n k k
+shorter-start le = record { few = le; is = λ f h name e p. p }
+
+pub shorter-on : {l : List ℕ} {n k i a b sum : ℕ} → i < getD l 1 0 → Named namesOf l i a b sum → (b - a ≡ n → ⊥) → Shorter l n k i → Shorter l n k (i + 1)
+shorter-on {l} {n} {k} {i} {a} {b} lt row ne S =
     record {
-      is = λ f h name e.
-          sym (ap (same name) (row .is f) ∙ name-length name f a b (row .within f h) (λ q. ne (sym q ∙ e)));
+      few = omega arith;
+      is = λ f h name e p.
+          let q = S .is f h name e p in
+          let other : false ≡ same name (getD (namesOf f l) i []) = sym (ap (same name) (row .is f) ∙ name-length name f a b (row .within f h) (λ q. ne (sym q ∙ e))) in
+          record { few = omega (arith, h .names-count); on = q .on ∙ place-on (same name) (namesOf f l) i [] (omega (arith, h .names-count)) refl other refl };
     }
 
-pub unseen-start : {l : List ℕ} {n : ℕ} → Unseen l n 0
-unseen-start = record { is = λ f h name e. refl }
+-- ── the type that a string names ──
 
-pub unseen-on : {l : List ℕ} {n i : ℕ} → i < getD l 1 0 → Other l i n → Unseen l n i → Unseen l n (i + 1)
-unseen-on {l} {n} {i} lt other before =
-    record {
-      is = λ f h name e. before .is f h name e ∙ place-on (same name) (namesOf f l) i [] (omega (arith, h .names-count)) refl (other .is f h name e) refl;
-    }
+module _ {f l : List ℕ} (h : Holds f l) where
+  -- a part of the source, of n bytes
+  module _ (a b : ℕ) {n k i : ℕ} (in-f : b ≤ length f) (long : n ≡ b - a) (S : Shorter l n k i) (p : Passed (namesOf f l) (slice a b f) k) where
+    pub part-passed : Passed (namesOf f l) (slice a b f) i
+    part-passed = S .is f h (slice a b f) (length-slice a b f in-f ∙ sym long) p
 
-pub missing : {l : List ℕ} {n i : ℕ} {name : Span} → n ≡ name .end - name .start → getD l 1 0 ≤ i → Unseen l n i → Missing l name
-missing {l} {n} {i} {name} is all before =
-    record {
-      is = λ f h in-f.
-          let x = slice (name .start) (name .end) f in
-          sym (before .is f h x (length-slice (name .start) (name .end) f in-f ∙ sym is) ∙ place-end (same x) (namesOf f l) i (omega (arith, h .names-count)));
-    }
+    pub part-none : getD l 1 0 ≤ i → none ≡ place (same (slice a b f)) 0 (namesOf f l)
+    part-none le = sym (passed-all (namesOf f l) (slice a b f) part-passed (omega (arith, h .names-count)))
+
+  module _ {i m : ℕ} (R : Remembered l i m) where
+    pub known : 33 ≤ m → some (m - 33) ≡ place (same (getD (strsOf f l) i [])) 0 (namesOf f l)
+    known le = sym (R .is f h .named le)
+
+    pub known-none : m < 33 → m ≡ getD l 1 0 → none ≡ place (same (getD (strsOf f l) i [])) 0 (namesOf f l)
+    known-none lt is = sym (passed-all (namesOf f l) (getD (strsOf f l) i []) (R .is f h .passed lt) (omega (arith, h .names-count)))
+
+    pub known-passed : m < 33 → {a b : ℕ} → Stands strsOf l i a b → Passed (namesOf f l) (slice a b f) m
+    known-passed lt S = subst (λ (x : List ℕ). Passed (namesOf f l) x m) (S .is f) (R .is f h .passed lt)
+
+    -- no more is known
+    pub recalled-known : 33 ≤ m → Recalled f l i m l
+    recalled-known le = record { now = record { holds = h; says = refl }; none-has = λ lt. absurd (omega arith); one-has = λ l. sym (known le) }
+
+    pub recalled-none : m < 33 → m ≡ getD l 1 0 → Recalled f l i m l
+    recalled-none lt is = record { now = record { holds = h; says = refl }; none-has = λ l. sym (known-none lt is); one-has = λ le. absurd (omega arith) }
+
+  -- it was looked for, and a note is taken
+  module _ {i a b : ℕ} (S : Stands strsOf l i a b) (o : Found) (says : found o ≡ place (same (slice a b f)) 0 (namesOf f l)) where
+    pub string-named : found o ≡ place (same (getD (strsOf f l) i [])) 0 (namesOf f l)
+    string-named = says ∙ ap (λ (x : List ℕ). place (same x) 0 (namesOf f l)) (sym (S .is f))
+
+    module _ {t : ℕ} (is : o ≡ At t) where
+      there : place (same (getD (strsOf f l) i [])) 0 (namesOf f l) ≡ some t
+      there = sym string-named ∙ ap found is
+
+      pub type-below : t < 32
+      type-below = omega (arith, place-in (same (getD (strsOf f l) i [])) 0 (namesOf f l) there .1, h .names-count, h .ok .types-fit)
+
+      pub recalled-at : {l′ : List ℕ} → NoteTaken i (33 + t) l l′ → Recalled f l i (33 + t) l′
+      recalled-at N =
+          let memo = memo-yes (namesOf f l) (getD (strsOf f l) i []) there in
+          record { now = N .says f h memo; none-has = λ lt. absurd (omega arith); one-has = memo .named }
+
+    module _ (is : o ≡ Nothing) where
+      nowhere : place (same (getD (strsOf f l) i [])) 0 (namesOf f l) ≡ none
+      nowhere = sym string-named ∙ ap found is
+
+      pub recalled-nothing : {n : ℕ} {l′ : List ℕ} → n ≡ getD l 1 0 → NoteTaken i n l l′ → Recalled f l i n l′
+      recalled-nothing {n} all N =
+          let few : n < 33 = omega (arith, h .ok .types-fit) in
+          let memo = memo-no (namesOf f l) (getD (strsOf f l) i []) few (omega (arith, h .names-count)) nowhere in
+          record { now = N .says f h memo; none-has = λ lt. nowhere; one-has = λ le. absurd (omega arith) }

@@ -9,9 +9,10 @@ use lib.ListN.{length, getD, List·getD-eq-default}
 use Rattle.paper.specs.Ledger.{Typ, noType, noField, typeIn}
 use Rattle.table.specs.Segs.{seg, cells, Each}
 use Rattle.table.specs.RowLaws.{seg-at}
-use Rattle.table.specs.View.{maybe, wide, kindFrom, textOf, typOf, fldOf, rangeOf, dueOf, spotOf, strsOf, namesOf, typesOf, titlesOf, fldsOf, logOf, duesOf, chunksOf, Within, Holds}
+use Rattle.table.specs.View.{maybe, wide, kindFrom, textOf, stringOf, typOf, fldOf, rangeOf, dueOf, spotOf, strsOf, namesOf, typesOf, titlesOf, fldsOf, logOf, duesOf, chunksOf, Within, Holds}
 use Rattle.table.specs.ViewLaws.{count-strs, count-names, count-titles, count-types, count-flds, count-log, count-dues, count-chunks}
-use Rattle.table.specs.Answers.{Stands, Named, noRange, noDue, noSpot}
+use Rattle.table.specs.Memos.{memo-none}
+use Rattle.table.specs.Answers.{Stands, Remembered, Named, noRange, noDue, noSpot}
 
 -- the texts of a kind of rows begin with a first byte and an end
 module _ (k base w : ℕ) (texts : List ℕ → List ℕ → List (List ℕ)) (l : List ℕ) (i : ℕ) (lt : i < getD l k 0) where
@@ -30,9 +31,23 @@ module _ (k base w : ℕ) (texts : List ℕ → List ℕ → List (List ℕ)) (l
       }
 
 module _ (l : List ℕ) (i : ℕ) where
-  pub string-stands : i < getD l 0 0 → Stands strsOf l i (getD l (16 + 2 * i) 0) (getD l (16 + 2 * i + 1) 0)
+  string-is : (f : List ℕ) → i < getD l 0 0 → getD (strsOf f l) i [] ≡ stringOf f (cells l (16 + 2 * i) 2)
   unfolding strsOf
-  string-stands lt = stands-of 0 16 0 strsOf l i lt (λ f. refl) (λ f. count-strs f l) (λ f h. h .strs-in)
+  string-is f lt = seg-at (stringOf f) 0 16 2 l i [] (omega (arith, count-strs f l))
+
+  pub string-stands : i < getD l 0 0 → Stands strsOf l i (getD l (16 + 2 * i) 0 % 66000000) (getD l (16 + 2 * i + 1) 0)
+  unfolding cells
+  string-stands lt =
+      record { is = λ f. string-is f lt ∙ rw add-one refl; within = λ f h. rw add-one (h .strs-in .row i lt .inside) }
+
+  -- what is noted of it
+  pub string-noted : i < getD l 0 0 → {m : ℕ} → getD l 8 0 ≡ 1 → m ≡ getD l (16 + 2 * i) 0 / 66000000 → Remembered l i m
+  unfolding cells
+  string-noted lt on is =
+      record { is = λ f h. rw (is, string-is f lt) (h .noting .rows on .row i lt .memo) }
+
+  pub nothing-noted : Remembered l i 0
+  nothing-noted = record { is = λ f h. memo-none _ _ refl }
 
   pub name-stands : i < getD l 1 0 → Named namesOf l i (getD l (2064 + 5 * i) 0) (getD l (2064 + 5 * i + 1) 0) (getD l (2064 + 5 * i + 4) 0)
   unfolding namesOf cells

@@ -9,10 +9,10 @@ use native.Mathlib.Omega.{arith}
 use lib.ListN.{length, getD, set, length-set}
 use lib.Seq.{sets, length-sets, ext-getD, getD-set-same, getD-set-other}
 use Rattle.paper.specs.Ledger.{Due, Typ, Field, Range}
-use Rattle.table.specs.Segs.{cells, seg}
+use Rattle.table.specs.Segs.{cells, seg, Each}
 use Rattle.table.specs.RowLaws.{lt-or-ge, same-or-not, cells-cong, cells-sets, sets-other, seg-at, seg-kept, each-kept}
 use Rattle.table.specs.Layout.{width, most, starts, kinds-apart}
-use Rattle.table.specs.View.{wide, textOf, typOf, fldOf, rangeOf, dueOf, spotOf, strsOf, namesOf, typesOf, titlesOf, fldsOf, logOf, duesOf, chunksOf, view, tally, Telling, Owning, Ok, Within, Holds, Now, Apart}
+use Rattle.table.specs.View.{wide, textOf, stringOf, typOf, fldOf, rangeOf, dueOf, spotOf, strsOf, namesOf, typesOf, titlesOf, fldsOf, logOf, duesOf, chunksOf, view, tally, Telling, Owning, Ok, Within, Holds, Now, Apart, Recalls, Noting}
 use Rattle.table.specs.ViewLaws.{count-dues, Fits, ok-fits, ok-of, In, holds-of, holds-in}
 use Rattle.table.specs.RowReads.{due-row}
 use Rattle.table.specs.Told.{Told, Owned}
@@ -79,6 +79,15 @@ module _ (i size : ℕ) {l l′ : List ℕ} (ok : Ok l) (lt : i < getD l 4 0) (i
   ok-kept : Ok l′
   ok-kept = ok-of (long-kept ∙ ok .long) fits-kept telling-kept owning-kept
 
+  noted-kept : (f : List ℕ) → Noting f l → Noting f l′
+  unfolding starts width most namesOf
+  noted-kept f w =
+      record {
+        rows = λ on.
+            subst (λ (x : List (List ℕ)). Each (Recalls f x) 0 16 2 l′) (sym (kept (textOf f) 1 (omega arith) (omega arith)))
+            (each-kept 0 16 2 l l′ (rows-same 0 (omega arith) (omega arith)) (Recalls f (namesOf f l)) (count-kept 0 (omega arith)) (w .rows (sym (count-kept 8 (omega arith)) ∙ on)));
+      }
+
   -- the row itself
   stored : cells l′ (7344 + 4 * i + 2) 2 ≡ lower size ∷ upper size ∷ []
   stored = ap (λ (t : List ℕ). cells t (7344 + 4 * i + 2) 2) is ∙ cells-sets (lower size ∷ upper size ∷ []) l (7344 + 4 * i + 2) (omega (arith, ok .long, ok .dues-fit))
@@ -134,10 +143,11 @@ module _ (i size : ℕ) {l l′ : List ℕ} (ok : Ok l) (lt : i < getD l 4 0) (i
               (in-kept f 0 (omega arith) (holds-in h 0 (omega arith)))
               (in-kept f 1 (omega arith) (holds-in h 1 (omega arith)))
               (in-kept f 2 (omega arith) (holds-in h 2 (omega arith)))
-              (subst Apart (sym (kept (textOf f) 1 (omega arith) (omega arith))) (h .names-apart));
+              (subst Apart (sym (kept (textOf f) 1 (omega arith) (omega arith))) (h .names-apart))
+              (noted-kept f (h .noting));
           says = λ j. record {
             state = record {
-              strings = kept (textOf f) 0 (omega arith) (omega arith) j;
+              strings = kept (stringOf f) 0 (omega arith) (omega arith) j;
               typeNames = kept (textOf f) 1 (omega arith) (omega arith) j;
               types = kept typOf 1 (omega arith) (omega arith) j;
               fieldNames = kept (textOf f) 2 (omega arith) (omega arith) j;

@@ -1,12 +1,12 @@
 -- What the work table says, over the bytes that it was read from: the state that the definitions speak of. Only this crate
 -- knows a cell's number. Assumes nothing.
-use Prim.Native.Nat.{ℕ, zero, suc, _+_, _*_, _^_, _/_, _%_, _<_, _≤_}
+use Prim.Native.Nat.{ℕ, zero, suc, _+_, _-_, _*_, _^_, _/_, _%_, _<_, _≤_}
 use mathlib.Core.List.{List, [], _∷_, _++_}
 use mathlib.Core.Bool.{Bool, true, false, _&&_}
 use mathlib.Core.Option.{Option, none, some}
 use mathlib.Core.Path.{_≡_}
 use lib.Dec.{leb, ltb, eqb}
-use lib.ListN.{length, getD}
+use lib.ListN.{length, getD, drop}
 use lib.Seq.{slice}
 use Rattle.paper.specs.Reader.{if_then_else_}
 use Rattle.paper.specs.Numbers.{signed, putFixed}
@@ -27,7 +27,8 @@ use Rattle.table.specs.Told.{Told, Owned}
 --      5           number of chunks of the blocks before
 --      6           number of blocks before this one
 --      7           1 where the tallies are told, 0 where they are not
---     16 ..  2063  strings: first byte, end                                   1,024 x 2
+--      8           1 where what strings name is noted, 0 where it is not
+--     16 ..  2063  strings: first byte and what it names (`Memo`), end         1,024 x 2
 --   2064 ..  2223  types: name's first byte, its end, super type + 1, base, sum  32 x 5
 --   2224 ..  4271  fields: name's first byte, its end, owner, kind, two numbers, sum 128 x 16
 --   4272 ..  7343  ranges: type and block, start and count, first             1,024 x 3
@@ -73,6 +74,10 @@ wide lo hi = lo + 4294967296 * hi
 abbrev pub textOf : List ℕ → List ℕ → List ℕ
 textOf f r = slice (getD r 0 0) (getD r 1 0) f
 
+-- a string's first number has more than its first byte
+abbrev pub stringOf : List ℕ → List ℕ → List ℕ
+stringOf f r = slice (getD r 0 0 % 66000000) (getD r 1 0) f
+
 abbrev pub typOf : List ℕ → Typ
 typOf r = record { super = maybe (getD r 2 0); base = getD r 3 0 }
 
@@ -108,7 +113,7 @@ spotOf r = record { field = getD r 0 0 % 128; start = getD r 0 0 / 128; end = ge
 -- ── segments ──
 
 unfoldable pub strsOf : List ℕ → List ℕ → List (List ℕ)
-strsOf f l = seg (textOf f) 0 16 2 l
+strsOf f l = seg (stringOf f) 0 16 2 l
 
 unfoldable pub namesOf : List ℕ → List ℕ → List (List ℕ)
 namesOf f l = seg (textOf f) 1 2064 5 l
@@ -194,14 +199,33 @@ pub record Within (f : List ℕ) (k : ℕ) (r : List ℕ) : Type 0 where
 pub record Apart (names : List (List ℕ)) : Type 0 where
   pub first : (i : ℕ) → i < length names → place (same (getD names i [])) 0 names ≡ some i
 
--- of the table with the bytes, of which there are so few that a cell holds a place
+-- the first k names are not this one
+pub record Passed (names : List (List ℕ)) (name : List ℕ) (k : ℕ) : Type 0 where
+  pub few : k ≤ length names
+  pub on : place (same name) 0 names ≡ place (same name) k (drop k names)
+
+-- what m says of a name: up to 32, the first m names are not this one; from 33 on, name m - 33 is
+pub record Memo (names : List (List ℕ)) (name : List ℕ) (m : ℕ) : Type 0 where
+  pub passed : m < 33 → Passed names name m
+  pub named : 33 ≤ m → place (same name) 0 names ≡ some (m - 33)
+
+-- a string's row says so of the types' names
+pub record Recalls (f : List ℕ) (names : List (List ℕ)) (r : List ℕ) : Type 0 where
+  pub memo : Memo names (stringOf f r) (getD r 0 0 / 66000000)
+
+-- every row does where cell 8 is 1. It always is, but after a cut
+pub record Noting (f l : List ℕ) : Type 0 where
+  pub rows : getD l 8 0 ≡ 1 → Each (Recalls f (namesOf f l)) 0 16 2 l
+
+-- of the table with the bytes, of which there are so few that a cell holds a place, and 65 times as many
 pub record Holds (f l : List ℕ) : Type 0 where
   pub ok : Ok l
-  pub small : length f < 4294967296
+  pub small : length f < 66000000
   pub strs-in : Each (Within f 0) 0 16 2 l
   pub names-in : Each (Within f 1) 1 2064 5 l
   pub titles-in : Each (Within f 2) 2 2224 16 l
   pub names-apart : Apart (namesOf f l)
+  pub noting : Noting f l
   pub strs-count : length (strsOf f l) ≡ getD l 0 0
   pub names-count : length (namesOf f l) ≡ getD l 1 0
   pub titles-count : length (titlesOf f l) ≡ getD l 2 0

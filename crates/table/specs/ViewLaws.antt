@@ -2,7 +2,7 @@
 use mathlib.Core.Path.{_≡_, sym, ap, _∙_, subst}
 use mathlib.Core.Logic.{⊎-elim, _≢_}
 use mathlib.Core.List.{List, [], _∷_, _++_}
-use Prim.Native.Nat.{ℕ, zero, suc, _≤_, _<_}
+use Prim.Native.Nat.{ℕ, zero, suc, _/_, _%_, _≤_, _<_}
 use native.Mathlib.Omega.{arith}
 use lib.ListN.{length, getD}
 use lib.Seq.{slice}
@@ -14,13 +14,14 @@ use Rattle.table.specs.Segs.{seg, Each, Laid}
 use Rattle.table.specs.Rows.{Push}
 use Rattle.table.specs.RowLaws.{same-or-not, length-tab, push-other, push-long, push-count, push-mine, push-kept, push-each, push-each-kept}
 use Rattle.table.specs.Layout.{width, most, starts, head-le, kinds-apart, kind-fits}
-use Rattle.table.specs.View.{textOf, typOf, fldOf, rangeOf, dueOf, spotOf, strsOf, namesOf, typesOf, titlesOf, fldsOf, logOf, duesOf, chunksOf, said, Telling, Owning, Ok, Within, Holds, Now, Apart, sumOf}
+use Rattle.table.specs.View.{textOf, stringOf, typOf, fldOf, rangeOf, dueOf, spotOf, strsOf, namesOf, typesOf, titlesOf, fldsOf, logOf, duesOf, chunksOf, said, Telling, Owning, Ok, Within, Holds, Now, Apart, sumOf, Memo, Recalls, Noting}
 use Rattle.table.specs.Answers.{typIn, fieldIn, rangeIn, Small}
 use Rattle.table.specs.Packed.{typeCells, fieldCells, rangeCells, dueCells, chunkCells, field-cells, range-cells, due-cells, chunk-cells}
 use Rattle.table.specs.declared.rows.TypeRow.{TypeRow}
 use Rattle.table.specs.declared.rows.FieldRow.{FieldRow}
 use Rattle.table.specs.declared.rows.RangeRow.{RangeRow}
 use Rattle.table.specs.ApartLaws.{apart-more}
+use Rattle.table.specs.Memos.{memo-none, memo-more}
 use Rattle.table.specs.Adds.{addString, addType, addField, addRange, addDue, addChunk}
 
 -- ── what every table keeps, from what it must ──
@@ -97,9 +98,9 @@ ok-of {l} long fits telling owning =
 abbrev pub In : List ℕ → List ℕ → ℕ → Type 0
 In f l k = Each (Within f k) k (starts k) (width k) l
 
-pub holds-of : {f l : List ℕ} → Ok l → length f < 4294967296 → In f l 0 → In f l 1 → In f l 2 → Apart (namesOf f l) → Holds f l
+pub holds-of : {f l : List ℕ} → Ok l → length f < 66000000 → In f l 0 → In f l 1 → In f l 2 → Apart (namesOf f l) → Noting f l → Holds f l
 unfolding starts width most
-holds-of {f} {l} ok small a b d apart =
+holds-of {f} {l} ok small a b d apart noting =
     record {
       ok = ok;
       small = small;
@@ -107,6 +108,7 @@ holds-of {f} {l} ok small a b d apart =
       names-in = b;
       titles-in = d;
       names-apart = apart;
+      noting = noting;
       strs-count = count-strs f l;
       names-count = count-names f l;
       titles-count = count-titles f l;
@@ -161,7 +163,7 @@ module _ {c : ℕ} {vs l l′ : List ℕ} (p : Laid c (starts c) (width c) vs l 
   unfolding starts width most strsOf namesOf typesOf titlesOf fldsOf logOf duesOf chunksOf
   others f =
       record {
-        strings = kept (textOf f) 0 (omega arith);
+        strings = kept (stringOf f) 0 (omega arith);
         typeNames = kept (textOf f) 1 (omega arith);
         types = kept typOf 1 (omega arith);
         fieldNames = kept (textOf f) 2 (omega arith);
@@ -183,25 +185,56 @@ module _ {c : ℕ} {vs l l′ : List ℕ} (p : Laid c (starts c) (width c) vs l 
       more : 1 ≡ c → namesOf f l′ ≡ namesOf f l ++ textOf f vs ∷ []
       more e = push-mine (subst (λ (j : ℕ). Laid j (starts j) (width j) vs l l′) (sym e) p) (textOf f)
 
-  -- a name lies within the bytes, and a type's is not one that a type has
-  pub holds-after : {f : List ℕ} → Holds f l → Ok l′ → (c < 3 → Within f c vs) → (1 ≡ c → place (same (textOf f vs)) 0 (namesOf f l) ≡ none) → Holds f l′
-  holds-after {f} h ok′ new fresh =
+  -- what is noted of a name stays true
+  memo-after : (f : List ℕ) (name : List ℕ) {m : ℕ} → Memo (namesOf f l) name m → Memo (namesOf f l′) name m
+  unfolding starts width most namesOf
+  memo-after f name {m} w =
+      ⊎-elim
+      (λ (e : 1 ≡ c). subst (λ (x : List (List ℕ)). Memo x name m) (sym (more e)) (memo-more (namesOf f l) name (textOf f vs) w))
+      (λ (ne : 1 ≢ c). subst (λ (x : List (List ℕ)). Memo x name m) (sym (others f .typeNames ne)) w)
+      (same-or-not 1 c)
+    where
+      more : 1 ≡ c → namesOf f l′ ≡ namesOf f l ++ textOf f vs ∷ []
+      more e = push-mine (subst (λ (j : ℕ). Laid j (starts j) (width j) vs l l′) (sym e) p) (textOf f)
+
+  noted-after : (f : List ℕ) → (0 ≡ c → getD vs 0 0 < 66000000) → Noting f l → Noting f l′
+  unfolding starts width most
+  noted-after f low w =
+      record {
+        rows = λ on.
+            let all : Each (Recalls f (namesOf f l)) 0 16 2 l = w .rows (sym (push-other p 8 (omega arith) (omega arith) (omega arith) (λ r. omega (arith, head-le c))) ∙ on) in
+            let kept : Each (Recalls f (namesOf f l)) 0 16 2 l′ =
+            ⊎-elim
+            (λ (e : 0 ≡ c).
+            let new : Recalls f (namesOf f l) vs = record { memo = memo-none (namesOf f l) (stringOf f vs) (omega (arith, low e)) } in
+            push-each (subst (λ (j : ℕ). Laid j (starts j) (width j) vs l l′) (sym e) p) (Recalls f (namesOf f l)) new all)
+            (λ (ne : 0 ≢ c). push-each-kept p 0 16 2 1024 ne (omega arith) (omega arith) (ok .strs-fit) (omega arith) (kinds-apart 0 c (getD l c 0) ne room) (Recalls f (namesOf f l)) all)
+            (same-or-not 0 c) in
+            record { row = λ i lt. record { memo = memo-after f _ (kept .row i lt .memo) } };
+      }
+
+  -- a name lies within the bytes, a type's is not one that a type has, and of a string nothing is noted yet
+  pub holds-after : {f : List ℕ} → Holds f l → Ok l′ → (c < 3 → Within f c vs) → (1 ≡ c → place (same (textOf f vs)) 0 (namesOf f l) ≡ none) → (0 ≡ c → getD vs 0 0 < 66000000) → Holds f l′
+  holds-after {f} h ok′ new fresh low =
       holds-of ok′ (h .small)
       (in-after f 0 (omega arith) (λ e. new (omega arith)) (holds-in h 0 (omega arith)))
       (in-after f 1 (omega arith) (λ e. new (omega arith)) (holds-in h 1 (omega arith)))
       (in-after f 2 (omega arith) (λ e. new (omega arith)) (holds-in h 2 (omega arith)))
       (apart-after f fresh (h .names-apart))
+      (noted-after f low (h .noting))
 
 module _ {f l l′ : List ℕ} (h : Holds f l) where
-  pub pushed-string : {a b : ℕ} → getD l 0 0 < 1024 → b ≤ length f → Push 0 16 2 (a ∷ b ∷ []) l l′ → Now f l′ (addString (said f l) (slice a b f))
+  pub pushed-string : {a b : ℕ} → getD l 0 0 < 1024 → a ≤ length f → b ≤ length f → Push 0 16 2 (a ∷ b ∷ []) l l′ → Now f l′ (addString (said f l) (slice a b f))
   unfolding starts width most strsOf namesOf typesOf titlesOf fldsOf logOf duesOf chunksOf addString
-  pushed-string room within p =
+  pushed-string {a} {b} room from within p =
       let other = others {c = 0} (p .laid) (h .ok) (omega arith) room f in
+      let low : a % 66000000 ≡ a = omega (arith, h .small) in
+      let mine = push-mine (p .laid) (stringOf f) ∙ ap (λ (k : ℕ). strsOf f l ++ slice k b f ∷ []) low in
       record {
-        holds = holds-after {c = 0} (p .laid) (h .ok) (omega arith) room h (p .ok) (λ lt. record { inside = within; sum = λ named. absurd (omega arith) }) (λ e. absurd (omega arith));
+        holds = holds-after {c = 0} (p .laid) (h .ok) (omega arith) room h (p .ok) (λ lt. record { inside = within; sum = λ named. absurd (omega arith) }) (λ e. absurd (omega arith)) (λ e. omega (arith, h .small));
         says = λ i. record {
           state = record {
-            strings = push-mine (p .laid) (textOf f) i;
+            strings = mine i;
             typeNames = other .typeNames (omega arith) i;
             types = other .types (omega arith) i;
             fieldNames = other .fieldNames (omega arith) i;
@@ -219,7 +252,7 @@ module _ {f l l′ : List ℕ} (h : Holds f l) where
   pushed-type r room within sums fresh p =
       let other = others {c = 1} (p .laid) (h .ok) (omega arith) room f in
       record {
-        holds = holds-after {c = 1} (p .laid) (h .ok) (omega arith) room h (p .ok) (λ lt. record { inside = within; sum = λ named. sums }) (λ e. fresh);
+        holds = holds-after {c = 1} (p .laid) (h .ok) (omega arith) room h (p .ok) (λ lt. record { inside = within; sum = λ named. sums }) (λ e. fresh) (λ e. absurd (omega arith));
         says = λ i. record {
           state = record {
             strings = other .strings (omega arith) i;
@@ -241,7 +274,7 @@ module _ {f l l′ : List ℕ} (h : Holds f l) where
       let other = others {c = 2} (p .laid) (h .ok) (omega arith) room f in
       let mine = push-mine (p .laid) fldOf ∙ ap (λ (d : Field). fldsOf l ++ d ∷ []) (field-cells r) in
       record {
-        holds = holds-after {c = 2} (p .laid) (h .ok) (omega arith) room h (p .ok) (λ lt. record { inside = within; sum = λ named. sums }) (λ e. absurd (omega arith));
+        holds = holds-after {c = 2} (p .laid) (h .ok) (omega arith) room h (p .ok) (λ lt. record { inside = within; sum = λ named. sums }) (λ e. absurd (omega arith)) (λ e. absurd (omega arith));
         says = λ i. record {
           state = record {
             strings = other .strings (omega arith) i;
@@ -263,7 +296,7 @@ module _ {f l l′ : List ℕ} (h : Holds f l) where
       let other = others {c = 3} (p .laid) (h .ok) (omega arith) room f in
       let mine = push-mine (p .laid) rangeOf ∙ ap (λ (d : Range). logOf l ++ d ∷ []) (range-cells r small) in
       record {
-        holds = holds-after {c = 3} (p .laid) (h .ok) (omega arith) room h (p .ok) (λ lt. absurd (omega arith)) (λ e. absurd (omega arith));
+        holds = holds-after {c = 3} (p .laid) (h .ok) (omega arith) room h (p .ok) (λ lt. absurd (omega arith)) (λ e. absurd (omega arith)) (λ e. absurd (omega arith));
         says = λ i. record {
           state = record {
             strings = other .strings (omega arith) i;
@@ -285,7 +318,7 @@ module _ {f l l′ : List ℕ} (h : Holds f l) where
       let other = others {c = 4} (p .laid) (h .ok) (omega arith) room f in
       let mine = push-mine (p .laid) dueOf ∙ ap (λ (d : Due × ℕ). duesOf l ++ d ∷ []) (due-cells field values size) in
       record {
-        holds = holds-after {c = 4} (p .laid) (h .ok) (omega arith) room h (p .ok) (λ lt. absurd (omega arith)) (λ e. absurd (omega arith));
+        holds = holds-after {c = 4} (p .laid) (h .ok) (omega arith) room h (p .ok) (λ lt. absurd (omega arith)) (λ e. absurd (omega arith)) (λ e. absurd (omega arith));
         says = λ i. record {
           state = record {
             strings = other .strings (omega arith) i;
@@ -307,7 +340,7 @@ module _ {f l l′ : List ℕ} (h : Holds f l) where
       let other = others {c = 5} (p .laid) (h .ok) (omega arith) room f in
       let mine = push-mine (p .laid) spotOf ∙ ap (λ (d : Spot). chunksOf l ++ d ∷ []) (chunk-cells field start end small) in
       record {
-        holds = holds-after {c = 5} (p .laid) (h .ok) (omega arith) room h (p .ok) (λ lt. absurd (omega arith)) (λ e. absurd (omega arith));
+        holds = holds-after {c = 5} (p .laid) (h .ok) (omega arith) room h (p .ok) (λ lt. absurd (omega arith)) (λ e. absurd (omega arith)) (λ e. absurd (omega arith));
         says = λ i. record {
           state = record {
             strings = other .strings (omega arith) i;

@@ -20,11 +20,12 @@ pub fn counts(work: &[u32]) -> Counts
     }
 }
 
-// The first cells, all at once: no chunk is due afterwards. The last one says whether the tallies are told.
-fn set_counts(work: &mut [u32], n: Counts, block: u32, told: u32)
+// The first cells, all at once: no chunk is due afterwards. The last two say whether the tallies are told, and whether what
+// strings name is noted.
+fn set_counts(work: &mut [u32], n: Counts, block: u32, told: u32, noted: u32)
     requires { ⌜ length (now work) ≡ 16384 ⌝ }
     ensures { λ _. ⌜ Recounted n block (now (work .entry)) (now (work .exit)) ⌝ }
-    ensures { λ _. ⌜ getD (now (work .exit)) 7 0 ≡ told ⌝ }
+    ensures { λ _. ⌜ (getD (now (work .exit)) 7 0 ≡ told) × (getD (now (work .exit)) 8 0 ≡ noted) ⌝ }
 {
     let none_due = 0;
     put8(
@@ -39,6 +40,7 @@ fn set_counts(work: &mut [u32], n: Counts, block: u32, told: u32)
         block,
         told,
     );
+    work[8] = noted;
 }
 
 // No tallies, whatever stood there.
@@ -66,7 +68,7 @@ pub fn begin(work: &mut [u32])
         chunks: 0,
     };
     clear_tallies(work);
-    set_counts(work, none, 0, 1);
+    set_counts(work, none, 0, 1, 1);
 }
 
 // The end of a block.
@@ -78,17 +80,19 @@ pub fn next_block(work: &mut [u32])
     let n = counts(work);
     let block = work[6];
     let told = work[7];
-    set_counts(work, n, block + 1, told);
+    let noted = work[8];
+    set_counts(work, n, block + 1, told, noted);
 }
 
-// Back to what the table said when it had fewer rows. The tallies are not told any more: this is done once, to refuse.
+// Back to what the table said when it had fewer rows. The tallies are not told any more, and nothing is noted: this is
+// done once, to refuse.
 pub fn cut_back(work: &mut [u32], n: Counts)
     requires { ⌜ Ok (now work) ⌝ }
     requires { ⌜ NotAbove n (now work) ⌝ }
     ensures { λ _. ⌜ Cut n (now (work .entry)) (now (work .exit)) ⌝ }
 {
     let block = work[6];
-    set_counts(work, n, block, 0);
+    set_counts(work, n, block, 0, 0);
 }
 
 // Every number is 0 afterwards.

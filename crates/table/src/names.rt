@@ -6,19 +6,19 @@ ghost use lib.ListN.{length, getD, drop};
 ghost use lib.Seq.{slice};
 ghost use Rattle.paper.specs.Lists.{same, place, placeNamed, places};
 ghost use Rattle.paper.specs.Ledger.{owns?, called?};
-ghost use Rattle.table.specs.View.{namesOf, titlesOf, fldsOf, Ok, Holds, strsOf, sumOf};
+ghost use Rattle.table.specs.View.{namesOf, titlesOf, fldsOf, Ok, Holds, Passed, strsOf, sumOf};
 ghost use Rattle.table.specs.Answers.{fieldIn, Stretched};
-ghost use Rattle.table.specs.Asks.{found, Standing, Spotted, Other};
+ghost use Rattle.table.specs.Asks.{found, Shorter, Recalled};
 use super::ranges::tally_at;
 use super::ranges::told;
 ghost use mathlib.Core.List.{[]};
+use super::pushes::note;
 use super::rows::FieldRow;
 use super::rows::Span;
 use super::rows::Stretch;
 use super::rows::field_at;
 use super::rows::fields;
-use super::rows::range_at;
-use super::rows::ranges;
+use super::rows::memo_at;
 use super::rows::string_at;
 use super::rows::type_at;
 use super::rows::types;
@@ -27,13 +27,6 @@ use std::num::wrapping_add_u16;
 // A place among the types or the fields.
 pub enum Found {
     At(u32),
-    Nothing,
-}
-
-// What the places of the types' names say of a name: the type that it is, that some type's name is as long, or that none is.
-pub enum Spot {
-    At(u32),
-    Alike,
     Nothing,
 }
 
@@ -98,14 +91,15 @@ fn has_name(src: &[u8], start: u32, end: u32, there: u32, name: &[u8], sum: u32)
     there == sum && is_name(src, start, end, name)
 }
 
-// The type with a lent name.
-pub fn find_type_called(src: &[u8], work: &[u32], name: &[u8]) -> Found
+// The type with a lent name, where the first k types have others.
+fn find_from(src: &[u8], work: &[u32], name: &[u8], k: u32) -> Found
     requires { ⌜ Holds (now src) (now work) ⌝ }
+    requires { ⌜ Passed (namesOf (now src) (now work)) (now name) k ⌝ }
     ensures { λ r. ⌜ found r ≡ place (same (now (name .entry))) 0 (namesOf (now (src .entry)) (now (work .entry))) ⌝ }
 {
     let n = types(work);
     let sum = name_sum(name);
-    let mut i = 0;
+    let mut i = k;
     while i < n {
         let row = type_at(work, i);
         if has_name(src, row.start, row.end, row.sum, name, sum) {
@@ -116,93 +110,84 @@ pub fn find_type_called(src: &[u8], work: &[u32], name: &[u8]) -> Found
     Found::Nothing
 }
 
-// Whether the name of type i stands at this place. No name occurs twice, so no other type has it, and no byte is read.
-fn stands_at(work: &[u32], i: u32, name: Span) -> bool
-    requires { ⌜ Ok (now work) ⌝ }
-    ensures { λ r. ⌜ (r ≡ true → Standing (now (work .entry)) name i) ⌝ }
+// The type with a lent name.
+pub fn find_type_called(src: &[u8], work: &[u32], name: &[u8]) -> Found
+    requires { ⌜ Holds (now src) (now work) ⌝ }
+    ensures { λ r. ⌜ found r ≡ place (same (now (name .entry))) 0 (namesOf (now (src .entry)) (now (work .entry))) ⌝ }
 {
-    if types(work) <= i {
-        return false;
-    }
-    let row = type_at(work, i);
-    if row.start != name.start {
-        return false;
-    }
-    if row.end != name.end {
-        return false;
-    }
-    true
+    find_from(src, work, name, 0)
 }
 
-// The type behind the one that was entered last. Entries mostly come in the order of the block before.
-fn likely_type(work: &[u32]) -> u32
+// The first type from k on whose name has n bytes, or how many types there are.
+fn first_long(work: &[u32], k: u32, n: usize) -> u32
     requires { ⌜ Ok (now work) ⌝ }
+    requires { ⌜ k ≤ getD (now work) 1 0 ⌝ }
+    ensures { λ r. ⌜ Shorter (now (work .entry)) n k r ⌝ }
 {
-    let n = ranges(work);
-    if n == 0 {
-        return 0;
-    }
-    let last = range_at(work, n - 1);
-    let t = last.typ + 1;
-    if t < types(work) {
-        return t;
-    }
-    0
-}
-
-// Whether the name of type i has n bytes.
-fn is_long(work: &[u32], i: u32, n: usize) -> bool
-    requires { ⌜ Ok (now work) ⌝ }
-    requires { ⌜ i < getD (now work) 1 0 ⌝ }
-    ensures { λ r. ⌜ (r ≡ false → Other (now (work .entry)) i n) ⌝ }
-{
-    let row = type_at(work, i);
-    length_of(row.start, row.end) == n
-}
-
-// The type whose name stands at this place, if there is one. No byte is read.
-fn find_place(work: &[u32], name: Span) -> Spot
-    requires { ⌜ Ok (now work) ⌝ }
-    ensures { λ r. ⌜ Spotted (now (work .entry)) name r ⌝ }
-{
-    let likely = likely_type(work);
-    if stands_at(work, likely, name) {
-        return Spot::At(likely);
-    }
-    let n = types(work);
-    let long = length_of(name.start, name.end);
-    let mut alike = false;
-    let mut i = 0;
-    while i < n {
-        if stands_at(work, i, name) {
-            return Spot::At(i);
-        }
-        if is_long(work, i, long) {
-            alike = true;
+    let all = types(work);
+    let mut i = k;
+    while i < all {
+        let row = type_at(work, i);
+        if length_of(row.start, row.end) == n {
+            return i;
         }
         i += 1;
     }
-    if alike {
-        return Spot::Alike;
-    }
-    Spot::Nothing
+    i
 }
 
-// The type whose name has the bytes of a part of the source. They are read only where a type's name is as long.
-pub fn find_type(src: &[u8], work: &[u32], name: Span) -> Found
+// The type whose name has the bytes of a part of the source, where the first k types have others. They are read only where
+// a type's name is as long.
+fn find_part(src: &[u8], work: &[u32], name: Span, k: u32) -> Found
     requires { ⌜ Holds (now src) (now work) ⌝ }
-    requires { ⌜ name .end ≤ length (now src) ⌝ }
+    requires { ⌜ (name .end ≤ length (now src)) × Passed (namesOf (now src) (now work)) (slice (name .start) (name .end) (now src)) k ⌝ }
     ensures { λ r. ⌜ found r ≡ place (same (slice (name .start) (name .end) (now (src .entry)))) 0 (namesOf (now (src .entry)) (now (work .entry))) ⌝ }
 {
-    match find_place(work, name) {
-        Spot::At(i) => Found::At(i),
-        Spot::Nothing => Found::Nothing,
-        Spot::Alike => {
-            let to = name.end as usize;
-            let from = to - length_of(name.start, name.end);
-            find_type_called(src, work, &src[from..to])
-        }
+    let long = length_of(name.start, name.end);
+    let i = first_long(work, k, long);
+    if types(work) <= i {
+        return Found::Nothing;
     }
+    let to = name.end as usize;
+    let from = to - long;
+    find_from(src, work, &src[from..to], i)
+}
+
+// The type that string i names, counted from 0. What is noted of it is not looked for again.
+pub fn find_type(src: &[u8], work: &[u32], i: u32) -> Found
+    requires { ⌜ Holds (now src) (now work) ⌝ }
+    requires { ⌜ i < getD (now work) 0 0 ⌝ }
+    ensures { λ r. ⌜ found r ≡ place (same (getD (strsOf (now (src .entry)) (now (work .entry))) i [])) 0 (namesOf (now (src .entry)) (now (work .entry))) ⌝ }
+{
+    let memo = memo_at(work, i);
+    if 33 <= memo {
+        return Found::At(memo - 33);
+    }
+    let name = string_at(work, i);
+    find_part(src, work, name, memo)
+}
+
+// The same as a note, which is taken of it: 33 + t for type t, and less for none.
+pub fn recall_type(src: &[u8], work: &mut [u32], i: u32) -> u32
+    requires { ⌜ Holds (now src) (now work) ⌝ }
+    requires { ⌜ i < getD (now work) 0 0 ⌝ }
+    ensures { λ r. ⌜ Recalled (now (src .entry)) (now (work .entry)) i r (now (work .exit)) ⌝ }
+{
+    let memo = memo_at(work, i);
+    if 33 <= memo {
+        return memo;
+    }
+    let n = types(work);
+    if memo == n {
+        return memo;
+    }
+    let name = string_at(work, i);
+    let Found::At(t) = find_part(src, work, name, memo) else {
+        note(work, i, n);
+        return n;
+    };
+    note(work, i, 33 + t);
+    33 + t
 }
 
 fn is_called(src: &[u8], row: FieldRow, t: u32, name: &[u8], sum: u32) -> bool

@@ -11,6 +11,7 @@ ghost use Rattle.table.specs.Answers.{Small};
 ghost use Rattle.table.specs.Packed.{typeCells, fieldCells, rangeCells, dueCells, chunkCells};
 ghost use Rattle.table.specs.Pushes.{Pushed, FieldTallied, Regular, share, Aboved, Tallied};
 ghost use Rattle.table.specs.Sizes.{DueSized};
+ghost use Rattle.table.specs.Notes.{NoteTaken};
 use super::cells::put2;
 use super::cells::put3;
 use super::cells::put4;
@@ -29,6 +30,16 @@ pub fn push_string(work: &mut [u32], start: u32, end: u32)
     let n = work[0];
     put2(work, 16 + 2 * (n as usize), start, end);
     work[0] = n + 1;
+}
+
+// What is known of string i as a type's name, in place of what was.
+pub fn note(work: &mut [u32], i: u32, memo: u32)
+    requires { ⌜ Ok (now work) ⌝ }
+    requires { ⌜ (i < getD (now work) 0 0) × (memo ≤ 64) ⌝ }
+    ensures { λ _. ⌜ NoteTaken i memo (now (work .entry)) (now (work .exit)) ⌝ }
+{
+    let at = 16 + 2 * (i as usize);
+    work[at] = work[at] % 66000000 + 66000000 * memo;
 }
 
 pub fn push_type(work: &mut [u32], t: TypeRow)

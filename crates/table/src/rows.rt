@@ -4,7 +4,7 @@ ghost use Prim.Native.Nat.{_+_, _*_, _<_, _≤_};
 ghost use lib.ListN.{length, getD};
 ghost use Rattle.paper.specs.Ledger.{noType, noField};
 ghost use Rattle.table.specs.View.{strsOf, namesOf, titlesOf, typesOf, fldsOf, logOf, duesOf, chunksOf, Ok};
-ghost use Rattle.table.specs.Answers.{Stands, Named, typIn, fieldIn, rangeIn, noRange, Small, dueIn, noDue, spotIn, noSpot, Near};
+ghost use Rattle.table.specs.Answers.{Stands, Remembered, Named, typIn, fieldIn, rangeIn, noRange, Small, dueIn, noDue, spotIn, noSpot, Near};
 
 // A part of the source.
 pub struct Span {
@@ -126,9 +126,22 @@ pub fn string_at(work: &[u32], i: u32) -> Span
 {
     let at = 16 + 2 * (i as usize);
     Span {
-        start: work[at],
+        start: work[at] % 66000000,
         end: work[at + 1],
     }
+}
+
+// What is known of string i as a type's name: up to 32, so many types, the first ones, have another; from 33 on, it is that of
+// type r - 33. Nothing is known where it is not kept up.
+pub fn memo_at(work: &[u32], i: u32) -> u32
+    requires { ⌜ Ok (now work) ⌝ }
+    requires { ⌜ i < getD (now work) 0 0 ⌝ }
+    ensures { λ r. ⌜ Remembered (now (work .entry)) i r ⌝ }
+{
+    if work[8] != 1 {
+        return 0;
+    }
+    work[16 + 2 * (i as usize)] / 66000000
 }
 
 pub fn type_at(work: &[u32], i: u32) -> TypeRow

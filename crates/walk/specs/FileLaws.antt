@@ -59,7 +59,7 @@ pub all-bytes : (f : List ℕ) → ((i : ℕ) → getD f i 0 < 256) → Bytes f
 all-bytes [] h = tt
 all-bytes (b ∷ f) h = (h 0, all-bytes f (λ i. h (suc i)))
 
-module _ (f : List ℕ) {l : List ℕ} (lt : length f < 4294967296) (B : Begun l) where
+module _ (f : List ℕ) {l : List ℕ} (lt : length f < 66000000) (B : Begun l) where
   now-begun : said f l ≡ begun
   now-begun = B .says f lt .says
 
@@ -80,7 +80,7 @@ module _ (f : List ℕ) {l : List ℕ} (lt : length f < 4294967296) (B : Begun l
   state-begun = ap (λ (s : Said). s .state) now-begun
 
 module _ (f : List ℕ) {l : List ℕ} (le : length f ≤ 1048576) (B : Begun l) where
-  small : length f < 4294967296
+  small : length f < 66000000
   small = omega arith
 
   pub walk-ready : Bytes f → WalkReady f l

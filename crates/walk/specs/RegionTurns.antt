@@ -12,7 +12,7 @@ use Rattle.paper.specs.File.{value, chunk}
 use Rattle.paper.specs.Places.{spotsFrom}
 use Rattle.laws.specs.Laws.{part-inv, not-got}
 use Rattle.laws.specs.Pools.{Pooled}
-use Rattle.table.specs.View.{fldsOf, logOf, duesOf, chunksOf, view, said, Said, Holds, fieldsIn, duesIn, chunksIn}
+use Rattle.table.specs.View.{fldsOf, logOf, duesOf, chunksOf, view, said, Said, Holds, Now, fieldsIn, duesIn, chunksIn}
 use Rattle.table.specs.Answers.{dueIn, noDue}
 use Rattle.table.specs.Adds.{addChunk}
 use Rattle.table.specs.Pushes.{Pushed}
@@ -242,3 +242,32 @@ module _ {f l₀ : List ℕ} {from : ℕ} (R : RegionReady f l₀ from) {l : Lis
             says = rw got? at says-next;
             spots = rw (more, end) (append-assoc (chunksOf l) _ _ ∙ rw next at (G .spots));
           }
+
+-- ── a table that says the same ──
+
+module _ {f l l₁ : List ℕ} (N : Now f l₁ (said f l)) where
+  pub ready-same : {from : ℕ} → RegionReady f l from → RegionReady f l₁ from
+  ready-same {from} R =
+      let says = N .says in
+      let fields : fieldsIn l₁ ≡ fieldsIn l = sym (N .holds .ok .flds-count) ∙ ap (λ (g : Said). length (g .state .fields)) says ∙ R .holds .ok .flds-count in
+      let dues : duesIn l₁ ≡ duesIn l = sym (N .holds .ok .dues-count) ∙ ap (λ (g : Said). length (g .due)) says ∙ R .holds .ok .dues-count in
+      let chunks : chunksIn l₁ ≡ chunksIn l = sym (N .holds .ok .chunks-count) ∙ ap (λ (g : Said). length (g .chunks)) says ∙ R .holds .ok .chunks-count in
+      record {
+        holds = N .holds;
+        low = subst (λ (g : Said). Low 0 (g .state .log)) (sym says) (R .low);
+        pooled = subst (λ (g : Said). Pooled (g .state)) (sym says) (R .pooled);
+        listed = subst (λ (g : Said). Listed (g .state .fields)) (sym says) (R .listed);
+        declared = subst (λ (x : ℕ × List (Due × ℕ)). Declared (x .0) (x .1)) (λ i. (sym fields i, sym says i .due)) (R .declared);
+        within = subst (λ (g : Said). from + sizes (g .due) ≤ length f) (sym says) (R .within);
+        small = R .small;
+        room = omega (arith, chunks, dues, R .room);
+      }
+
+  pub checked-same : {from : ℕ} {r : Step} {l₂ : List ℕ} → RegionChecked f l₁ from r l₂ → RegionChecked f l from r l₂
+  checked-same {from} C =
+      let says = N .says in
+      record {
+        says = C .says ∙ ap (λ (g : Said). forget (chunksAt (g .state) (g .due) f from)) says;
+        holds = C .holds;
+        puts = λ c is. C .puts c is ∙ (λ i. record { state = says i .state; due = says i .due; chunks = says i .chunks ++ spotsFrom from (says i .due) });
+      }

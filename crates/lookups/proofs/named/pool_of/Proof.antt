@@ -1,3 +1,6 @@
+-- `lookups::named::pool_of` meets its contract. Assumes nothing.
+use native.Mathlib.Omega.{arith}
+use mathlib.Core.Path.{sym, _∙_}
 use Rattle.lookups.specs.Named.{pool-none, pool-some}
 use borrow.Author.Needs.{needs}
 use Rattle.lookups.proofs.named.pool_of.Statement.{statement}
@@ -8,9 +11,8 @@ pool-of-spec =
     tie.close
     (tie.spec
     (λ c κs. search needs)
-    (λ c κs. (c .before .before .before .pre .0, c .string-at .ensures .within _ (c .before .before .before .pre .0)))
-    (λ c. search needs)
-    (λ c κs. search needs)
-    (λ c. search needs)
-    (λ c. pool-some _ (c .before .before .before .before .before .string-at .ensures) _ (c .before .before .before .before .find-type .ensures) (c .before .before .t .given .1) (c .base-pool .ensures))
-    (λ c. pool-none _ (c .before .before .before .string-at .ensures) _ (c .before .before .find-type .ensures) (c .enum-told .given .1)))
+    (λ c. c .before .before .before .recall-type .ensures .now .holds .ok .long ∙ sym (c .before .before .before .before .before .before .before .pre .0 .ok .long))
+    (λ c. pool-none (c .before .before .before .recall-type .ensures) (c .if1 .taken))
+    (λ c κs. c .before .before .before .before .recall-type .ensures .now .holds .ok)
+    (λ c. c .before .before .before .before .before .recall-type .ensures .now .holds .ok .long ∙ sym (c .before .before .before .before .before .before .before .before .before .pre .0 .ok .long))
+    (λ c. pool-some (c .before .before .before .before .before .recall-type .ensures) (omega (arith, c .before .before .if1 .left)) (c .base-pool .ensures)))

@@ -1,17 +1,17 @@
+-- `lookups::named::pools` meets its contract. Assumes nothing.
 use native.Mathlib.Omega.{arith}
 use mathlib.Core.Path.{sym, _∙_}
-use Prim.Native.Nat.{_-_, _≤_}
-use Rattle.table.specs.View.{view}
-use Rattle.lookups.specs.Named.{Pooling, pooling-start, pooling-on}
+use Prim.Native.Nat.{_-_}
+use Rattle.lookups.specs.Named.{PoolsGoing, pools-begin, pool-there, place-there, pools-next, pools-done}
 use borrow.Author.Needs.{needs}
 use Rattle.lookups.proofs.named.pools.Statement.{statement}
 use Rattle.lookups.proofs.named.pools.Tie as tie
 
 abbrev Inv-loop : tie.InvT-loop
-Inv-loop file work list₀ n i₀ list i = (i ≤ n) × Pooling (view file work) list i
+Inv-loop file work₀ list₀ n i₀ work list i = PoolsGoing file work₀ n work list i
 
 abbrev μ-loop : tie.MeasureT-loop
-μ-loop file work list₀ n i₀ list i = n - i
+μ-loop file work₀ list₀ n i₀ work list i = n - i
 
 pub pools-spec : {M : Type 1} → statement M
 pools-spec =
@@ -20,14 +20,15 @@ pools-spec =
     Inv-loop
     μ-loop
     (λ c κs. search needs)
-    (λ c. (omega arith, pooling-start _ _ (c .before .before .before .before .pre .1)))
-    (λ c κs. (c .before .before .before .before .before .before .pre .0, omega (arith, c .before .before .strings .ensures)))
+    (λ c. let start = c .before .before .before .before .before in pools-begin (start .pre .0) (start .pre .1) (c .strings .ensures))
+    (λ c κs. pool-there (c .before .before .loop .inv) (omega arith))
     (λ c. search needs)
     (λ c. search needs)
-    (λ c. omega (arith, c .before .before .loop .inv .1 .long, c .before .before .before .strings .ensures, c .before .before .before .before .before .before .before .pre .0 .ok .strs-fit))
+    (λ c. omega (arith, c .before .before .before .before .before .loop .inv .pooling .long, place-there (c .before .before .before .before .before .loop .inv) (omega arith)))
     (λ c. search needs)
     (λ c. search needs)
-    (λ c. (omega arith, pooling-on (c .before .before .loop .inv .1) (omega (arith, c .before .before .before .strings .ensures, c .before .before .before .before .before .before .before .pre .0 .ok .strs-fit)) (c .pool-of .ensures)))
+    (λ c. pools-next (c .before .before .before .before .before .loop .inv) (omega arith) (c .before .before .pool-of .ensures))
     (λ c. search needs)
-    (λ c. c .before .loop .inv .1 .long ∙ sym (c .before .before .before .before .before .before .pre .1))
-    (λ c. (c .before .loop .inv .1, omega (arith, c .before .loop .inv .0, c .before .before .strings .ensures))))
+    (λ c. c .before .loop .inv .now .holds .ok .long ∙ sym (c .before .before .before .before .before .before .before .pre .0 .ok .long))
+    (λ c. c .before .loop .inv .pooling .long ∙ sym (c .before .before .before .before .before .before .before .pre .1))
+    (λ c. pools-done (c .before .loop .inv) (omega arith)))

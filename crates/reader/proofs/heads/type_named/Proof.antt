@@ -6,4 +6,4 @@ use Rattle.reader.proofs.heads.type_named.Tie as tie
 
 pub type-named-spec : {M : Type 1} → statement M
 type-named-spec =
-    tie.close (tie.spec (λ c. search needs) (λ c. search needs) (λ c κs. search needs) (λ c κs. (c .before .before .before .pre .0, c .string-at .ensures .within _ (c .before .before .before .pre .0))) (λ c. looked-up (c .before .before .before .before .pre .0) (c .before .string-at .ensures) _ (c .find-type .ensures)))
+    tie.close (tie.spec (λ c. search needs) (λ c. search needs) (λ c κs. search needs) (λ c. looked-up (c .before .before .before .pre .0) (c .find-type .result) (c .find-type .ensures)))

@@ -11,4 +11,4 @@ cut-back-spec =
     (λ c. search needs)
     (λ c κs. search needs)
     (λ c. search needs)
-    (λ c. cut-of (c .before .before .before .before .before .before .args .n) (c .before .before .before .before .before .before .pre .0) (c .before .before .before .before .before .before .pre .1) (c .before .before .set-counts .ensures .0) (c .before .before .set-counts .ensures .1)))
+    (λ c. cut-of (c .before .before .before .before .before .before .args .n) (c .before .before .before .before .before .before .pre .0) (c .before .before .before .before .before .before .pre .1) (c .before .before .set-counts .ensures .0) (c .before .before .set-counts .ensures .1 .0) (c .before .before .set-counts .ensures .1 .1)))

@@ -16,6 +16,7 @@ next-block-spec =
     (λ c. search needs)
     (λ c. search needs)
     (λ c. search needs)
+    (λ c. search needs)
     (λ c κs. search needs)
     (λ c. search needs)
-    (λ c. let l = c .before .before .before .before .before .before .before .before .before .args .work .now in next-of (c .before .before .before .before .before .before .before .before .before .pre .0) (subst (λ (n : Counts). Recounted n (getD l 6 0 + 1) l (c .before .before .set-counts .last .0)) (c .before .before .before .before .before .before .counts .ensures) (c .before .before .set-counts .ensures .0)) (c .before .before .set-counts .ensures .1)))
+    (λ c. let l = c .before .before .before .before .before .before .before .before .before .before .args .work .now in next-of (c .before .before .before .before .before .before .before .before .before .before .pre .0) (subst (λ (n : Counts). Recounted n (getD l 6 0 + 1) l (c .before .before .set-counts .last .0)) (c .before .before .before .before .before .before .before .counts .ensures) (c .before .before .set-counts .ensures .0)) (c .before .before .set-counts .ensures .1 .0) (c .before .before .set-counts .ensures .1 .1)))

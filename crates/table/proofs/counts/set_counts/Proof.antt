@@ -1,4 +1,8 @@
 -- `table::counts::set_counts` meets its contract. Assumes nothing.
+use mathlib.Core.Path.{ap}
+use mathlib.Core.List.{List}
+use Prim.Native.Nat.{ℕ}
+use lib.ListN.{set}
 use Rattle.table.specs.Counts.{recounted-by}
 use borrow.Author.Needs.{needs}
 use Rattle.table.proofs.counts.set_counts.Statement.{statement}
@@ -10,4 +14,5 @@ set-counts-spec =
     (tie.spec
     (λ c κs. search needs)
     (λ c. search needs)
-    (λ c. recounted-by (c .before .before .before .before .before .args .n) (c .before .before .before .before .before .args .block) (c .before .before .before .before .before .args .told) (c .before .before .before .before .before .pre) (c .before .before .put8 .ensures)))
+    (λ c. search needs)
+    (λ c. let start = c .before .before .before .before .before in recounted-by (start .args .n) (start .args .block) (start .args .told) (start .args .noted) {l = start .args .work .now} (start .pre) (ap (λ (t : List ℕ). set t 8 (start .args .noted)) (c .before .before .put8 .ensures))))
