@@ -18,6 +18,7 @@ use Rattle.values.specs.MapChunks.{AllKnown}
 use Rattle.lookups.specs.Gather.{Gathered}
 use Rattle.lookups.specs.Group.{asked?, asked-first, asked-later, AllGrouped}
 use Rattle.lookups.specs.Named.{unnamed?}
+use Rattle.lookups.specs.Objects.{firsts, lasts, objects-lie}
 
 annotated : (k : ℕ) (ks : List ℕ) → k ≡ 5 → unnamed? (k ∷ ks) ≡ false
 unfolding unnamed? all
@@ -45,6 +46,12 @@ module _ {f l : List ℕ} (H : Holds f l) {strings : ℕ} (count : strings ≡ s
   unfolding object?
   linked-known high G =
       record { strings-are = strings-known; pools-are = λ is. absurd (omega arith); objects-are = λ h. G .objects-are }
+
+  -- the same, where nothing was gathered
+  pub lying-known : {k : ℕ} {pools : List ℕ} → 32 ≤ k → Known (view f l) k strings pools (firsts (k - 32) (logOf l)) (lasts (k - 32) (logOf l))
+  unfolding object?
+  lying-known {k} high =
+      record { strings-are = strings-known; pools-are = λ is. absurd (omega arith); objects-are = λ h. objects-lie (k - 32) (logOf l) }
 
   -- the elements are annotations
   pub noted-known :

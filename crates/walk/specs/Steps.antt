@@ -2,7 +2,7 @@
 -- Assumes nothing.
 use mathlib.Core.Path.{_≡_, refl, sym, ap, _∙_}
 use mathlib.Core.Bool.{Bool, true, false}
-use mathlib.Core.List.{List}
+use mathlib.Core.List.{List, []}
 use Prim.Native.Nat.{ℕ, _+_, _-_, _≤_, _<_}
 use native.Mathlib.Omega.{arith}
 use native.Nat.{ℕᴺ-discrete}
@@ -27,14 +27,15 @@ use Rattle.numbers.specs.declared.Cursor.{Cursor}
 use Rattle.numbers.specs.declared.Refusal.{Refusal}
 use Rattle.numbers.specs.declared.Number.{Number}
 use Rattle.numbers.specs.declared.Number.the-variants as number
-use Rattle.values.specs.Pass.{forget}
+use Rattle.values.specs.Pass.{forget, Passed}
 use Rattle.values.specs.Annotations.{placed?}
-use Rattle.values.specs.Items.{Known}
-use Rattle.values.specs.Chunks.{Kinds, ChunkChecked, constants-read}
+use Rattle.values.specs.Items.{Known, linked, someObject, checked-by, item-object}
+use Rattle.values.specs.Chunks.{Kinds, ChunkChecked, chunk-plain, constants-read}
 use Rattle.values.specs.MapChunks.{MapsChecked}
 use Rattle.lookups.specs.Group.{AllGrouped}
 use Rattle.lookups.specs.Named.{unnamed?, elementKinds, unnamedField?, Noted, noted-at, unnamed-map, unnamed-other}
-use Rattle.lookups.specs.Known.{plain-known, noted-known, map-known}
+use Rattle.lookups.specs.Objects.{firsts, lasts}
+use Rattle.lookups.specs.Known.{lying-known, plain-known, noted-known, map-known}
 use Rattle.numbers.specs.declared.Step.{Step}
 use Rattle.numbers.specs.declared.Step.the-variants.{Got, No}
 
@@ -58,6 +59,16 @@ pub record Ranged (n k a e strings : ℕ) (first last f : List ℕ) (r : Number)
 
 pub ranged : {n k a e strings : ℕ} {pools first last f : List ℕ} {r : Number} → ChunkChecked n k a e strings pools first last f r → Ranged n k a e strings first last f r
 ranged {pools} C = record { says = λ s K. valued s (K pools) C }
+
+-- single references, each of which was asked for by itself
+pub objects-valued :
+    {n k a e t : ℕ} {f l part : List ℕ} {r : Number} → Kinds k a e → 32 ≤ k → 32 ≤ e → t ≡ e - 32 → Holds f l
+    → Passed (repeat n (linked (someObject (firsts t (logOf l)) (lasts t (logOf l))))) part 0 r → Valued n k a e (view f l) part r
+objects-valued {n} {k} {a} {e} {t} {f} {l} {part} {r} K single high is H P =
+    let listed = K .element (omega arith) (λ q. omega arith) in
+    let asked : Passed (repeat n (linked (someObject (firsts (e - 32) (logOf l)) (lasts (e - 32) (logOf l))))) part 0 r = rw is at P in
+    valued {strings = stringsIn l} {pools = []} (view f l) (lying-known H refl high)
+    (chunk-plain listed (omega arith) (λ q. omega arith) (λ q. omega arith) (λ q. omega arith) (checked-by listed _ (item-object (stringsIn l) [] _ _ e high) asked))
 
 -- that of n maps of these kinds, in every state that the table l says and whose annotations the pools know
 pub record MapsValued (n : ℕ) (kinds pools l f : List ℕ) (r : Number) : Type 0 where

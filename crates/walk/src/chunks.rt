@@ -7,16 +7,19 @@ ghost use lib.ListN.{length};
 ghost use Rattle.paper.specs.Lists.{all};
 ghost use Rattle.paper.specs.Rules.{elementKind?};
 ghost use Rattle.paper.specs.File.{chunk};
-ghost use Rattle.paper.specs.Reader.{filled};
+ghost use Rattle.paper.specs.Reader.{filled, repeat};
 ghost use Rattle.table.specs.View.{fldsOf, logOf, view, Ok, Holds, fieldsIn};
 ghost use Rattle.table.specs.Answers.{dueIn};
 ghost use Rattle.numbers.specs.Cursors.{outOf, placeOf};
-ghost use Rattle.values.specs.Pass.{forget};
+ghost use Rattle.values.specs.Pass.{forget, Passed};
+ghost use Rattle.values.specs.Items.{linked, someObject};
 ghost use Rattle.values.specs.Chunks.{Kinds};
 ghost use Rattle.lookups.specs.Low.{Low};
+ghost use Rattle.lookups.specs.Objects.{firsts, lasts};
 ghost use Rattle.walk.specs.Listed.{Listed};
 ghost use Rattle.lookups.specs.Named.{Noted};
 ghost use Rattle.walk.specs.Steps.{stepOf, Valued, Ranged, NotedKind, MapsValued};
+use lookups::objects::is_object;
 use lookups::ranges::gather;
 use lookups::ranges::group;
 use lookups::ranges::refers;
@@ -91,8 +94,47 @@ fn ranged_values(
     )
 }
 
+// The number of an object of type t, or 0.
+fn object_value(part: &[u8], c: Cursor, t: u32, work: &[u32]) -> Number
+    requires { ⌜ Ok (now work) × (t < 32) ⌝ }
+    ensures { λ r. ⌜ Passed (linked (someObject (firsts t (logOf (now (work .entry)))) (lasts t (logOf (now (work .entry)))))) (now (part .entry)) (c .at) r ⌝ }
+{
+    let a = c.v64(part);
+    let Number::Got(n, next) = a else {
+        return a;
+    };
+    if n == 0 {
+        return Number::Got(n, next);
+    }
+    if is_object(work, t, n) {
+        return Number::Got(n, next);
+    }
+    Number::No(Refusal {
+        number: 14,
+        place: c.at,
+    })
+}
+
+// n numbers of objects of type t. They are few, and so each is asked for by itself.
+fn object_values(part: &[u8], n: u32, t: u32, work: &[u32]) -> Number
+    requires { ⌜ Ok (now work) × (t < 32) ⌝ }
+    ensures { λ r. ⌜ Passed (repeat n (linked (someObject (firsts t (logOf (now (work .entry)))) (lasts t (logOf (now (work .entry))))))) (now (part .entry)) 0 r ⌝ }
+{
+    let mut here = Cursor { at: 0 };
+    let mut rest = n;
+    while 0 < rest {
+        let a = object_value(part, here, t, work);
+        let Number::Got(_, next) = a else {
+            return a;
+        };
+        here = next;
+        rest -= 1;
+    }
+    Number::Got(0, here)
+}
+
 // n values whose elements refer to objects: the ranges of their type are gathered once, and not asked for at each value.
-fn linked_values(part: &[u8], n: u32, kind: FieldRow, work: &[u32]) -> Number
+fn gathered_values(part: &[u8], n: u32, kind: FieldRow, work: &[u32]) -> Number
     requires { ⌜ Ok (now work) × Low 0 (logOf (now work)) ⌝ }
     requires { ⌜ Kinds (kind .kind) (kind .a) (kind .e) × (4 < kind .kind) × (kind .kind ≡ 20 → ⊥) × (32 ≤ kind .e) ⌝ }
     ensures { λ r. ⌜ ((file : List ℕ) → Holds file (now (work .entry)) → Valued n (kind .kind) (kind .a) (kind .e) (view file (now (work .entry))) (now (part .entry)) r) ⌝ }
@@ -101,6 +143,23 @@ fn linked_values(part: &[u8], n: u32, kind: FieldRow, work: &[u32]) -> Number
     let mut last = [0u32; Ledger::RANGES as usize];
     let k = gather(work, kind.e - 32, &mut first, &mut last);
     ranged_values(part, n, kind, strings(work) as u64, &first[..k], &last[..k])
+}
+
+// The same, for any number of values. A few single references are no reason to gather ranges.
+fn linked_values(part: &[u8], n: u32, kind: FieldRow, work: &[u32]) -> Number
+    requires { ⌜ Ok (now work) × Low 0 (logOf (now work)) ⌝ }
+    requires { ⌜ Kinds (kind .kind) (kind .a) (kind .e) × (4 < kind .kind) × (kind .kind ≡ 20 → ⊥) × (32 ≤ kind .e) ⌝ }
+    ensures { λ r. ⌜ ((file : List ℕ) → Holds file (now (work .entry)) → Valued n (kind .kind) (kind .a) (kind .e) (view file (now (work .entry))) (now (part .entry)) r) ⌝ }
+{
+    if n <= 4 {
+        if 32 <= kind.kind {
+            if kind.e < 64 {
+                let t = kind.e - 32;
+                return object_values(part, n, t as u32, work);
+            }
+        }
+    }
+    gathered_values(part, n, kind, work)
 }
 
 // n maps of these kinds, whose annotations are held to the pools: the ranges of the types that they name are gathered once.

@@ -1,7 +1,7 @@
--- `walk::chunks::linked_values` meets its contract: the ranges that were gathered are those of the type. Assumes nothing.
-use mathlib.Core.Path.{sym, _∙_}
-use Rattle.lookups.specs.Gather.{first-lent, last-lent}
-use Rattle.lookups.specs.Known.{linked-known}
+-- `walk::chunks::linked_values` meets its contract. Assumes nothing.
+use mathlib.Core.Path.{refl}
+use native.Mathlib.Omega.{arith}
+use Rattle.walk.specs.Steps.{objects-valued}
 use borrow.Author.Needs.{needs}
 use Rattle.walk.proofs.chunks.linked_values.Statement.{statement}
 use Rattle.walk.proofs.chunks.linked_values.Tie as tie
@@ -12,13 +12,7 @@ linked-values-spec =
     (tie.spec
     (λ c. search needs)
     (λ c. search needs)
-    (λ c. search needs)
+    (λ c κs. (c .before .before .before .before .before .before .before .before .pre .0 .0, omega arith))
+    (λ c file holds. let s = c .before .before .before .before .before .before .before .before .before in objects-valued (s .pre .1 .0) (c .before .before .before .before .if2 .taken) (s .pre .1 .3) refl holds (c .object-values .ensures))
     (λ c κs. search needs)
-    (λ c κs. search needs)
-    (λ c. search needs)
-    (λ c. search needs)
-    (λ c. first-lent (c .before .before .before .before .gather .ensures))
-    (λ c. search needs)
-    (λ c. last-lent (c .before .before .before .before .before .gather .ensures))
-    (λ c κs. let kinds = c .before .before .before .before .before .before .before .before .before .before .before .pre .1 in (kinds .0, kinds .1, kinds .2, sym (first-lent (c .before .before .before .before .before .gather .ensures)) ∙ last-lent (c .before .before .before .before .before .gather .ensures)))
-    (λ c file holds. c .ranged-values .ensures .says _ (λ pools. linked-known holds (c .before .before .before .strings .ensures) (c .before .before .before .before .before .before .before .before .before .before .before .before .pre .1 .3) (c .before .before .before .before .before .before .gather .ensures))))
+    (λ c. c .gathered-values .ensures))
