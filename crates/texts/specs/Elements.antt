@@ -197,13 +197,20 @@ module _ {t : List ℕ} {at b : ℕ} (seen : Peeked t at b) where
   flag-is : (n : ℕ) → b ≡ n → getD t at 256 ≡ n
   flag-is n is = sym (seen .is) ∙ is
 
-  pub flag-false : b ≡ 48 → got 0 (at + 1) ≡ flagNumber t at
+  flag-false : b ≡ 48 → got 0 (at + 1) ≡ flagNumber t at
   unfolding flagNumber if_then_else_
   flag-false is = rw (eq-eqb (getD t at 256) 48 (flag-is 48 is))
 
-  pub flag-true : b ≡ 49 → got 255 (at + 1) ≡ flagNumber t at
+  flag-true : b ≡ 49 → got 255 (at + 1) ≡ flagNumber t at
   unfolding flagNumber if_then_else_
   flag-true is = rw (flag-is 49 is)
+
+  pub flag-bit : 48 ≤ b → b ≤ 49 → got (255 * (b - 48)) (at + 1) ≡ flagNumber t at
+  flag-bit low high =
+      elim (decLe 49 b) [
+        | yes d ↦ (let set : 255 * (b - 48) ≡ 255 = omega arith in ap (λ (n : ℕ). got n (at + 1)) set ∙ flag-true (omega arith))
+        | no d ↦ (let clear : 255 * (b - 48) ≡ 0 = omega (arith, lt-of-not-le d) in ap (λ (n : ℕ). got n (at + 1)) clear ∙ flag-false (omega (arith, lt-of-not-le d)))
+      ]
 
   pub flag-none : (b ≡ 48 → ⊥) → (b ≡ 49 → ⊥) → bad 20 0 ≡ flagNumber t at
   unfolding flagNumber if_then_else_

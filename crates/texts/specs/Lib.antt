@@ -1,6 +1,7 @@
 pub mod Quiet
 pub mod Exact
 pub mod Elements
+pub mod Signs
 pub mod Told
 pub mod Chunks
 pub mod Maps

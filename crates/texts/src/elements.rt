@@ -9,6 +9,7 @@ ghost use Rattle.paper.specs.Rules.{singleKind?};
 ghost use Rattle.lay.specs.Laid.{Laid};
 ghost use Rattle.words.specs.Answers.{outNumber};
 ghost use Rattle.values.specs.Items.{atMost, someObject};
+ghost use Rattle.texts.specs.Signs.{Sign, bitsOf};
 ghost use Rattle.texts.specs.Elements.{flagNumber, wholeWidth, wholeNumber, linkNumber, kept, reckoned, boundIn, inBytes};
 use numbers::write::put_be1;
 use numbers::write::put_be2;
@@ -20,8 +21,7 @@ use words::read::Number;
 use words::read::Place;
 use words::read::peek;
 
-// 2 ^ 64 - 1
-const MOST: u64 = 18446744073709551615;
+const MINUS: u64 = 45;
 
 // A bool, 0 or 1: a file has 00 or FF.
 fn flag(t: &[u8], p: Place) -> Number
@@ -29,15 +29,14 @@ fn flag(t: &[u8], p: Place) -> Number
 {
     let at = p.at;
     let b = peek(t, at);
-    if b == 48 {
-        let next = at + 1;
-        return Number::Got(0, Place { at: next });
+    if b < 48 {
+        return Number::Bad;
     }
-    if b == 49 {
-        let next = at + 1;
-        return Number::Got(255, Place { at: next });
+    if 49 < b {
+        return Number::Bad;
     }
-    Number::Bad
+    let next = at + 1;
+    Number::Got(255 * (b - 48), Place { at: next })
 }
 
 // Half of the range of i8, i16, i32, i64 and v64.
@@ -53,24 +52,42 @@ fn half(e: u64) -> u64
     }
 }
 
-// A signed number within the range that has this half: its bits at that width.
+// How many bytes the sign of a number has: 1 for a minus, and else 0.
+fn sign(t: &[u8], at: usize) -> usize
+    ensures { λ r. ⌜ Sign (now (t .entry)) at r ⌝ }
+{
+    if peek(t, at) == MINUS {
+        return 1;
+    }
+    0
+}
+
+// The bits of the number n behind a sign of s bytes, in the range that has this half.
+fn signed_bits(n: u64, s: usize, half: u64) -> u64
+    requires { ⌜ (s ≤ 1) × (s ≤ n) × (n < half + s) × (half ≤ 2 ^ 63) ⌝ }
+    ensures { λ r. ⌜ r ≡ bitsOf half s n ⌝ }
+{
+    if s == 0 { n } else { half + (half - n) }
+}
+
+// A signed number within the range that has this half: its bits at that width. The sign is reckoned with and not asked, since
+// nothing foretells it: below 0 there is one number more, and no 0.
 fn whole(t: &[u8], p: Place, half: u64) -> Number
     requires { ⌜ half ≤ 2 ^ 63 ⌝ }
     ensures { λ r. ⌜ ((w : ℕ) → 256 ^ w ≡ half + half → outNumber r ≡ wholeNumber w (now (t .entry)) (p .at)) ⌝ }
 {
-    let Number::Got(x, next) = p.integer(t) else {
+    let s = sign(t, p.at);
+    let digits = Place { at: p.at + s };
+    let Number::Got(n, next) = digits.natural(t) else {
         return Number::Bad;
     };
-    if x < half {
-        return Number::Got(x, next);
+    if half + (s as u64) <= n {
+        return Number::Bad;
     }
-    // Below 0: how far below -1.
-    let below = MOST - x;
-    if below < half {
-        let above = half - 1 - below;
-        return Number::Got(half + above, next);
+    if n < s as u64 {
+        return Number::Bad;
     }
-    Number::Bad
+    Number::Got(signed_bits(n, s, half), next)
 }
 
 // The number of a string, or 0.
