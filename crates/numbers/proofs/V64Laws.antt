@@ -10,7 +10,7 @@ use lib.ListN.{length, getD}
 use borrow.Author.Tests.{le-leb, lt-leb}
 use Rattle.paper.specs.Reader.{Out, got, no, andThen, if_then_else_, _>>=_, give, fromStart, started, bytes}
 use Rattle.paper.specs.Numbers.{highFirst, fixed, coding, lowFirst, v64}
-use Rattle.numbers.specs.Begun.{Begun, Ongoing, Ended, one-byte}
+use Rattle.numbers.specs.Begun.{Begun, Ended, one-byte}
 use Rattle.numbers.specs.Turned.{TakenV64}
 use Rattle.numbers.specs.Cursors.{Read, Past, answer-got, answer-no}
 use Rattle.numbers.specs.declared.Number.the-variants.{Got, No}
@@ -221,82 +221,6 @@ module _ (f : List ℕ) (p : ℕ) where
       go (got bs m) q = q
       go (no n m) q = clash (cc q)
 
--- of two bytes
-pub two-there :
-    (f : List ℕ) (at : ℕ) → at + 1 < length f → 128 ≤ getD f at 0 → getD f (at + 1) 0 < 128 → Past v64 f at (step.Got (record { at = at + 2 }))
-two-there f at room first second =
-    let end : at + 1 + 1 ≡ at + 2 = omega arith in
-    record {
-      says = sym (ap goes (v64-held f at) ∙ rw (more f at 7 (omega arith) first, last f (at + 1) 7 room (λ i. second), end) refl);
-      inside = λ h. omega arith;
-    }
-
--- from its byte i on, up to the ninth: it has n bytes
-pub record Ending (f : List ℕ) (at i n : ℕ) : Type 0 where
-  pub means : goes (coding (8 - i) f (at + i)) ≡ got tt (at + n)
-  pub inside : at + n ≤ length f
-  pub low : 2 ≤ i
-  pub high : i ≤ 8
-
-pub ending-ninth : (f : List ℕ) (at : ℕ) → at + 9 ≤ length f → Ending f at 8 9
-ending-ninth f at room =
-    let end : at + 8 + 1 ≡ at + 9 = omega arith in
-    record {
-      means = rw (last f (at + 8) 0 (omega arith) (λ i. absurd (omega arith)), end) refl;
-      inside = room;
-      low = omega arith;
-      high = omega arith;
-    }
-
-module _ {f : List ℕ} {at i n : ℕ} (room : at + 9 ≤ length f) (E : Ending f at i n) (due : 2 < i) where
-  one-more : 8 - (i - 1) ≡ suc (8 - i)
-  one-more = omega (arith, E .high)
-
-  -- the byte before ends it, whatever comes behind
-  pub ending-here : getD f (at + (i - 1)) 0 < 128 → Ending f at (i - 1) (i - 1 + 1)
-  ending-here h =
-      let high = E .high in
-      let end : at + (i - 1) + 1 ≡ at + (i - 1 + 1) = omega arith in
-      record {
-        means = rw (one-more, last f (at + (i - 1)) (suc (8 - i)) (omega arith) (λ z. h), end) refl;
-        inside = omega arith;
-        low = omega arith;
-        high = omega arith;
-      }
-
-  -- it does not
-  pub ending-on : 128 ≤ getD f (at + (i - 1)) 0 → Ending f at (i - 1) n
-  ending-on h =
-      let high = E .high in
-      let next : at + (i - 1) + 1 ≡ at + i = omega arith in
-      record {
-        means = rw (one-more, more f (at + (i - 1)) (8 - i) (omega arith) h, next) (go (coding (8 - i) f (at + i)) (E .means));
-        inside = E .inside;
-        low = omega arith;
-        high = omega arith;
-      }
-    where
-      go : (o : Out (List ℕ)) → goes o ≡ got tt (at + n) → goes (andThen o (λ bs e. got (getD f (at + (i - 1)) 0 ∷ bs) e)) ≡ got tt (at + n)
-      go (got bs e) q = q
-      go (no k m) q = q
-
-pub ending-all : {f : List ℕ} {at i n : ℕ} → Ongoing f at → Ending f at i n → i ≤ 2 → Ended f at (at + n)
-ending-all {f} {at} {i} {n} G E h =
-    let room = G .room in
-    let two : i ≡ 2 = omega (arith, E .low) in
-    let here : at + 2 ≡ at + 1 + 1 = omega arith in
-    let rest : goes (coding 6 f (at + 1 + 1)) ≡ got tt (at + n) = rw (two, here) at (E .means) in
-    record {
-      says = ap goes (v64-held f at) ∙ rw (more f at 7 (omega arith) (G .first), more f (at + 1) 6 (omega arith) (G .second)) (go (coding 6 f (at + 1 + 1)) rest);
-      inside = E .inside;
-    }
-  where
-    go :
-        (o : Out (List ℕ)) → goes o ≡ got tt (at + n)
-        → goes (held at (andThen (andThen o (λ bs e. got (getD f (at + 1) 0 ∷ bs) e)) (λ bs e. got (getD f at 0 ∷ bs) e))) ≡ got tt (at + n)
-    go (got bs e) q = q
-    go (no k m) q = clash (cc q)
-
 -- ── taken: from p on, a coding and its number ──
 
 abbrev pub valued : Out (List ℕ) → Out ℕ
@@ -322,6 +246,14 @@ module _ (f : List ℕ) (p : ℕ) where
           let e-is : m ≡ e = cc q in
           rw (v-is, e-is) refl
       go (no n m) some q = clash (cc q)
+
+  -- a coding whose number is known goes there
+  pub goes-valued : (k : ℕ) {v e : ℕ} → valued (coding k f p) ≡ got v e → goes (coding k f p) ≡ got tt e
+  goes-valued k {v} {e} is = go (coding k f p) is
+    where
+      go : (o : Out (List ℕ)) → valued o ≡ got v e → goes o ≡ got tt e
+      go (got bs m) q = let end : m ≡ e = cc q in rw end refl
+      go (no n m) q = clash (cc q)
 
   pub taken-v64 :
       {x n : ℕ} → valued (coding 8 f p) ≡ got x (p + n) → 0 < n → n ≤ 9 → x < 2 ^ 64 → TakenV64 f p (record { number = x; next = record { at = p + n } })

@@ -10,15 +10,16 @@ use lib.Dec.{lit<}
 use lib.Bits.{bitAnd, and-block, and-mask, and-high, and-zero-r}
 use lib.Pow.{pow-pos, pow-add, high}
 use lib.Arith.{mod-mul}
-use lib.Count.{ones, ones-cat, leadingZeros, leading-unique, trailingZeros}
+use lib.Count.{ones, ones-cat, leadingZeros, leading-unique, trailingZeros, trailing-of-zero}
 use lib.ListN.{length, getD, take, drop}
 use lib.Seq.{drop-cons}
 use Rattle.paper.specs.Reader.{Out, got}
 use Rattle.paper.specs.Numbers.{coding}
+use Rattle.numbers.specs.Begun.{Ended}
 use Rattle.numbers.specs.Turned.{lowBytes, TakenV64}
 use Rattle.numbers.specs.Words.{stop, marks, septets, Over, here, past, Ran}
 use Rattle.numbers.proofs.WriteLaws.{shifted}
-use Rattle.numbers.proofs.V64Laws.{goes, goes-last, goes-more, ended, valued, valued-last, valued-more, taken-v64}
+use Rattle.numbers.proofs.V64Laws.{goes, goes-last, goes-more, ended, valued, valued-last, valued-more, goes-valued, taken-v64}
 
 -- ── the top bits ──
 
@@ -212,6 +213,10 @@ module _ (x : ℕ) {m : ℕ} (is : m ≡ marks 8 x) where
   pub few-marked : ones m ≤ 8
   few-marked = omega (arith, count, top 8 x .few)
 
+  no-stop : m ≡ 0 → stops 8 x ≡ 0
+  unfolding ones
+  no-stop e = sym count ∙ ap ones e
+
   some-stop : (m ≡ 0 → ⊥) → 0 < stops 8 x
   some-stop marked = go (stops 8 x) refl
     where
@@ -221,11 +226,9 @@ module _ (x : ℕ) {m : ℕ} (is : m ≡ marks 8 x) where
 
 module _ {f : List ℕ} {at x m : ℕ} (W : Word f at 8 x) (is : m ≡ marks 8 x) where
   pub ran-nine : at + 9 ≤ length f → m ≡ 0 → Ran f at (record { count = 1; next = record { at = at + 9 } })
-  unfolding ones
   ran-nine room e =
       let end : at + 8 + 1 ≡ at + 9 = omega arith in
-      let no-stop : stops 8 x ≡ 0 = sym (count x is) ∙ ap ones e in
-      let says : goes (coding 8 f at) ≡ got tt (at + 9) = rw end at (on-to-last 8 at x W (omega arith) no-stop) in
+      let says : goes (coding 8 f at) ≡ got tt (at + 9) = rw end at (on-to-last 8 at x W (omega arith) (no-stop x is e)) in
       record { over = past (ended f at says room) here; some = omega arith; few = omega arith; near = omega arith }
 
   pub ran-many : (m ≡ 0 → ⊥) → Ran f at (record { count = ones m; next = record { at = at + (8 - leadingZeros 64 m / 8) } })
@@ -391,11 +394,9 @@ module _ {f : List ℕ} {at x m : ℕ} (W : Word f at 8 x) (is : m ≡ marks 8 x
   pub took-nine :
       at + 9 ≤ length f → m ≡ 0 → (c : ℕ) → c ≡ getD f (at + 8) 0 → c < 256 → {j : ℕ} → j ≡ septets 8 x
       → TakenV64 f at (record { number = j + c * 2 ^ 56 % 2 ^ 64; next = record { at = at + 9 } })
-  unfolding ones
   took-nine room e c c-is small {j} j-is =
-      let no-stop : stops 8 x ≡ 0 = sym (count x is) ∙ ap ones e in
       let all : j + c * 2 ^ 56 % 2 ^ 64 ≡ septets 8 x + 128 ^ 8 * c = omega (arith, septets-below 8 x) in
-      let says : valued (coding 8 f at) ≡ got (septets 8 x + 128 ^ 8 * c) (at + 9) = to-ninth 8 at x c W (omega arith) c-is no-stop in
+      let says : valued (coding 8 f at) ≡ got (septets 8 x + 128 ^ 8 * c) (at + 9) = to-ninth 8 at x c W (omega arith) c-is (no-stop x is e) in
       taken-v64 f at (rw all says) (omega arith) (omega arith) (nine-fits x c small j-is)
 
   pub took-bit :
@@ -410,6 +411,22 @@ module _ {f : List ℕ} {at x m : ℕ} (W : Word f at 8 x) (is : m ≡ marks 8 x
       let end : at + bit / 8 + 1 ≡ at + (first 8 x + 1) = omega arith in
       let below : j < 2 ^ 64 = omega (arith, septets-below 8 y) in
       rw end (taken-v64 f at (rw number (to-first 8 at x 8 W (omega arith) (some-stop x is marked))) (omega arith) (omega arith) below)
+
+  -- where it ends, whichever byte ends it
+  pub passed-word : at + 9 ≤ length f → Ended f at (at + trailingZeros 64 m / 8 + 1) × (at + trailingZeros 64 m / 8 + 1 ≤ at + 9)
+  passed-word room = go m refl
+    where
+      go : (k : ℕ) → m ≡ k → Ended f at (at + trailingZeros 64 m / 8 + 1) × (at + trailingZeros 64 m / 8 + 1 ≤ at + 9)
+      go zero e =
+          let bit : trailingZeros 64 m ≡ 64 = ap (trailingZeros 64) e ∙ trailing-of-zero 64 in
+          let end : at + trailingZeros 64 m / 8 + 1 ≡ at + 8 + 1 = omega arith in
+          rw end (ended f at (on-to-last 8 at x W (omega arith) (no-stop x is e)) (omega arith), omega arith)
+      go (suc k) e =
+          let marked : m ≡ 0 → ⊥ = λ q. omega arith in
+          let i-is = at-bit x is marked in
+          let low = in-word x is marked in
+          let end : at + trailingZeros 64 m / 8 + 1 ≡ at + (first 8 x + 1) = omega arith in
+          rw end (ended f at (goes-valued f at 8 (to-first 8 at x 8 W (omega arith) (some-stop x is marked))) (omega arith), omega arith)
 
 -- ── seven bits of each byte, side by side ──
 
@@ -487,7 +504,7 @@ pub record Joins (o v : ℕ) : Type 0 where
 joins :
     (a b c d e f g h : ℕ) → a < 128 → b < 128 → c < 128 → d < 128 → e < 128 → f < 128 → g < 128 → h < 128
     → Joins (a + 256 * b + 65536 * (c + 256 * d + 65536 * (e + 256 * f + 65536 * (g + 256 * h))))
-      (a + 128 * b + 16384 * (c + 128 * d) + 268435456 * (e + 128 * f + 16384 * (g + 128 * h)))
+    (a + 128 * b + 16384 * (c + 128 * d) + 268435456 * (e + 128 * f + 16384 * (g + 128 * h)))
 joins a b c d e f g h la lb lc ld le lf lg lh =
     let highs-are : highs (a + 256 * b + 65536 * (c + 256 * d + 65536 * (e + 256 * f + 65536 * (g + 256 * h)))) ≡ 256 * b + 65536 * (256 * d + 65536 * (256 * f + 65536 * (256 * h))) =
     next-two a b (c + 256 * d + 65536 * (e + 256 * f + 65536 * (g + 256 * h))) 139640107466496 la lb
@@ -496,8 +513,8 @@ joins a b c d e f g h la lb lc ld le lf lg lh =
     ∙ ap (λ (n : ℕ). 256 * d + 65536 * n) (next-two e f (g + 256 * h) 32512 le lf ∙ ap (λ (n : ℕ). 256 * f + 65536 * n) (second-of-two g h lg lh))) in
     let less : highs (a + 256 * b + 65536 * (c + 256 * d + 65536 * (e + 256 * f + 65536 * (g + 256 * h)))) / 2 ≤ a + 256 * b + 65536 * (c + 256 * d + 65536 * (e + 256 * f + 65536 * (g + 256 * h))) = omega arith in
     let twos :
-        a + 256 * b + 65536 * (c + 256 * d + 65536 * (e + 256 * f + 65536 * (g + 256 * h))) - highs (a + 256 * b + 65536 * (c + 256 * d + 65536 * (e + 256 * f + 65536 * (g + 256 * h)))) / 2
-        ≡ a + 128 * b + 65536 * (c + 128 * d) + 4294967296 * (e + 128 * f + 65536 * (g + 128 * h)) = omega arith in
+    a + 256 * b + 65536 * (c + 256 * d + 65536 * (e + 256 * f + 65536 * (g + 256 * h))) - highs (a + 256 * b + 65536 * (c + 256 * d + 65536 * (e + 256 * f + 65536 * (g + 256 * h)))) / 2
+    ≡ a + 128 * b + 65536 * (c + 128 * d) + 4294967296 * (e + 128 * f + 65536 * (g + 128 * h)) = omega arith in
     let fours = fours-are (a + 128 * b) (c + 128 * d) (e + 128 * f) (g + 128 * h) (omega arith) (omega arith) (omega arith) (omega arith) in
     let eight = eight-are (a + 128 * b + 16384 * (c + 128 * d)) (e + 128 * f + 16384 * (g + 128 * h)) (omega arith) (omega arith) in
     record {

@@ -23,12 +23,6 @@ pub record Begun (f : List ℕ) (at low : ℕ) : Type 0 where
   pub byte : getD f at 0 ≡ 128 + low
   pub small : low < 128
 
--- it stands at `at`, of its first two bytes each is followed by another, and the nine bytes that it may have are there
-pub record Ongoing (f : List ℕ) (at : ℕ) : Type 0 where
-  pub room : at + 9 ≤ length f
-  pub first : 128 ≤ getD f at 0
-  pub second : 128 ≤ getD f (at + 1) 0
-
 -- the one that stands at `at` ends at e
 pub record Ended (f : List ℕ) (at e : ℕ) : Type 0 where
   pub says : andThen (v64 f at) (λ n e. got (tt {0}) e) ≡ got tt e

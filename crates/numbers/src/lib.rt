@@ -8,7 +8,7 @@ ghost use lib.ListN.{length, take, drop};
 ghost use Rattle.paper.specs.Numbers.{fixed, v64};
 ghost use Rattle.paper.specs.File.{small};
 ghost use Rattle.numbers.specs.Cursors.{Read, Past, refusalOf, noStep, stepOf};
-ghost use Rattle.numbers.specs.Begun.{Begun, Ongoing, Ended};
+ghost use Rattle.numbers.specs.Begun.{Begun, Ended};
 ghost use Rattle.numbers.specs.Turned.{lowBytes, Turned, TakenAt, TakenV64};
 ghost use Rattle.numbers.specs.Words.{marks, septets, Ran};
 use paper::Ledger;
@@ -216,23 +216,6 @@ fn passed(n: Number) -> Step
     }
 }
 
-// How many bytes the v64 has that begins at `at`, where each of its first two is followed by another and all nine that it may have are
-// there. They are looked at from the ninth back: of those that end it the first counts, and no jump depends on which it is.
-fn long_length(s: &[u8], at: usize) -> usize
-    requires { ⌜ Ongoing (now s) at ⌝ }
-    ensures { λ r. ⌜ Ended (now (s .entry)) at (at + r) ⌝ }
-{
-    let mut length: usize = 9;
-    let mut i: usize = 8;
-    while 2 < i {
-        i -= 1;
-        if wide(s[at + i]) < 128 {
-            length = i + 1;
-        }
-    }
-    length
-}
-
 // The lowest seven bits of each of the eight bytes of x, side by side: joined in twos, then in fours, then all eight. The twos are a
 // difference, since only so are all bits of x asked for at once, and the compiler keeps the one load of them.
 fn joined(x: u64) -> u64
@@ -308,8 +291,22 @@ impl Cursor {
         v64_on(s, at, low)
     }
 
-    // Past a v64 of which nobody asks the value: no number is made of it. Of one byte or two, which most have, a look at each tells;
-    // near the end of the bytes the number is read after all.
+    // Past a v64 that has all bytes behind it that it may have. No jump depends on which of them ends it: where none of eight does, the bits
+    // before the first that is set are all 64.
+    pub fn pass_v64(self, s: &[u8]) -> Cursor
+        requires { ⌜ self .at + 9 ≤ length (now s) ⌝ }
+        ensures { λ r. ⌜ Ended (now (s .entry)) (self .at) (r .at) × (r .at ≤ self .at + 9) ⌝ }
+    {
+        let at = self.at;
+        let marked = ends(low_first(s, at, 8));
+        let bit = u64::trailing_zeros(marked);
+        Cursor {
+            at: at + ((bit / 8) as usize) + 1,
+        }
+    }
+
+    // Past a v64 of which nobody asks the value: no number is made of it, unless the bytes end near. Of one byte, which most have, a look
+    // tells.
     pub fn past_v64(self, s: &[u8]) -> Step
         ensures { λ r. ⌜ Past v64 (now (s .entry)) (self .at) r ⌝ }
     {
@@ -327,12 +324,7 @@ impl Cursor {
         if s.len() - at < 9 {
             return passed(v64_on(s, at, b - 128));
         }
-        if wide(s[at + 1]) < 128 {
-            return Step::Got(Cursor { at: at + 2 });
-        }
-        Step::Got(Cursor {
-            at: at + long_length(s, at),
-        })
+        Step::Got(self.pass_v64(s))
     }
 
     // Past all v64s that end in the next eight bytes, where a ninth is there, or past the one that has all nine. What is counted is where they
@@ -462,6 +454,14 @@ impl Cursor {
             };
         }
         long_v64(s, at)
+    }
+
+    // The same where most have more than three bytes: nothing is told before the length is.
+    pub fn take_long_v64(self, s: &[u8]) -> Taken
+        requires { ⌜ self .at + 9 ≤ length (now s) ⌝ }
+        ensures { λ r. ⌜ TakenV64 (now (s .entry)) (self .at) r ⌝ }
+    {
+        long_v64(s, self.at)
     }
 
     // A number of any such width. Eight bytes are asked for by themselves: then their number is known, and they are read at once.

@@ -5,10 +5,12 @@ use Prim.Native.Nat.{ℕ, zero, suc, _+_, _-_, _*_, _≤_, _<_}
 use native.Mathlib.Omega.{arith}
 use Rattle.paper.specs.Reader.{Out, got, no, andThen, repeat}
 use Rattle.paper.specs.Numbers.{v64}
+use Rattle.numbers.specs.Begun.{Ended}
 use Rattle.numbers.specs.Words.{Over, here, past, over-then, Ran}
 use Rattle.numbers.specs.declared.Run.{Run}
 use Rattle.numbers.specs.declared.Number.{Number}
-use Rattle.values.specs.Pass.{forget, Passed, Running, running-on}
+use Rattle.numbers.specs.declared.Number.the-variants.{Got}
+use Rattle.values.specs.Pass.{forget, Passed, Running, running-start, running-on, running-done}
 
 -- r looks at nine bytes each from `at` on, of which each passes over eight numbers at most
 pub record Looks (size at rest r : ℕ) : Type 0 where
@@ -63,3 +65,25 @@ running-over {f} {m} {from} {rest} {at} R (past {k} {e = e} one others) h =
 pub running-rest :
     {f : List ℕ} {m from rest at : ℕ} {n : Number} → Running v64 f m from rest at → Passed (repeat rest v64) f at n → Passed (repeat m v64) f from n
 running-rest R P = record { says = P .says ∙ sym (R .says); inside = λ h. P .inside (R .inside h) }
+
+-- ── one by one, where all of m are there: `rest` are left ──
+
+pub record Each (m : ℕ) (f : List ℕ) (from at rest : ℕ) : Type 0 where
+  pub over : Over f (m - rest) from at
+  pub count : rest ≤ m
+  pub near : at + 9 * rest ≤ from + 9 * m
+
+pub each-start : (m : ℕ) (f : List ℕ) (from : ℕ) → Each m f from from m
+each-start m f from = let none : m - m ≡ 0 = omega arith in record { over = rw none here; count = omega arith; near = omega arith }
+
+module _ {m : ℕ} {f : List ℕ} {from at rest : ℕ} (E : Each m f from at rest) where
+  pub each-next : {e : ℕ} → Ended f at e → e ≤ at + 9 → 0 < rest → Each m f from e (rest - 1)
+  each-next one near due =
+      let more : m - (rest - 1) ≡ m - rest + 1 = omega (arith, E .count) in
+      record { over = rw more (over-then (E .over) (past one here)); count = omega (arith, E .count); near = omega (arith, E .near) }
+
+  pub each-done : rest ≤ 0 → Over f m from at
+  each-done h = let all : m - rest ≡ m = omega arith in rw all at (E .over)
+
+pub over-passed : {f : List ℕ} {m at e : ℕ} (x : ℕ) → Over f m at e → Passed (repeat m v64) f at (Got x (record { at = e }))
+over-passed {f} {m} {at} x O = running-done (running-over (running-start v64 f m at) O (omega arith)) x (omega arith)

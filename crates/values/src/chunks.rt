@@ -8,7 +8,7 @@ ghost use Rattle.paper.specs.Numbers.{fixed, v64};
 ghost use Rattle.paper.specs.Rules.{boolRules, elementKind?};
 ghost use Rattle.values.specs.Pass.{Passed};
 ghost use Rattle.values.specs.Listed.{Fixed, widthOf};
-ghost use Rattle.values.specs.Items.{Checked, linked, atMost};
+ghost use Rattle.values.specs.Items.{Checked, linked, atMost, someObject};
 ghost use Rattle.values.specs.Chunks.{counted, listOf, Kinds, ChunkChecked};
 use crate::annotations::annotations;
 use crate::references::guided_references;
@@ -191,6 +191,28 @@ fn string_lists(part: &[u8], n: u64, strings: u64) -> Number
     Number::Got(0, here)
 }
 
+// n arrays of references.
+fn reference_lists(part: &[u8], n: u64, first: &[u32], last: &[u32]) -> Number
+    requires { ⌜ length (now first) ≡ length (now last) ⌝ }
+    ensures { λ r. ⌜ Passed (repeat n (counted (linked (someObject (now (first .entry)) (now (last .entry)))))) (now (part .entry)) 0 r ⌝ }
+{
+    let mut here = Cursor { at: 0 };
+    let mut rest = n;
+    while 0 < rest {
+        let length = here.small(part);
+        let Number::Got(m, begin) = length else {
+            return length;
+        };
+        let a = references(part, begin, m, first, last);
+        let Number::Got(_, next) = a else {
+            return a;
+        };
+        here = next;
+        rest -= 1;
+    }
+    Number::Got(0, here)
+}
+
 // n arrays that give their own lengths. The elements' kind is asked once, and not for each array: most have few elements.
 fn lists_of(
     part: &[u8],
@@ -209,6 +231,7 @@ fn lists_of(
         7..=10 | 12..=13 => fixed_lists(part, n, width(e)),
         11 => v64_lists(part, n),
         14 => string_lists(part, n, strings),
+        32..=18446744073709551615 => reference_lists(part, n, first, last),
         _ => lists(part, n, e, strings, pools, first, last),
     }
 }

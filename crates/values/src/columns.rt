@@ -254,22 +254,53 @@ fn v64s_there(part: &[u8], c: Cursor, out: &mut [i64], p: usize, n: usize) -> Cu
     here
 }
 
-// As many as are surely there are stored at once, again and again; the last few one by one.
+// The same where most have more bytes than one or two.
+fn long_v64s_there(part: &[u8], c: Cursor, out: &mut [i64], p: usize, n: usize) -> Cursor
+    requires { ⌜ (c .at + 9 * n ≤ length (now part)) × (p + n ≤ length (now out)) ⌝ }
+    ensures { λ r. ⌜ On isV64 (now (part .entry)) (c .at) (now (out .entry)) p n (now (out .exit)) (r .at) ⌝ }
+{
+    let mut i: usize = 0;
+    let mut here = c;
+    while i < n {
+        let a = here.take_long_v64(part);
+        out[p + i] = store(Value::Whole(sign::signed8(a.number)));
+        i += 1;
+        here = a.next;
+    }
+    here
+}
+
+// Either way.
+fn some_v64s(part: &[u8], c: Cursor, out: &mut [i64], p: usize, n: usize, long: bool) -> Cursor
+    requires { ⌜ (c .at + 9 * n ≤ length (now part)) × (p + n ≤ length (now out)) ⌝ }
+    ensures { λ r. ⌜ On isV64 (now (part .entry)) (c .at) (now (out .entry)) p n (now (out .exit)) (r .at) ⌝ }
+{
+    if long {
+        return long_v64s_there(part, c, out, p, n);
+    }
+    v64s_there(part, c, out, p, n)
+}
+
+// As many as are surely there are stored at once, again and again; the last few one by one. Whether they are long is a guess, which the
+// ones before tell: so no more than some hundred are stored by one.
 fn fill_v64s(part: &[u8], out: &mut [i64], at: usize) -> usize
     ensures { λ r. ⌜ Filled 11 (now (part .entry)) (now (out .entry)) at (now (out .exit)) r ⌝ }
 {
     let mut p = at;
     let mut from = Cursor { at: 0 };
+    let mut long = true;
     while from.at < part.len() {
         // Neither is met where the values keep the rules and there is room for them.
         if out.len() <= p {
             return p;
         }
         let left = part.len() - from.at;
-        let n = fitting(left / 9, out.len() - p);
+        let n = fitting(fitting(left / 9, 256), out.len() - p);
         if 0 < n {
-            from = v64s_there(part, from, out, p, n);
+            let next = some_v64s(part, from, out, p, n, long);
+            long = from.at + 2 * n < next.at;
             p += n;
+            from = next;
         } else {
             let a = from.v64(part);
             let Number::Got(x, next) = a else {

@@ -8,6 +8,7 @@ ghost use Rattle.paper.specs.Reader.{must, repeat};
 ghost use Rattle.paper.specs.Numbers.{fixed, v64};
 ghost use Rattle.paper.specs.Rules.{boolRules};
 ghost use Rattle.numbers.specs.Cursors.{Read};
+ghost use Rattle.numbers.specs.Words.{Over};
 ghost use Rattle.values.specs.Pass.{Passed};
 ghost use Rattle.values.specs.Items.{linked, atMost};
 ghost use Rattle.values.specs.Held.{Bools};
@@ -138,10 +139,14 @@ fn v64s_there(part: &[u8], c: Cursor, n: u64) -> Run
     Run { count, next: here }
 }
 
-// m numbers of one byte or more: as many as are surely there are passed over at once, again and again; the last few one by one.
+// m numbers of one byte or more: as many as are surely there are passed over at once, again and again, and then the last few.
 pub fn v64s(part: &[u8], c: Cursor, m: u64) -> Number
     ensures { λ r. ⌜ Passed (repeat m v64) (now (part .entry)) (c .at) r ⌝ }
 {
+    // An array has few, and no look is worth its while.
+    if m < 8 {
+        return few_v64s(part, c, m);
+    }
     let mut here = c;
     let mut rest = m;
     let mut n = looks(part, here.at, rest);
@@ -151,7 +156,34 @@ pub fn v64s(part: &[u8], c: Cursor, m: u64) -> Number
         rest -= a.count;
         n = looks(part, here.at, rest);
     }
-    v64s_in_turn(part, here, rest)
+    few_v64s(part, here, rest)
+}
+
+// Few numbers. A v64 has nine bytes at most, so where nine are left for each they are all there, and no step asks.
+fn few_v64s(part: &[u8], c: Cursor, m: u64) -> Number
+    ensures { λ r. ⌜ Passed (repeat m v64) (now (part .entry)) (c .at) r ⌝ }
+{
+    let at = c.at;
+    if at <= part.len() {
+        let room = ((part.len() - at) / 9) as u64;
+        if m <= room {
+            return Number::Got(0, each_v64(part, c, m));
+        }
+    }
+    v64s_in_turn(part, c, m)
+}
+
+fn each_v64(part: &[u8], c: Cursor, m: u64) -> Cursor
+    requires { ⌜ c .at + 9 * m ≤ length (now part) ⌝ }
+    ensures { λ r. ⌜ Over (now (part .entry)) m (c .at) (r .at) ⌝ }
+{
+    let mut here = c;
+    let mut rest = m;
+    while 0 < rest {
+        here = here.pass_v64(part);
+        rest -= 1;
+    }
+    here
 }
 
 // The same, number by number, up to the first that is refused.

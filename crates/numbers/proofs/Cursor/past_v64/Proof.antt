@@ -2,7 +2,7 @@ use borrow.Author.Needs.{needs}
 use mathlib.Core.Path.{sym}
 use native.Mathlib.Omega.{arith}
 use Rattle.numbers.specs.Cursors.{read-past}
-use Rattle.numbers.proofs.V64Laws.{none-there, one-there, two-there}
+use Rattle.numbers.proofs.V64Laws.{none-there, one-there}
 use Rattle.numbers.proofs.Cursor.past_v64.Statement.{statement}
 use Rattle.numbers.proofs.Cursor.past_v64.Tie as tie
 
@@ -19,11 +19,5 @@ past-v64-spec =
     (λ c κs. search needs)
     (λ c κs. search needs)
     (λ c. rw (c .passed .ensures) (read-past _ (c .before .v64-on .ensures)))
-    (λ c. search needs)
-    (λ c. search needs)
     (λ c κs. search needs)
-    (λ c. search needs)
-    (λ c. two-there _ _ (omega arith) (rw (c .before .before .before .before .before .wide .ensures .0) at (c .before .before .before .before .if2 .left)) (rw (c .before .wide2 .ensures .0) at (c .if4 .taken)))
-    (λ c κs. search needs)
-    (λ c. omega (arith, c .long-length .ensures .inside))
-    (λ c. record { says = sym (c .long-length .ensures .says); inside = λ h. c .long-length .ensures .inside }))
+    (λ c. record { says = sym (c .pass-v64 .ensures .0 .says); inside = λ h. c .pass-v64 .ensures .0 .inside }))

@@ -20,6 +20,8 @@ v64s-spec =
     Inv-loop
     μ-loop
     (λ c κs. search needs)
+    (λ c. search needs)
+    (λ c κs. search needs)
     (λ c. (running-start v64 _ _ _, c .looks .ensures))
     (λ c κs. c .before .loop .inv .1 .room (c .loop-test .taken))
     (λ c. omega (arith, c .before .before .v64s-there .ensures .few, c .before .before .before .before .loop .inv .1 .few))
@@ -27,4 +29,4 @@ v64s-spec =
     (λ c. omega (arith, c .before .before .before .v64s-there .ensures .few, c .before .before .before .before .before .loop .inv .1 .few, c .before .before .before .v64s-there .ensures .some (omega arith)))
     (λ c. (running-over (c .before .before .before .before .before .loop .inv .0) (c .before .before .before .v64s-there .ensures .over) (omega (arith, c .before .before .before .v64s-there .ensures .few, c .before .before .before .before .before .loop .inv .1 .few)), c .looks2 .ensures))
     (λ c κs. search needs)
-    (λ c. running-rest (c .before .before .loop .inv .0) (c .v64s-in-turn .ensures)))
+    (λ c. running-rest (c .before .before .loop .inv .0) (c .few-v64s2 .ensures)))
