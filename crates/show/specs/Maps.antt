@@ -47,6 +47,15 @@ first-listed {least} {ks} K h = go ks (omega (arith, K .long)) (K .listed)
     go [] h t = absurd (omega arith)
     go (k ∷ l) h t = and-split (elementKind? k) (all elementKind? l) t .0
 
+pub second-listed : {ks : List ℕ} → Keyed 2 ks → elementKind? (getD ks 1 0) ≡ true
+unfolding all
+second-listed {ks} K = go ks (K .long) (K .listed)
+  where
+    go : (l : List ℕ) → 2 ≤ length l → all elementKind? l ≡ true → elementKind? (getD l 1 0) ≡ true
+    go [] h t = absurd (omega arith)
+    go (k ∷ []) h t = absurd (omega arith)
+    go (k ∷ m ∷ l) h t = and-split (elementKind? m) (all elementKind? l) (and-split (elementKind? k) (all elementKind? (m ∷ l)) t .1) .0
+
 -- the other kinds, lent as a part
 pub rest-keyed : {ks : List ℕ} → Keyed 2 ks → Keyed 1 (take (length ks - 1) (drop 1 ks))
 unfolding all
@@ -191,6 +200,23 @@ pub key-shows :
 key-shows ks {f} {from} {l} {at} {m} {n} {o} {o₂} K M =
     shows-then (λ s. key-parts ks s f from) K
     (subst (λ (r : List ℕ). Shows (mapIn r) (tabs elementWord) f (o .next .at) m (o .at) n o₂) (rest-part ks) M)
+
+-- where one kind is left, that is an element
+last-left : (l : List ℕ) → length l ≡ 2 → (length (take (length l - 1) (drop 1 l)) ≡ 1) × (getD (take (length l - 1) (drop 1 l)) 0 0 ≡ getD l 1 0)
+last-left [] h = absurd (omega arith)
+last-left (k ∷ []) h = absurd (omega arith)
+last-left (k ∷ m ∷ l) h = rw (rest-part (k ∷ m ∷ l)) (omega arith, refl)
+
+pub key-last :
+    (ks : List ℕ) {f : List ℕ} {from : ℕ} {l : List ℕ} {at : ℕ} {m n : List ℕ} {o o₂ : Behind} → length ks ≡ 2
+    → Shows (λ s. element s (getD ks 0 0)) (λ x. tab ∷ elementWord x) f from l at m o
+    → Shows (λ s. element s (getD ks 1 0)) (λ x. tab ∷ elementWord x) f (o .next .at) m (o .at) n o₂
+    → Shows (keyIn ks) (tabs elementWord) f from l at n o₂
+key-last ks {f} {from} {l} {at} {m} {n} {o} {o₂} two K E =
+    let (one, same) = last-left ks two in
+    let last : Shows (λ s. element s (getD (take (length ks - 1) (drop 1 ks)) 0 0)) (λ x. tab ∷ elementWord x) f (o .next .at) m (o .at) n o₂ =
+    subst (λ (k : ℕ). Shows (λ s. element s k) (λ x. tab ∷ elementWord x) f (o .next .at) m (o .at) n o₂) (sym same) E in
+    key-shows ks K (map-element (take (length ks - 1) (drop 1 ks)) one last)
 
 -- ── a chunk of maps, by the numbers of a table's row ──
 

@@ -543,12 +543,15 @@ fn put_map(part: &[u8], c: Cursor, kinds: &[u64], out: &mut [u8], at: usize) -> 
     here
 }
 
-// The words of a key of the first kind, and of what it leads to: a map of the other types.
+// The words of a key of the first kind, and of what it leads to: a map of the other types or, if only one is left, an element of it.
 fn put_key_and_rest(part: &[u8], c: Cursor, kinds: &[u64], out: &mut [u8], at: usize) -> Behind
     requires { ⌜ Keyed 2 (now kinds) ⌝ }
     ensures { λ r. ⌜ Shows (keyIn (now (kinds .entry))) (tabs elementWord) (now (part .entry)) (c .at) (now (out .entry)) at (now (out .exit)) r ⌝ }
 {
     let key = put_next(part, c, kinds[0], out, at);
+    if kinds.len() == 2 {
+        return put_next(part, key.next, kinds[1], out, key.at);
+    }
     put_map(part, key.next, &kinds[1..], out, key.at)
 }
 

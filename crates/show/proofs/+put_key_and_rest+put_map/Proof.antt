@@ -11,7 +11,7 @@ use Rattle.paper.specs.Listing.{elementWord}
 use Rattle.lay.specs.Laid.{most}
 use Rattle.laws.specs.Lines.{tabs}
 use Rattle.show.specs.Shown.{Showing, showing-start, showing-next, shows-all}
-use Rattle.show.specs.Maps.{keyIn, first-listed, more-types, rest-keyed, rest-falls, map-element, map-none, map-shows, key-shows}
+use Rattle.show.specs.Maps.{keyIn, first-listed, second-listed, more-types, rest-keyed, rest-falls, map-element, map-none, map-shows, key-shows, key-last}
 use Rattle.show.proofs.put_key_and_rest.Reads as put-key-and-rest
 use Rattle.show.proofs.put_key_and_rest.Kinds as put-key-and-rest-kinds
 use Rattle.show.proofs.+put_key_and_rest+put_map.Lts-put_key_and_rest as put-key-and-rest-lts
@@ -75,12 +75,16 @@ pub +put-key-and-rest+put-map-spec : {M : Type 1} → statement M
     put-key-and-rest.Post
     (λ c. omega (arith, c .before .before .before .before .pre .1 .long))
     (λ c κs. first-listed (c .before .before .before .before .before .pre .1) (omega arith))
-    (λ c. omega (arith, c .before .before .before .before .before .before .before .before .pre .1 .long))
-    (λ c. omega (arith, c .before .before .before .before .before .before .before .before .pre .1 .long))
-    (λ c. omega arith)
-    (λ c κs. (rest-falls (c .before .before .before .before .before .before .before .before .before .before .pre .1) (c .before .before .before .before .before .before .before .before .before .before .pre .0), rest-keyed (c .before .before .before .before .before .before .before .before .before .before .pre .1)))
+    (λ c. omega (arith, c .before .before .before .before .before .before .before .before .before .before .pre .1 .long))
+    (λ c κs. second-listed (c .before .before .before .before .before .before .before .before .before .before .before .pre .1))
     (λ c. search needs)
-    (λ c. key-shows _ (c .before .before .before .before .before .before .before .put-next .ensures) (c .before .before .put-map .ensures)))
+    (λ c. key-last _ (c .before .before .before .before .before .if1 .taken) (c .before .before .before .before .before .before .before .before .put-next .ensures) (c .before .before .put-next2 .ensures))
+    (λ c. omega (arith, c .before .before .before .before .before .before .before .before .before .pre .1 .long))
+    (λ c. omega (arith, c .before .before .before .before .before .before .before .before .before .pre .1 .long))
+    (λ c. omega arith)
+    (λ c κs. (rest-falls (c .before .before .before .before .before .before .before .before .before .before .before .pre .1) (c .before .before .before .before .before .before .before .before .before .before .before .pre .0), rest-keyed (c .before .before .before .before .before .before .before .before .before .before .before .pre .1)))
+    (λ c. search needs)
+    (λ c. key-shows _ (c .before .before .before .before .before .before .before .before .put-next .ensures) (c .before .before .put-map .ensures)))
     λ t. put-map-lts.spec
     (put-next-reads.Asked, put-next-reads.Learnt, small-reads.Asked, small-reads.Learnt, put-reads.Asked, put-reads.Learnt, put-decimal-reads.Asked, put-decimal-reads.Learnt, put-key-and-rest-below t, put-key-and-rest.Post)
     (put-map-at t)
