@@ -192,7 +192,7 @@ fn string_lists(part: &[u8], n: u64, strings: u64) -> Number
 }
 
 // n arrays of references.
-fn reference_lists(part: &[u8], n: u64, first: &[u32], last: &[u32]) -> Number
+fn reference_lists(part: &[u8], n: u64, guide: &[u32], first: &[u32], last: &[u32]) -> Number
     requires { ⌜ length (now first) ≡ length (now last) ⌝ }
     ensures { λ r. ⌜ Passed (repeat n (counted (linked (someObject (now (first .entry)) (now (last .entry)))))) (now (part .entry)) 0 r ⌝ }
 {
@@ -203,7 +203,7 @@ fn reference_lists(part: &[u8], n: u64, first: &[u32], last: &[u32]) -> Number
         let Number::Got(m, begin) = length else {
             return length;
         };
-        let a = references(part, begin, m, first, last);
+        let a = guided_references(part, begin, m, guide, first, last);
         let Number::Got(_, next) = a else {
             return a;
         };
@@ -231,7 +231,7 @@ fn lists_of(
         7..=10 | 12..=13 => fixed_lists(part, n, width(e)),
         11 => v64_lists(part, n),
         14 => string_lists(part, n, strings),
-        32..=18446744073709551615 => reference_lists(part, n, first, last),
+        32..=18446744073709551615 => reference_lists(part, n, pools, first, last),
         _ => lists(part, n, e, strings, pools, first, last),
     }
 }

@@ -7,10 +7,10 @@ use Rattle.values.proofs.chunks.reference_lists.Statement.{statement}
 use Rattle.values.proofs.chunks.reference_lists.Tie as tie
 
 abbrev Inv-loop : tie.InvT-loop
-Inv-loop part n first last here₀ rest₀ here rest = Running (counted (linked (someObject first last))) part n 0 rest (here .at)
+Inv-loop part n guide first last here₀ rest₀ here rest = Running (counted (linked (someObject first last))) part n 0 rest (here .at)
 
 abbrev μ-loop : tie.MeasureT-loop
-μ-loop part n first last here₀ rest₀ here rest = rest
+μ-loop part n guide first last here₀ rest₀ here rest = rest
 
 pub reference-lists-spec : {M : Type 1} → statement M
 reference-lists-spec =
@@ -26,8 +26,8 @@ reference-lists-spec =
     (λ c κs. search needs)
     (λ c. search needs)
     (λ c. search needs)
-    (λ c. running-no (c .before .before .before .before .before .before .before .before .loop .inv) (c .before .before .before .before .before .before .before .loop-test .taken) (counted-then _ (c .before .before .before .before .before .before .small .ensures) (c .before .before .before .before .length .given .1) (c .before .before .references .ensures)) (c .enum-told2 .given .1))
+    (λ c. running-no (c .before .before .before .before .before .before .before .before .loop .inv) (c .before .before .before .before .before .before .before .loop-test .taken) (counted-then _ (c .before .before .before .before .before .before .small .ensures) (c .before .before .before .before .length .given .1) (c .before .before .guided-references .ensures)) (c .enum-told2 .given .1))
     (λ c. search needs)
     (λ c. search needs)
-    (λ c. running-next (c .before .before .before .before .before .before .before .before .before .loop .inv) (c .before .before .before .before .before .before .before .before .loop-test .taken) (counted-then _ (c .before .before .before .before .before .before .before .small .ensures) (c .before .before .before .before .before .length .given .1) (c .before .before .before .references .ensures)) (c .before .a .given .1))
+    (λ c. running-next (c .before .before .before .before .before .before .before .before .before .loop .inv) (c .before .before .before .before .before .before .before .before .loop-test .taken) (counted-then _ (c .before .before .before .before .before .before .before .small .ensures) (c .before .before .before .before .before .length .given .1) (c .before .before .before .guided-references .ensures)) (c .before .a .given .1))
     (λ c. running-done (c .before .loop .inv) 0 (c .loop-test .left)))
