@@ -43,6 +43,17 @@ pub kind-taken :
     → Known (view t l) (row .e) strings pools first last → ChunkTaken n (row .kind) (row .a) (row .e) strings pools first last t from out at m r → KindTaken n row l t from out at m r
 kind-taken row l {t = t} K C = C .told (view t l) K
 
+-- the same, in every state whose objects of the kind lie in these ranges, whatever stands where the pools would
+pub record RangedTaken (n : ℕ) (row : FieldRow) (strings : ℕ) (first last t : List ℕ) (from : ℕ) (out : List ℕ) (at : ℕ) (m : List ℕ) (r : TextRead) : Type 0 where
+  pub told :
+      (s : State) → ((pools : List ℕ) → Known s (row .e) strings pools first last)
+      → Told (repeat n (valueText s (kindFrom (row .kind) (row .a) (row .e)))) (flat (putValue (kindFrom (row .kind) (row .a) (row .e)))) t from out at m r
+
+pub ranged-taken :
+    {n : ℕ} (row : FieldRow) {strings : ℕ} {pools first last t : List ℕ} {from : ℕ} {out : List ℕ} {at : ℕ} {m : List ℕ} {r : TextRead}
+    → ChunkTaken n (row .kind) (row .a) (row .e) strings pools first last t from out at m r → RangedTaken n row strings first last t from out at m r
+ranged-taken row {pools = pools} C = record { told = λ s K. C .told s (K pools) }
+
 -- ── constants ──
 
 -- a constant's kind has no number of an element's

@@ -19,7 +19,7 @@ ghost use Rattle.walk.specs.Listed.{Listed};
 ghost use Rattle.walk.specs.Region.{sizes};
 ghost use Rattle.walk.specs.Steps.{NotedKind};
 ghost use Rattle.texts.specs.Told.{Told};
-ghost use Rattle.regions.specs.Chunk.{KindTaken, PoolsSay, MapsTold};
+ghost use Rattle.regions.specs.Chunk.{KindTaken, RangedTaken, PoolsSay, MapsTold};
 ghost use Rattle.regions.specs.Turns.{RegionReady, DueReady, DueTold, ChunkSized, RegionSized};
 ghost use Rattle.regions.specs.Both.{DueLaid, LaidSized};
 use lookups::named::pools_due;
@@ -38,12 +38,82 @@ use texts::Taken;
 use texts::TextRead;
 use texts::chunk_text;
 use texts::maps::maps_text;
+use values::guides::make_guide;
 use values::maps::map_kinds;
 use words::read::Place;
 use words::read::Step;
 
 // 2 ^ 64 - 1
 const MOST: u64 = 18446744073709551615;
+
+// n values whose elements refer to objects of these ranges, which are looked for by a guide.
+fn guided_bytes(
+    text: &[u8],
+    p: Place,
+    n: u32,
+    kind: FieldRow,
+    strings: u64,
+    first: &[u32],
+    last: &[u32],
+    out: &mut [u8],
+    at: usize,
+) -> TextRead
+    requires { ⌜ Kinds (kind .kind) (kind .a) (kind .e) × (kind .kind ≡ 20 → ⊥) × (length (now first) ≡ length (now last)) ⌝ }
+    ensures { λ r. ⌜ RangedTaken n kind strings (now (first .entry)) (now (last .entry)) (now (text .entry)) (p .at) (now (out .entry)) at (now (out .exit)) r ⌝ }
+{
+    let mut guide = [0u32; 257];
+    make_guide(last, &mut guide);
+    chunk_text(
+        text,
+        p,
+        n,
+        kind.kind as u64,
+        kind.a,
+        kind.e,
+        strings,
+        &guide,
+        first,
+        last,
+        out,
+        at,
+    )
+}
+
+// The same, for any number of values and ranges. A guide is worth its making only where there are many values to one of several ranges.
+fn ranged_bytes(
+    text: &[u8],
+    p: Place,
+    n: u32,
+    kind: FieldRow,
+    strings: u64,
+    first: &[u32],
+    last: &[u32],
+    out: &mut [u8],
+    at: usize,
+) -> TextRead
+    requires { ⌜ Kinds (kind .kind) (kind .a) (kind .e) × (kind .kind ≡ 20 → ⊥) × (length (now first) ≡ length (now last)) ⌝ }
+    ensures { λ r. ⌜ RangedTaken n kind strings (now (first .entry)) (now (last .entry)) (now (text .entry)) (p .at) (now (out .entry)) at (now (out .exit)) r ⌝ }
+{
+    if 64 < n {
+        if 1 < first.len() {
+            return guided_bytes(text, p, n, kind, strings, first, last, out, at);
+        }
+    }
+    chunk_text(
+        text,
+        p,
+        n,
+        kind.kind as u64,
+        kind.a,
+        kind.e,
+        strings,
+        &first[..0],
+        first,
+        last,
+        out,
+        at,
+    )
+}
 
 // n values whose elements refer to objects: the ranges of their type are gathered once, and not asked for at each value.
 fn linked_bytes(
@@ -62,15 +132,12 @@ fn linked_bytes(
     let mut first = [0u32; Ledger::RANGES as usize];
     let mut last = [0u32; Ledger::RANGES as usize];
     let k = gather(work, kind.e - 32, &mut first, &mut last);
-    chunk_text(
+    ranged_bytes(
         text,
         p,
         n,
-        kind.kind as u64,
-        kind.a,
-        kind.e,
+        kind,
         strings(work) as u64,
-        &work[..0],
         &first[..k],
         &last[..k],
         out,

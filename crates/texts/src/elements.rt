@@ -16,7 +16,7 @@ use numbers::write::put_be2;
 use numbers::write::put_be4;
 use numbers::write::put_be8;
 use numbers::write::put_v64;
-use values::references::range_of;
+use values::references::range_by;
 use words::read::Number;
 use words::read::Place;
 use words::read::peek;
@@ -103,8 +103,8 @@ fn string_number(t: &[u8], p: Place, strings: u64) -> Number
     Number::Got(n, next)
 }
 
-// The number of an object in the ranges, or 0.
-fn object_number(t: &[u8], p: Place, first: &[u32], last: &[u32]) -> Number
+// The number of an object in the ranges, or 0. The guide says which range to look at first.
+fn object_number(t: &[u8], p: Place, guide: &[u32], first: &[u32], last: &[u32]) -> Number
     requires { ⌜ length (now first) ≡ length (now last) ⌝ }
     ensures { λ r. ⌜ outNumber r ≡ linkNumber (someObject (now (first .entry)) (now (last .entry))) (now (t .entry)) (p .at) ⌝ }
 {
@@ -114,7 +114,7 @@ fn object_number(t: &[u8], p: Place, first: &[u32], last: &[u32]) -> Number
     if n == 0 {
         return Number::Got(n, next);
     }
-    if first.len() <= range_of(first, last, n) {
+    if first.len() <= range_by(guide, first, last, n) {
         return Number::Bad;
     }
     Number::Got(n, next)
@@ -122,7 +122,15 @@ fn object_number(t: &[u8], p: Place, first: &[u32], last: &[u32]) -> Number
 
 // The number of an element of kind e that keeps the rules; an annotation has two. Of strings there are so many, and the objects of a type are those
 // behind first[i] up to last[i], for each i.
-pub fn element_text(t: &[u8], p: Place, e: u64, strings: u64, first: &[u32], last: &[u32]) -> Number
+pub fn element_text(
+    t: &[u8],
+    p: Place,
+    e: u64,
+    strings: u64,
+    guide: &[u32],
+    first: &[u32],
+    last: &[u32],
+) -> Number
     requires { ⌜ (singleKind? e ≡ true) × (length (now first) ≡ length (now last)) ⌝ }
     ensures { λ r. ⌜ ((pools : List ℕ) → outNumber r ≡ reckoned (kept strings pools (now (first .entry)) (now (last .entry)) e) e (now (t .entry)) (p .at)) ⌝ }
 {
@@ -132,7 +140,7 @@ pub fn element_text(t: &[u8], p: Place, e: u64, strings: u64, first: &[u32], las
         12 => p.hex(t, 8),
         13 => p.hex(t, 16),
         14 => string_number(t, p, strings),
-        _ => object_number(t, p, first, last),
+        _ => object_number(t, p, guide, first, last),
     }
 }
 

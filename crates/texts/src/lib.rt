@@ -63,7 +63,7 @@ fn annotation_text(t: &[u8], p: Place, pools: &[u32], out: &mut [u8], at: usize)
     TextRead::Got(Taken { next, at: end })
 }
 
-// A tab and the element of kind e behind it.
+// A tab and the element of kind e behind it. Where it refers to an object, a guide to the ranges may stand where the pools would.
 pub fn next_element(
     t: &[u8],
     p: Place,
@@ -84,7 +84,7 @@ pub fn next_element(
     if e == 5 {
         return annotation_text(t, word, pools, out, at);
     }
-    let Number::Got(n, next) = element_text(t, word, e, strings, first, last) else {
+    let Number::Got(n, next) = element_text(t, word, e, strings, pools, first, last) else {
         return TextRead::Bad;
     };
     let end = put_bits(out, at, e, n);

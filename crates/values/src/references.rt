@@ -72,7 +72,7 @@ fn near(last: &[u32], n: u64) -> usize {
 }
 
 // The same as `search`, with one look before it that finds nearly all.
-pub fn range_of(first: &[u32], last: &[u32], n: u64) -> usize
+fn range_of(first: &[u32], last: &[u32], n: u64) -> usize
     requires { ⌜ length (now first) ≡ length (now last) ⌝ }
     ensures { λ r. ⌜ Placed (now (first .entry)) (now (last .entry)) n r ⌝ }
 {
@@ -136,6 +136,14 @@ fn guided_range(guide: &[u32], bits: u32, first: &[u32], last: &[u32], n: u64) -
         }
     }
     range_of(first, last, n)
+}
+
+// The same, for whoever looks for one object at a time.
+pub fn range_by(guide: &[u32], first: &[u32], last: &[u32], n: u64) -> usize
+    requires { ⌜ length (now first) ≡ length (now last) ⌝ }
+    ensures { λ r. ⌜ Placed (now (first .entry)) (now (last .entry)) n r ⌝ }
+{
+    guided_range(guide, bits_of(guide), first, last, n)
 }
 
 // The same as `reference`, with a guide.

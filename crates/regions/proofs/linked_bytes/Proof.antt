@@ -2,7 +2,6 @@
 use mathlib.Core.Path.{sym, _∙_}
 use Rattle.lookups.specs.Gather.{first-lent, last-lent}
 use Rattle.lookups.specs.Known.{linked-known}
-use Rattle.regions.specs.Chunk.{kind-taken}
 use borrow.Author.Needs.{needs}
 use Rattle.regions.proofs.linked_bytes.Statement.{statement}
 use Rattle.regions.proofs.linked_bytes.Tie as tie
@@ -15,14 +14,12 @@ linked-bytes-spec =
     (λ c. search needs)
     (λ c. search needs)
     (λ c κs. search needs)
-    (λ c. search needs)
     (λ c κs. search needs)
     (λ c. search needs)
     (λ c. search needs)
+    (λ c. first-lent (c .before .before .before .before .gather .ensures))
     (λ c. search needs)
-    (λ c. first-lent (c .before .before .before .before .before .before .gather .ensures))
+    (λ c. last-lent (c .before .before .before .before .before .gather .ensures))
+    (λ c κs. let s = c .before .before .before .before .before .before .before .before .before .before .before .before .before in (s .pre .1 .0, s .pre .1 .1, sym (first-lent (c .before .before .before .before .before .before .gather .ensures)) ∙ last-lent (c .before .before .before .before .before .before .gather .ensures)))
     (λ c. search needs)
-    (λ c. last-lent (c .before .before .before .before .before .before .before .gather .ensures))
-    (λ c κs. ((c .before .before .before .before .before .before .before .before .before .before .before .before .before .before .before) .pre .1 .0, (c .before .before .before .before .before .before .before .before .before .before .before .before .before .before .before) .pre .1 .1, sym (first-lent (c .before .before .before .before .before .before .before .before .gather .ensures)) ∙ last-lent (c .before .before .before .before .before .before .before .before .gather .ensures)))
-    (λ c. search needs)
-    (λ c. kind-taken ((c .before .before .before .before .before .before .before .before .before .before .before .before .before .before .before .before .before .before) .args .kind) ((c .before .before .before .before .before .before .before .before .before .before .before .before .before .before .before .before .before .before) .args .work .now) (linked-known ((c .before .before .before .before .before .before .before .before .before .before .before .before .before .before .before .before .before .before) .pre .0 .0) (c .before .before .before .before .before .before .before .strings .ensures) ((c .before .before .before .before .before .before .before .before .before .before .before .before .before .before .before .before .before .before) .pre .1 .2) (c .before .before .before .before .before .before .before .before .before .before .before .gather .ensures)) (c .before .before .chunk-text .ensures)))
+    (λ c. let s = c .before .before .before .before .before .before .before .before .before .before .before .before .before .before .before .before in c .before .before .ranged-bytes .ensures .told _ (λ pools. linked-known (s .pre .0 .0) (c .before .before .before .before .before .before .strings .ensures) (s .pre .1 .2) (c .before .before .before .before .before .before .before .before .before .gather .ensures))))

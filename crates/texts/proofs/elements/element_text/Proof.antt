@@ -23,4 +23,4 @@ element-text-spec =
     (λ c pools. c .hex2 .ensures ∙ reckoned-f64 _ pools _ _ _ _ _ (c .before .match .keys3))
     (λ c pools. c .string-number .ensures ∙ reckoned-string _ pools _ _ _ _ _ (c .before .match .keys4))
     (λ c pools. c .whole .ensures _ (c .before .half .ensures .0) ∙ reckoned-whole _ pools _ _ _ _ _ (omega arith) (omega arith))
-    (λ c pools. c .object-number .ensures ∙ reckoned-object _ pools _ _ _ _ _ (object-kind _ ((c .before .before .before .before .before .before) .pre .0) (⊎-elim (λ w. omega (arith, listed-low ((c .before .before .before .before .before .before) .args .e) ((c .before .before .before .before .before .before) .pre .0), c .before .before .match .rest .0 .0 .0 .1)) (λ w. omega (arith, w .1 .left)) (c .before .if1 .came)) (c .before .before .match .rest .0 .0 .1) (c .before .before .match .rest .0 .1) (c .before .before .match .rest .1))))
+    (λ c pools. c .object-number .ensures ∙ reckoned-object _ pools _ _ _ _ _ (object-kind _ ((c .before .before .before .before .before .before .before) .pre .0) (⊎-elim (λ w. omega (arith, listed-low ((c .before .before .before .before .before .before .before) .args .e) ((c .before .before .before .before .before .before .before) .pre .0), c .before .before .match .rest .0 .0 .0 .1)) (λ w. omega (arith, w .1 .left)) (c .before .if1 .came)) (c .before .before .match .rest .0 .0 .1) (c .before .before .match .rest .0 .1) (c .before .before .match .rest .1))))

@@ -15,5 +15,5 @@ object-number-spec =
     (λ c. link-refused _ _ _ (rw (c .enum-told .given .1) at (c .before .before .natural .ensures)))
     (λ c. link-taken _ _ _ _ _ (rw (c .before .before .n .given .1) at (c .before .before .before .before .natural .ensures)) (object-nought _ _ _ (c .if1 .taken)))
     (λ c κs. search needs)
-    (λ c. link-none _ _ _ _ _ (rw (c .before .before .before .before .n .given .1) at (c .before .before .before .before .before .before .natural .ensures)) (object-missing _ _ _ (c .before .before .if1 .left) (c .before .range-of .ensures) (omega arith)))
-    (λ c. link-taken _ _ _ _ _ (rw (c .before .before .before .before .n .given .1) at (c .before .before .before .before .before .before .natural .ensures)) (object-found _ _ _ (c .before .range-of .ensures) (omega arith))))
+    (λ c. link-none _ _ _ _ _ (rw (c .before .before .before .before .n .given .1) at (c .before .before .before .before .before .before .natural .ensures)) (object-missing _ _ _ (c .before .before .if1 .left) (c .before .range-by .ensures) (omega arith)))
+    (λ c. link-taken _ _ _ _ _ (rw (c .before .before .before .before .n .given .1) at (c .before .before .before .before .before .before .natural .ensures)) (object-found _ _ _ (c .before .range-by .ensures) (omega arith))))
