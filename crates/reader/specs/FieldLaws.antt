@@ -21,6 +21,11 @@ use Rattle.reader.specs.Fields.{going, oldsOf, oldsGo, newsGo, fieldsGo,
 use Rattle.reader.specs.RulesHeld.{count-held}
 use Rattle.reader.specs.OldSteps.{olds-none, olds-known}
 use Rattle.reader.specs.FieldSteps.{olds-keep, fields-are}
+use Rattle.reader.specs.Ruled.{number-judged}
+use Rattle.reader.specs.FieldNumbers.{count-got}
+use Rattle.reader.specs.OldLaws.{olds-skip}
+use Rattle.reader.specs.NewLaws.{NewsGoing, news-begin, news-done}
+use Rattle.reader.specs.KnownHeads.{OneByte}
 
 -- ── how many fields are known ──
 
@@ -76,3 +81,16 @@ module _ {f l : List ℕ} (h : Holds f l) (named : ℕ → Bool) (t added end : 
             inside = λ lo. news .inside (went .inside (was-got counted is₁ .inside lo));
             still-open = news .still-open;
           }
+
+-- ── no object is added, and no field is given ──
+
+pub no-fields :
+    {f l : List ℕ} → Holds f l → {t : ℕ} → Open (said f l) t 0 → {added at : ℕ} → added ≡ 0 → OneByte f at 0 → (named : ℕ → Bool) (end : ℕ)
+    → Went f l t (length (fldsOf l)) at (Got end (record { at = at + 1 })) (fieldsGo named t added (going f l end) f at)
+no-fields {f} {l} h {t} o {added} {at} none byte named end =
+    let objects = total (of? t) size (logOf l) in
+    let counted : Read (number (fieldCountRules (view f l) 0)) (2 ^ 64) f at (Got 0 (record { at = at + 1 })) =
+    number-judged (byte .read) (fieldCountRules (view f l) 0) refl (count-got (view f l) 0 refl (omega (arith, h .ok .flds-count, h .ok .flds-fit)) (omega arith)) (omega arith) in
+    let olds : Went f l t (length (fldsOf l)) (at + 1) (Got end (record { at = at + 1 })) (oldsGo added (oldsOf added (view f l) t) (going f l end) f (at + 1)) = olds-skip h o none end in
+    let begun : NewsGoing f l l named t objects end (at + 1) 0 0 end (at + 1) = news-begin h (olds .still-open) (omega (arith, h .ok .flds-fit)) named objects end (at + 1) in
+    fields-got h named t added end refl (none-known l t none f) counted refl olds refl (news-done begun (omega arith))

@@ -9,11 +9,13 @@ ghost use Rattle.reader.specs.Kinds.{named?};
 ghost use Rattle.reader.specs.Fields.{going};
 ghost use Rattle.reader.specs.Entries.{entryGo, entriesGo, frontGo};
 ghost use Rattle.reader.specs.EntryLaws.{Passed};
+use super::fields::all_fields;
 use super::fields::fields;
 use super::heads::Topped;
 use super::heads::enter_head;
 use super::heads::refused_top;
 use super::kinds::Named;
+use super::known::adds_nothing;
 use super::known::known_head;
 use super::strings::read_strings;
 use numbers::Cursor;
@@ -46,7 +48,10 @@ pub fn entry(file: &[u8], c: Cursor, work: &mut [u32], end: u64, named: Named) -
         return entry_anew(file, c, work, end, named);
     }
     let last = range_at(work, ranges(work) - 1);
-    fields(file, Cursor { at }, work, last.typ, last.count, end, named)
+    if adds_nothing(file, at, last.count) {
+        return Number::Got(end, Cursor { at: at + 1 });
+    }
+    all_fields(file, Cursor { at }, work, last.typ, last.count, end, named)
 }
 
 // So many entries. The first chunk of a block begins where its data region does.

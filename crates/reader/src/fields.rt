@@ -19,6 +19,7 @@ use super::kinds::KindRead;
 use super::kinds::Named;
 use super::kinds::read_kind;
 use super::kinds::refused_kind;
+use super::known::adds_nothing;
 use super::ruled::no_restrictions;
 use numbers::Cursor;
 use numbers::Number;
@@ -309,7 +310,7 @@ pub fn known_fields(work: &[u32], t: u32, added: u32) -> u32
 
 // All fields of an entry of type t, whose range is the last of the log and adds so many objects: the known ones, and then
 // new ones.
-pub fn fields(
+pub fn all_fields(
     file: &[u8],
     c: Cursor,
     work: &mut [u32],
@@ -334,4 +335,25 @@ pub fn fields(
     };
     let count = n - (known as u64);
     new_fields(file, c2, work, t, objects, last, named, count)
+}
+
+// The same. An entry that adds nothing, as a type has it in many pairs, is told by one byte.
+pub fn fields(
+    file: &[u8],
+    c: Cursor,
+    work: &mut [u32],
+    t: u32,
+    added: u32,
+    end: u64,
+    named: Named,
+) -> Number
+    requires { ⌜ Holds (now file) (now work) ⌝ }
+    requires { ⌜ Open (said (now file) (now work)) t 0 ⌝ }
+    ensures { λ r. ⌜ Went (now (file .entry)) (now (work .exit)) t (length (fldsOf (now (work .exit)))) (c .at) r (fieldsGo (named? named) t added (going (now (file .entry)) (now (work .entry)) end) (now (file .entry)) (c .at)) ⌝ }
+{
+    let at = c.at;
+    if adds_nothing(file, at, added) {
+        return Number::Got(end, Cursor { at: at + 1 });
+    }
+    all_fields(file, c, work, t, added, end, named)
 }

@@ -144,6 +144,16 @@ fn count_byte(file: &[u8], at: usize, work: &[u32], up: u32, start: u32) -> u64
     n
 }
 
+// Whether an entry that adds so many objects has nothing more to say: it adds none, and no field is given.
+pub fn adds_nothing(file: &[u8], at: usize, added: u32) -> bool
+    ensures { λ r. ⌜ (r ≡ true → (added ≡ 0) × OneByte (now (file .entry)) at 0) ⌝ }
+{
+    if added != 0 {
+        return false;
+    }
+    one_byte(file, at) == 0
+}
+
 // Enters the range of a known type's head in the table.
 fn enter_known(names: &[u8], work: &mut [u32], top: Top)
     requires { ⌜ Holds (now names) (now work) ⌝ }
