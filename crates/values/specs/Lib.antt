@@ -4,6 +4,7 @@ pub mod Overs
 pub mod Listed
 pub mod Annotations
 pub mod Items
+pub mod Ups
 pub mod Held
 pub mod RangeLaws
 pub mod Chunks

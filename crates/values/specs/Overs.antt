@@ -3,7 +3,7 @@ use mathlib.Core.Path.{_≡_, sym, _∙_}
 use mathlib.Core.List.{List}
 use Prim.Native.Nat.{ℕ, zero, suc, _+_, _-_, _*_, _≤_, _<_}
 use native.Mathlib.Omega.{arith}
-use Rattle.paper.specs.Reader.{Out, got, no, andThen, repeat}
+use Rattle.paper.specs.Reader.{Reader, Out, got, no, andThen, repeat}
 use Rattle.paper.specs.Numbers.{v64}
 use Rattle.numbers.specs.Begun.{Ended}
 use Rattle.numbers.specs.Words.{Over, here, past, over-then, Ran}
@@ -63,7 +63,7 @@ running-over {f} {m} {from} {rest} {at} R (past {k} {e = e} one others) h =
 
 -- what reads those that are left reads the whole
 pub running-rest :
-    {f : List ℕ} {m from rest at : ℕ} {n : Number} → Running v64 f m from rest at → Passed (repeat rest v64) f at n → Passed (repeat m v64) f from n
+    {r : Reader ℕ} {f : List ℕ} {m from rest at : ℕ} {n : Number} → Running r f m from rest at → Passed (repeat rest r) f at n → Passed (repeat m r) f from n
 running-rest R P = record { says = P .says ∙ sym (R .says); inside = λ h. P .inside (R .inside h) }
 
 -- ── one by one, where all of m are there: `rest` are left ──

@@ -15,6 +15,7 @@ use crate::references::guided_references;
 use crate::runs::bools;
 use crate::runs::fixed_widths;
 use crate::runs::string_numbers;
+use crate::runs::strings_in_turn;
 use crate::runs::v64s;
 use numbers::Cursor;
 use numbers::Number;
@@ -181,7 +182,7 @@ fn string_lists(part: &[u8], n: u64, strings: u64) -> Number
         let Number::Got(m, begin) = length else {
             return length;
         };
-        let a = string_numbers(part, begin, m, strings);
+        let a = strings_in_turn(part, begin, m, strings);
         let Number::Got(_, next) = a else {
             return a;
         };

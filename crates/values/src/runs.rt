@@ -13,11 +13,13 @@ ghost use Rattle.values.specs.Pass.{Passed};
 ghost use Rattle.values.specs.Items.{linked, atMost};
 ghost use Rattle.values.specs.Held.{Bools};
 ghost use Rattle.values.specs.Overs.{Looks, RanTo};
+ghost use Rattle.values.specs.Ups.{Up, Surely};
 use numbers::Cursor;
 use numbers::Number;
 use numbers::Refusal;
 use numbers::Run;
 use numbers::Step;
+use numbers::Taken;
 use numbers::refused_step;
 
 // Whether all bytes from `at` up to `end` are 00 or FF. There is no way out of the loop before its end, so that the compiler looks at many
@@ -220,8 +222,71 @@ pub fn number_up_to(part: &[u8], c: Cursor, most: u64) -> Number
     Number::Got(n, next)
 }
 
-// m numbers of strings.
+fn larger(a: u64, b: u64) -> u64
+    ensures { λ r. ⌜ (a ≤ r) × (b ≤ r) ⌝ }
+{
+    if a < b {
+        return b;
+    }
+    a
+}
+
+// n numbers that are there: the largest of them, and the cursor behind them.
+fn numbers_there(part: &[u8], c: Cursor, n: u64) -> Taken
+    requires { ⌜ c .at + 9 * n ≤ length (now part) ⌝ }
+    ensures { λ r. ⌜ Up (now (part .entry)) (r .number) n (c .at) (r .next .at) ⌝ }
+{
+    let mut here = c;
+    let mut largest: u64 = 0;
+    let mut left = n;
+    while 0 < left {
+        let a = here.take_v64(part);
+        largest = larger(largest, a.number);
+        here = a.next;
+        left -= 1;
+    }
+    Taken {
+        number: largest,
+        next: here,
+    }
+}
+
+// How many of `rest` numbers are surely there: a v64 has nine bytes at most.
+fn surely(part: &[u8], at: usize, rest: u64) -> u64
+    ensures { λ r. ⌜ Surely (length (now (part .entry))) at rest r ⌝ }
+{
+    if part.len() < at {
+        return 0;
+    }
+    let room = ((part.len() - at) / 9) as u64;
+    if room < rest {
+        return room;
+    }
+    rest
+}
+
+// m numbers of strings. Of those that are surely there only the largest is held against the bound, and they are looked at one by one where it
+// is past it.
 pub fn string_numbers(part: &[u8], c: Cursor, m: u64, strings: u64) -> Number
+    ensures { λ r. ⌜ Passed (repeat m (linked (atMost strings))) (now (part .entry)) (c .at) r ⌝ }
+{
+    let mut here = c;
+    let mut rest = m;
+    let mut n = surely(part, here.at, rest);
+    while 0 < n {
+        let a = numbers_there(part, here, n);
+        if strings < a.number {
+            return strings_in_turn(part, here, rest, strings);
+        }
+        here = a.next;
+        rest -= n;
+        n = surely(part, here.at, rest);
+    }
+    strings_in_turn(part, here, rest, strings)
+}
+
+// The same, number by number, up to the first that is refused.
+pub fn strings_in_turn(part: &[u8], c: Cursor, m: u64, strings: u64) -> Number
     ensures { λ r. ⌜ Passed (repeat m (linked (atMost strings))) (now (part .entry)) (c .at) r ⌝ }
 {
     let mut here = c;
