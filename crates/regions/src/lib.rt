@@ -61,7 +61,7 @@ fn guided_bytes(
     requires { ⌜ Kinds (kind .kind) (kind .a) (kind .e) × (kind .kind ≡ 20 → ⊥) × (length (now first) ≡ length (now last)) ⌝ }
     ensures { λ r. ⌜ RangedTaken n kind strings (now (first .entry)) (now (last .entry)) (now (text .entry)) (p .at) (now (out .entry)) at (now (out .exit)) r ⌝ }
 {
-    let mut guide = [0u32; 257];
+    let mut guide = [0u32; 65];
     make_guide(last, &mut guide);
     chunk_text(
         text,

@@ -1,5 +1,5 @@
 // A guide to the ranges of a type, for values that are many: which range to look at first. The numbers of the objects are
-// divided into 256 parts, and for each it has the first range that ends there or behind. A 257th number says how many bits of
+// divided into 64 parts, and for each it has the first range that ends there or behind. A 65th number says how many bits of
 // an object's number are left out in that of its part. Nothing is built on a guide: a range is looked at before it is trusted.
 ghost use mathlib.Core.Path.{_≡_};
 ghost use Prim.Native.Nat.{_<_, _≤_};
@@ -9,10 +9,10 @@ ghost use lib.ListN.{length};
 pub fn bits_of(guide: &[u32]) -> u32
     ensures { λ r. ⌜ r < 64 ⌝ }
 {
-    if guide.len() != 257 {
+    if guide.len() != 65 {
         return 0;
     }
-    guide[256] % 64
+    guide[64] % 64
 }
 
 fn place(i: u32) -> usize {
@@ -37,7 +37,7 @@ fn bits_out(object: u32) -> u32
     let mut bits: u32 = 0;
     let mut rest = object;
     while bits < 24 {
-        if rest < 256 {
+        if rest < 64 {
             return bits;
         }
         rest /= 2;
@@ -49,11 +49,11 @@ fn bits_out(object: u32) -> u32
 // The part in which an object lies where so many bits are left out. The last has all that are behind.
 fn part_of(object: u32, bits: u32) -> usize
     requires { ⌜ bits < 32 ⌝ }
-    ensures { λ r. ⌜ r < 256 ⌝ }
+    ensures { λ r. ⌜ r < 64 ⌝ }
 {
     let part = object >> bits;
-    if 255 < part {
-        return 255;
+    if 63 < part {
+        return 63;
     }
     part as usize
 }
@@ -72,8 +72,8 @@ fn mark(guide: &mut [u32], from: usize, to: usize, i: u32)
 
 // The parts, one range after the other, where so many bits are left out.
 fn mark_all(last: &[u32], bits: u32, guide: &mut [u32])
-    requires { ⌜ (bits < 32) × (length (now guide) ≡ 257) ⌝ }
-    ensures { λ _. ⌜ length (now (guide .exit)) ≡ 257 ⌝ }
+    requires { ⌜ (bits < 32) × (length (now guide) ≡ 65) ⌝ }
+    ensures { λ _. ⌜ length (now (guide .exit)) ≡ 65 ⌝ }
 {
     let mut from: usize = 0;
     let mut i: usize = 0;
@@ -87,14 +87,14 @@ fn mark_all(last: &[u32], bits: u32, guide: &mut [u32])
 
 // The guide to ranges that end with these objects.
 pub fn make_guide(last: &[u32], guide: &mut [u32])
-    requires { ⌜ length (now guide) ≡ 257 ⌝ }
-    ensures { λ _. ⌜ length (now (guide .exit)) ≡ 257 ⌝ }
+    requires { ⌜ length (now guide) ≡ 65 ⌝ }
+    ensures { λ _. ⌜ length (now (guide .exit)) ≡ 65 ⌝ }
 {
     let n = last.len();
     if n == 0 {
         return;
     }
     let bits = bits_out(last[n - 1]);
-    guide[256] = bits;
+    guide[64] = bits;
     mark_all(last, bits, guide);
 }

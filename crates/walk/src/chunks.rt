@@ -49,7 +49,7 @@ fn guided_values(
     requires { ⌜ Kinds (kind .kind) (kind .a) (kind .e) × (4 < kind .kind) × (kind .kind ≡ 20 → ⊥) × (length (now first) ≡ length (now last)) ⌝ }
     ensures { λ r. ⌜ Ranged n (kind .kind) (kind .a) (kind .e) strings (now (first .entry)) (now (last .entry)) (now (part .entry)) r ⌝ }
 {
-    let mut guide = [0u32; 257];
+    let mut guide = [0u32; 65];
     make_guide(last, &mut guide);
     chunk_values(
         part,

@@ -7,7 +7,7 @@ use Rattle.values.proofs.guides.mark_all.Statement.{statement}
 use Rattle.values.proofs.guides.mark_all.Tie as tie
 
 abbrev Inv-loop : tie.InvT-loop
-Inv-loop last bits guide₀ from₀ i₀ guide from i = length guide ≡ 257
+Inv-loop last bits guide₀ from₀ i₀ guide from i = length guide ≡ 65
 
 abbrev μ-loop : tie.MeasureT-loop
 μ-loop last bits guide₀ from₀ i₀ guide from i = length last - i
