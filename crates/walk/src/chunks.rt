@@ -115,7 +115,7 @@ fn object_value(part: &[u8], c: Cursor, t: u32, work: &[u32]) -> Number
     })
 }
 
-// n numbers of objects of type t. They are few, and so each is asked for by itself.
+// n numbers of objects of type t, each asked for by itself.
 fn object_values(part: &[u8], n: u32, t: u32, work: &[u32]) -> Number
     requires { ⌜ Ok (now work) × (t < 32) ⌝ }
     ensures { λ r. ⌜ Passed (repeat n (linked (someObject (firsts t (logOf (now (work .entry)))) (lasts t (logOf (now (work .entry))))))) (now (part .entry)) 0 r ⌝ }
@@ -145,13 +145,13 @@ fn gathered_values(part: &[u8], n: u32, kind: FieldRow, work: &[u32]) -> Number
     ranged_values(part, n, kind, strings(work) as u64, &first[..k], &last[..k])
 }
 
-// The same, for any number of values. A few single references are no reason to gather ranges.
+// The same, for any number of values. One reference is no reason to gather ranges; of several each could cost a walk of its own.
 fn linked_values(part: &[u8], n: u32, kind: FieldRow, work: &[u32]) -> Number
     requires { ⌜ Ok (now work) × Low 0 (logOf (now work)) ⌝ }
     requires { ⌜ Kinds (kind .kind) (kind .a) (kind .e) × (4 < kind .kind) × (kind .kind ≡ 20 → ⊥) × (32 ≤ kind .e) ⌝ }
     ensures { λ r. ⌜ ((file : List ℕ) → Holds file (now (work .entry)) → Valued n (kind .kind) (kind .a) (kind .e) (view file (now (work .entry))) (now (part .entry)) r) ⌝ }
 {
-    if n <= 4 {
+    if n <= 1 {
         if 32 <= kind.kind {
             if kind.e < 64 {
                 let t = kind.e - 32;
