@@ -22,7 +22,7 @@ use Rattle.laws.specs.Hexed.{hexed, Spelt, each-back, closed-hexed, spelt-front
 use Rattle.table.specs.View.{view, said, Said, duesOf, chunksOf}
 use Rattle.table.specs.Counts.{nextBlock, Next}
 use Rattle.walk.specs.Region.{sizes}
-use Rattle.walk.specs.Blocks.{closes, front-block}
+use Rattle.walk.specs.Blocks.{bounded-by, closes, front-block}
 use Rattle.laws.specs.Pools.{Pooled, closed-pooled}
 use Rattle.lookups.specs.Low.{Low}
 use Rattle.walk.specs.PairLaws.{Steady}
@@ -78,7 +78,7 @@ module _ {t l : List ℕ} {at : ℕ} {s : State} (S : Spelt s) {m from to : ℕ}
   ds = dues (withStrings s ss) es
 
   pub region-ready : RegionReady t l₁
-  region-ready = record { holds = F .holds; sound = F .sound; low = F .low; pooled = F .pooled; listed = F .listed }
+  region-ready = record { holds = F .holds; sound = F .sound; bounded = bounded-by (F .sound) (F .low); pooled = F .pooled; listed = F .listed }
 
   dues-what : whatDue l₁ ≡ ds
   dues-what = ap (map (λ (d : Due × ℕ). d .0)) (F .due) ∙ what-unsized ds

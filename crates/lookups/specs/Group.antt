@@ -1,7 +1,7 @@
 -- The ranges of the types that a map's kinds name, gathered one type after the other. Assumes nothing.
 use mathlib.Core.Path.{_≡_, refl, sym, ap, _∙_}
-use mathlib.Core.Bool.{Bool, true, false, _&&_, _||_}
-use mathlib.Core.List.{List, [], _∷_, _++_}
+use mathlib.Core.Bool.{Bool, true, false, _||_}
+use mathlib.Core.List.{List, [], _∷_}
 use Prim.Native.Nat.{ℕ, zero, suc, _+_, _-_, _*_, _%_, _≤_, _<_}
 use native.Mathlib.Numerals.{add-one}
 use native.Mathlib.Omega.{arith}
@@ -10,10 +10,10 @@ use native.Mathlib.Decide.{decLe}
 use native.Nat.{ℕᴺ-discrete}
 use lib.Dec.{leb, ltb, eqb}
 use lib.ListN.{length, getD, take, drop, set, length-set}
-use lib.Seq.{take-take, drop-nil, take-nil, getD-set-same, getD-set-other}
+use lib.Seq.{getD-set-same, getD-set-other}
 use borrow.Author.Tests.{le-leb, lt-leb, lt-ltb, le-ltb, eq-eqb, ne-eqb}
 use Rattle.paper.specs.Reader.{if_then_else_}
-use Rattle.paper.specs.Lists.{any, total}
+use Rattle.paper.specs.Lists.{any}
 use Rattle.paper.specs.Ledger.{Range, of?, holds?}
 use Rattle.table.specs.Segs.{cells, seg}
 use Rattle.table.specs.RowLaws.{length-tab, getD-tab}
@@ -22,43 +22,7 @@ use Rattle.table.specs.Answers.{noRange}
 use Rattle.table.specs.Loops.{any-here, any-on, any-end}
 use Rattle.values.specs.Items.{inRanges}
 use Rattle.values.specs.Spans.{there?, fromOf, toOf, ranges, Grouped}
-use Rattle.lookups.specs.Gather.{between, countOf, GatheredFrom}
-
--- a part that lies before k, where nothing before k has changed
-drop-front : (a b : ℕ) (l : List ℕ) → drop a (take b l) ≡ take (b - a) (drop a l)
-drop-front zero b l = let all : b - 0 ≡ b = omega arith in rw all
-drop-front (suc a) zero l = let none : 0 - suc a ≡ 0 = omega arith in rw none (drop-nil (suc a))
-drop-front (suc a) (suc b) [] = sym (take-nil (suc b - suc a))
-drop-front (suc a) (suc b) (x ∷ l) = let less : suc b - suc a ≡ b - a = omega arith in rw less (drop-front a b l)
-
-between-kept : (a b k : ℕ) (l l₀ : List ℕ) → b ≤ k → take k l ≡ take k l₀ → between a b l ≡ between a b l₀
-between-kept a b k l l₀ h same =
-    let front : take b l ≡ take b l₀ = sym (take-take b k l h) ∙ ap (take b) same ∙ take-take b k l₀ h in
-    sym (drop-front a b l) ∙ ap (drop a) front ∙ drop-front a b l₀
-
--- how many ranges are of type t or of one behind it
-unfoldable pub countFrom : ℕ → List Range → ℕ
-countFrom t log = total (λ (r : Range). leb t (r .type)) (λ r. 1) log
-
-count-first : (t : ℕ) (log : List Range) → countFrom t log ≡ countOf t log + countFrom (t + 1) log
-unfolding countOf countFrom total of? if_then_else_
-count-first t [] = refl
-count-first t (r ∷ log) = go (count-first t log) (decLe t (r .type)) (ℕᴺ-discrete (r .type) t)
-  where
-    go :
-        total (λ (r : Range). leb t (r .type)) (λ r. 1) log ≡ total (of? t) (λ r. 1) log + total (λ (r : Range). leb (t + 1) (r .type)) (λ r. 1) log
-        → Dec (t ≤ r .type) → Dec (r .type ≡ t)
-        → (if leb t (r .type) then 1 + total (λ (r : Range). leb t (r .type)) (λ r. 1) log else total (λ (r : Range). leb t (r .type)) (λ r. 1) log)
-        ≡ (if eqb (r .type) t then 1 + total (of? t) (λ r. 1) log else total (of? t) (λ r. 1) log) + (if leb (t + 1) (r .type) then 1 + total (λ (r : Range). leb (t + 1) (r .type)) (λ r. 1) log else total (λ (r : Range). leb (t + 1) (r .type)) (λ r. 1) log)
-    go ih (yes a) (yes b) = rw (le-leb t (r .type) a, eq-eqb (r .type) t b, lt-leb (t + 1) (r .type) (omega arith)) (omega arith)
-    go ih (yes a) (no b) = rw (le-leb t (r .type) a, ne-eqb (r .type) t b, le-leb (t + 1) (r .type) (omega arith)) (omega arith)
-    go ih (no a) (yes b) = absurd (a (omega arith))
-    go ih (no a) (no b) = let lt = lt-of-not-le a in rw (lt-leb t (r .type) lt, ne-eqb (r .type) t b, lt-leb (t + 1) (r .type) (omega arith)) ih
-
-count-all : (log : List Range) → countFrom 0 log ≤ length log
-unfolding countFrom total if_then_else_
-count-all [] = omega arith
-count-all (r ∷ log) = rw (le-leb 0 (r .type) (omega arith)) (omega (arith, count-all log))
+use Rattle.lookups.specs.Gather.{between, between-kept, GatheredTo}
 
 -- ── the kinds of a map ──
 
@@ -114,53 +78,106 @@ none-asked (j ∷ kinds) k h high = go (λ less. none-asked kinds k less high) (
         let low = lt-of-not-le d in
         rw (ne-eqb k j (λ e. omega arith)) (others (rw (lt-leb 32 j low) at h))
 
--- ── the loop over the types ──
+-- how many of the first t types they name
+unfoldable pub namedBelow : List ℕ → ℕ → ℕ
+namedBelow kinds zero = 0
+namedBelow kinds (suc t) = (if asked? kinds (t + 32) then 1 else 0) + namedBelow kinds t
+
+pub named-here : (kinds : List ℕ) (t : ℕ) → namedBelow kinds (t + 1) ≡ (if asked? kinds (t + 32) then 1 else 0) + namedBelow kinds t
+unfolding namedBelow
+named-here kinds t = rw add-one refl
+
+-- a kind names at most one of them
+sameBelow : ℕ → ℕ → ℕ
+sameBelow k zero = 0
+sameBelow k (suc t) = (if eqb (t + 32) k then 1 else 0) + sameBelow k t
+
+same-none : (k t : ℕ) → t + 32 ≤ k → sameBelow k t ≡ 0
+unfolding sameBelow if_then_else_
+same-none k zero le = refl
+same-none k (suc t) le = rw (ne-eqb (t + 32) k (λ e. omega arith)) (omega (arith, same-none k t (omega arith)))
+
+same-once : (k t : ℕ) → sameBelow k t ≤ 1
+unfolding sameBelow if_then_else_
+same-once k zero = omega arith
+same-once k (suc t) = go (same-once k t) (ℕᴺ-discrete (t + 32) k)
+  where
+    go : sameBelow k t ≤ 1 → Dec (t + 32 ≡ k) → (if eqb (t + 32) k then 1 else 0) + sameBelow k t ≤ 1
+    go h (yes e) = rw (eq-eqb (t + 32) k e) (omega (arith, same-none k t (omega arith)))
+    go h (no e) = rw (ne-eqb (t + 32) k e) (omega (arith, h))
+
+named-more : (k : ℕ) (kinds : List ℕ) (t : ℕ) → namedBelow (k ∷ kinds) t ≤ sameBelow k t + namedBelow kinds t
+unfolding namedBelow sameBelow asked? any if_then_else_
+named-more k kinds zero = omega arith
+named-more k kinds (suc t) = go (eqb (t + 32) k) (any (eqb (t + 32)) kinds) (named-more k kinds t)
+  where
+    go :
+        (a b : Bool) → namedBelow (k ∷ kinds) t ≤ sameBelow k t + namedBelow kinds t
+        → (if a || b then 1 else 0) + namedBelow (k ∷ kinds) t ≤ (if a then 1 else 0) + sameBelow k t + ((if b then 1 else 0) + namedBelow kinds t)
+    go true true h = omega arith
+    go true false h = omega arith
+    go false true h = omega arith
+    go false false h = omega arith
+
+named-none : (t : ℕ) → namedBelow [] t ≡ 0
+unfolding namedBelow asked? any if_then_else_
+named-none zero = refl
+named-none (suc t) = omega (arith, named-none t)
+
+-- so they name no more types than they are
+pub named-few : (kinds : List ℕ) (t : ℕ) → namedBelow kinds t ≤ length kinds
+named-few [] t = omega (arith, named-none t)
+named-few (k ∷ kinds) t = omega (arith, named-more k kinds t, same-once k t, named-few kinds t)
+
+-- ── the loop over the types, from the last to the first ──
 
 -- the ranges of type t, if they are asked for
-pub record GatheredAsked (asked : Bool) (t : ℕ) (log : List Range) (from : ℕ) (first₀ last₀ first last : List ℕ) (k : ℕ) : Type 0 where
-  pub first-long : length first ≡ 1024
-  pub last-long : length last ≡ 1024
-  pub first-kept : take from first ≡ take from first₀
-  pub last-kept : take from last ≡ take from last₀
-  pub begins : from ≤ k
-  pub count : k ≤ from + countOf t log
-  pub objects-are : asked ≡ true → (n : ℕ) → inRanges (between from k first) (between from k last) n ≡ any (holds? t n) log
+pub record GatheredAsked (asked : Bool) (t : ℕ) (log : List Range) (to : ℕ) (first₀ last₀ first last : List ℕ) (k : ℕ) : Type 0 where
+  pub first-long : length first ≡ length first₀
+  pub last-long : length last ≡ length last₀
+  pub first-kept : drop to first ≡ drop to first₀
+  pub last-kept : drop to last ≡ drop to last₀
+  pub below : k ≤ to
+  pub count : to ≤ k + 32 * (if asked then 1 else 0)
+  pub objects-are : asked ≡ true → (n : ℕ) → inRanges (between k to first) (between k to last) n ≡ any (holds? t n) log
 
-pub are-asked : {asked : Bool} {t : ℕ} {log : List Range} {from : ℕ} {first₀ last₀ first last : List ℕ} {k : ℕ} → GatheredFrom t log from first₀ last₀ first last k → GatheredAsked asked t log from first₀ last₀ first last k
-are-asked F =
+pub are-asked : {asked : Bool} {t : ℕ} {log : List Range} {to : ℕ} {first₀ last₀ first last : List ℕ} {k : ℕ} → asked ≡ true → GatheredTo t log to first₀ last₀ first last k → GatheredAsked asked t log to first₀ last₀ first last k
+unfolding if_then_else_
+are-asked is F =
     record {
       first-long = F .first-long;
       last-long = F .last-long;
       first-kept = F .first-kept;
       last-kept = F .last-kept;
-      begins = F .begins;
-      count = F .count;
+      below = F .below;
+      count = rw is (omega (arith, F .count));
       objects-are = λ asks n. F .objects-are n;
     }
 
-pub not-asked : {asked : Bool} (t : ℕ) (log : List Range) (from : ℕ) (first last : List ℕ) → length first ≡ 1024 → length last ≡ 1024 → asked ≡ false → GatheredAsked asked t log from first last first last from
-not-asked t log from first last p q is =
+pub not-asked : {asked : Bool} (t : ℕ) (log : List Range) (to : ℕ) (first last : List ℕ) → asked ≡ false → GatheredAsked asked t log to first last first last to
+not-asked t log to first last is =
     record {
-      first-long = p;
-      last-long = q;
+      first-long = refl;
+      last-long = refl;
       first-kept = refl;
       last-kept = refl;
-      begins = omega arith;
+      below = omega arith;
       count = omega arith;
       objects-are = λ asks. absurd (bool-apart (sym asks ∙ is));
     }
 
--- the ranges of the first t types stand before k
+-- the ranges of the types from t on stand from k on
 pub record Grouping (kinds : List ℕ) (log : List Range) (starts first last : List ℕ) (t k : ℕ) : Type 0 where
   pub starts-long : length starts ≡ 33
-  pub first-long : length first ≡ 1024
-  pub last-long : length last ≡ 1024
+  pub first-long : length first ≡ 256
+  pub last-long : length last ≡ 256
   pub few : t ≤ 32
-  pub ends : getD starts t 0 ≡ k
-  pub room : k + countFrom t log ≤ 1024
-  pub rising : (v : ℕ) → v < t → getD starts v 0 ≤ getD starts (v + 1) 0
-  pub within : (v : ℕ) → v ≤ t → getD starts v 0 ≤ k
-  pub objects-are : (v : ℕ) → v < t → asked? kinds (v + 32) ≡ true → (n : ℕ) → inRanges (between (getD starts v 0) (getD starts (v + 1) 0) first) (between (getD starts v 0) (getD starts (v + 1) 0) last) n ≡ any (holds? v n) log
+  pub begins : getD starts t 0 ≡ k
+  pub room : 32 * namedBelow kinds t ≤ k
+  pub below : k ≤ 256
+  pub rising : (v : ℕ) → t ≤ v → v < 32 → getD starts v 0 ≤ getD starts (v + 1) 0
+  pub within : (v : ℕ) → t ≤ v → v ≤ 32 → (k ≤ getD starts v 0) × (getD starts v 0 ≤ 256)
+  pub objects-are : (v : ℕ) → t ≤ v → v < 32 → asked? kinds (v + 32) ≡ true → (n : ℕ) → inRanges (between (getD starts v 0) (getD starts (v + 1) 0) first) (between (getD starts v 0) (getD starts (v + 1) 0) last) n ≡ any (holds? v n) log
 
 -- the objects that each of these kinds refers to are those of its ranges
 pub record AllGrouped (kinds l starts first last : List ℕ) : Type 0 where
@@ -175,64 +192,73 @@ none-grouped kinds l h =
       objects-are = λ k asks high. absurd (bool-apart (sym asks ∙ none-asked kinds k h high));
     }
 
-pub group-start : (kinds : List ℕ) (log : List Range) (starts first last : List ℕ) → length starts ≡ 33 → length first ≡ 1024 → length last ≡ 1024 → length log ≤ 1024 → Grouping kinds log (set starts 0 0) first last 0 0
+pub group-start : (kinds : List ℕ) (log : List Range) (starts first last : List ℕ) → length starts ≡ 33 → length first ≡ 256 → length last ≡ 256 → length kinds ≤ 8 → Grouping kinds log (set starts 32 256) first last 32 256
 group-start kinds log starts first last a b c few =
+    let last-start : getD (set starts 32 256) 32 0 ≡ 256 = getD-set-same starts 32 256 0 (omega arith) in
     record {
-      starts-long = length-set starts 0 0 ∙ a;
+      starts-long = length-set starts 32 256 ∙ a;
       first-long = b;
       last-long = c;
       few = omega arith;
-      ends = getD-set-same starts 0 0 0 (omega arith);
-      room = omega (arith, count-all log);
-      rising = λ v lt. absurd (omega arith);
-      within = λ v le. let is : v ≡ 0 = omega arith in rw (is, getD-set-same starts 0 0 0 (omega arith)) (omega arith);
-      objects-are = λ v lt. absurd (omega arith);
+      begins = last-start;
+      room = omega (arith, named-few kinds 32);
+      below = omega arith;
+      rising = λ v le lt. absurd (omega arith);
+      within = λ v le lt. let is : v ≡ 32 = omega arith in rw (is, last-start) (omega arith, omega arith);
+      objects-are = λ v le lt. absurd (omega arith);
     }
 
-module _ {kinds : List ℕ} {log : List Range} {starts first last : List ℕ} {t k : ℕ} (G : Grouping kinds log starts first last t k) where
-  -- there is room for the next
-  pub group-room : k + countOf t log ≤ 1024
-  group-room = omega (arith, G .room, count-first t log)
+module _ {kinds : List ℕ} {log : List Range} {starts first last : List ℕ} (t : ℕ) {u k : ℕ} (G₀ : Grouping kinds log starts first last u k) (next : u ≡ t + 1) where
+  abbrev G : Grouping kinds log starts first last (t + 1) k
+  G = rw next at G₀
 
-  pub group-on : t < 32 → {first₁ last₁ : List ℕ} {k₁ : ℕ} → GatheredAsked (asked? kinds (t + 32)) t log k first last first₁ last₁ k₁ → Grouping kinds log (set starts (t + 1) k₁) first₁ last₁ (t + 1) k₁
-  group-on lt {first₁} {last₁} {k₁} F =
-      let more : k ≤ k₁ = F .begins in
+  -- there is room for the next, if it is asked for
+  pub group-room : asked? kinds (t + 32) ≡ true → 32 ≤ k
+  unfolding if_then_else_
+  group-room is =
+      let here : namedBelow kinds (t + 1) ≡ 1 + namedBelow kinds t = named-here kinds t ∙ rw is refl in
+      omega (arith, G .room, here)
+
+  pub group-on : {first₁ last₁ : List ℕ} {k₁ : ℕ} → GatheredAsked (asked? kinds (t + 32)) t log k first last first₁ last₁ k₁ → Grouping kinds log (set starts t k₁) first₁ last₁ t k₁
+  group-on {first₁} {last₁} {k₁} F =
+      let less : k₁ ≤ k = F .below in
       record {
-        starts-long = length-set starts (t + 1) k₁ ∙ G .starts-long;
-        first-long = F .first-long;
-        last-long = F .last-long;
-        few = omega arith;
-        ends = last-start;
-        room = omega (arith, F .count, G .room, count-first t log);
-        rising = λ v le. rises v (ℕᴺ-discrete v t) le more;
-        within = λ v le. inside v (ℕᴺ-discrete v (t + 1)) le more;
-        objects-are = λ v le asks n. stand v (ℕᴺ-discrete v t) le asks n;
+        starts-long = length-set starts t k₁ ∙ G .starts-long;
+        first-long = F .first-long ∙ G .first-long;
+        last-long = F .last-long ∙ G .last-long;
+        few = omega (arith, G .few);
+        begins = first-start;
+        room = omega (arith, F .count, G .room, named-here kinds t);
+        below = omega (arith, G .below);
+        rising = λ v le lt. rises v (ℕᴺ-discrete v t) le lt less;
+        within = λ v le lt. inside v (ℕᴺ-discrete v t) le lt less;
+        objects-are = λ v le lt asks n. stand v (ℕᴺ-discrete v t) le lt asks n;
       }
     where
-      last-start : getD (set starts (t + 1) k₁) (t + 1) 0 ≡ k₁
-      last-start = getD-set-same starts (t + 1) k₁ 0 (omega (arith, G .starts-long))
+      first-start : getD (set starts t k₁) t 0 ≡ k₁
+      first-start = getD-set-same starts t k₁ 0 (omega (arith, G .starts-long, G .few))
 
-      other : (v : ℕ) → v ≤ t → getD (set starts (t + 1) k₁) v 0 ≡ getD starts v 0
-      other v le = getD-set-other starts (t + 1) v k₁ 0 (λ e. omega arith)
+      other : (v : ℕ) → t < v → getD (set starts t k₁) v 0 ≡ getD starts v 0
+      other v lt = getD-set-other starts t v k₁ 0 (λ e. omega arith)
 
-      rises : (v : ℕ) → Dec (v ≡ t) → v < t + 1 → k ≤ k₁ → getD (set starts (t + 1) k₁) v 0 ≤ getD (set starts (t + 1) k₁) (v + 1) 0
-      rises v (yes e) le more = rw (e, other t (omega arith), last-start, G .ends) more
-      rises v (no e) le more = rw (other v (omega arith), other (v + 1) (omega arith)) (G .rising v (omega arith))
+      rises : (v : ℕ) → Dec (v ≡ t) → t ≤ v → v < 32 → k₁ ≤ k → getD (set starts t k₁) v 0 ≤ getD (set starts t k₁) (v + 1) 0
+      rises v (yes e) le lt less = rw (e, first-start, other (t + 1) (omega arith), G .begins) less
+      rises v (no e) le lt less = rw (other v (omega arith), other (v + 1) (omega arith)) (G .rising v (omega arith) lt)
 
-      inside : (v : ℕ) → Dec (v ≡ t + 1) → v ≤ t + 1 → k ≤ k₁ → getD (set starts (t + 1) k₁) v 0 ≤ k₁
-      inside v (yes e) le more = rw (e, last-start) (omega arith)
-      inside v (no e) le more = rw (other v (omega arith)) (omega (arith, G .within v (omega arith)))
+      inside : (v : ℕ) → Dec (v ≡ t) → t ≤ v → v ≤ 32 → k₁ ≤ k → (k₁ ≤ getD (set starts t k₁) v 0) × (getD (set starts t k₁) v 0 ≤ 256)
+      inside v (yes e) le lt less = rw (e, first-start) (omega arith, omega (arith, G .below))
+      inside v (no e) le lt less = let (a, b) = G .within v (omega arith) lt in rw (other v (omega arith)) (omega arith, b)
 
       stand :
-          (v : ℕ) → Dec (v ≡ t) → v < t + 1 → asked? kinds (v + 32) ≡ true → (n : ℕ)
-          → inRanges (between (getD (set starts (t + 1) k₁) v 0) (getD (set starts (t + 1) k₁) (v + 1) 0) first₁) (between (getD (set starts (t + 1) k₁) v 0) (getD (set starts (t + 1) k₁) (v + 1) 0) last₁) n ≡ any (holds? v n) log
-      stand v (yes e) le asks n = rw (e, other t (omega arith), last-start, G .ends) (F .objects-are (rw e at asks) n)
-      stand v (no e) le asks n =
+          (v : ℕ) → Dec (v ≡ t) → t ≤ v → v < 32 → asked? kinds (v + 32) ≡ true → (n : ℕ)
+          → inRanges (between (getD (set starts t k₁) v 0) (getD (set starts t k₁) (v + 1) 0) first₁) (between (getD (set starts t k₁) v 0) (getD (set starts t k₁) (v + 1) 0) last₁) n ≡ any (holds? v n) log
+      stand v (yes e) le lt asks n = rw (e, first-start, other (t + 1) (omega arith), G .begins) (F .objects-are (rw e at asks) n)
+      stand v (no e) le lt asks n =
           let a = getD starts v 0 in
           let b = getD starts (v + 1) 0 in
-          let before : b ≤ k = G .within (v + 1) (omega arith) in
-          rw (other v (omega arith), other (v + 1) (omega arith), between-kept a b k first₁ first before (F .first-kept), between-kept a b k last₁ last before (F .last-kept))
-          (G .objects-are v (omega arith) asks n)
+          let behind : k ≤ a = G .within v (omega arith) (omega arith) .0 in
+          rw (other v (omega arith), other (v + 1) (omega arith), between-kept a b k first₁ first behind (F .first-kept), between-kept a b k last₁ last behind (F .last-kept))
+          (G .objects-are v (omega arith) lt asks n)
 
 -- ── what is known of the objects that kind k refers to ──
 
@@ -250,7 +276,10 @@ none-far l t n h =
     rw row (rw (ne-eqb (getD (cells l (4272 + 3 * i) 3) 0 0 % 32) t (λ e. omega (arith, mod-lt (getD (cells l (4272 + 3 * i) 3) 0 0) {m = 32} (omega arith))))))
 
 -- all types were met
-module _ (l : List ℕ) {kinds starts first last : List ℕ} {t j : ℕ} (G : Grouping kinds (logOf l) starts first last t j) (done : 32 ≤ t) where
+module _ (l : List ℕ) {kinds starts first last : List ℕ} {t j : ℕ} (G₀ : Grouping kinds (logOf l) starts first last t j) (done : t ≡ 0) where
+  abbrev all-met : Grouping kinds (logOf l) starts first last 0 j
+  all-met = rw done at G₀
+
   ranges-are : (k : ℕ) → asked? kinds k ≡ true → 32 ≤ k → (n : ℕ) → inRanges (ranges starts k first) (ranges starts k last) n ≡ any (holds? (k - 32) n) (logOf l)
   unfolding ranges fromOf toOf there? if_then_else_ inRanges
   ranges-are k asks h n = rw (le-leb 32 k h) (go (decLe (k - 31 + 1) 33))
@@ -261,23 +290,22 @@ module _ (l : List ℕ) {kinds starts first last : List ℕ} {t j : ℕ} (G : Gr
           (take ((if ltb (k - 31) (length starts) then getD starts (k - 31) 0 else 0) - (if ltb (k - 31) (length starts) then getD starts (k - 31 - 1) 0 else 0)) (drop (if ltb (k - 31) (length starts) then getD starts (k - 31 - 1) 0 else 0) last)) n
           ≡ any (holds? (k - 32) n) (logOf l)
       go (yes d) =
-          let near : ltb (k - 31) (length starts) ≡ true = lt-ltb (k - 31) (length starts) (omega (arith, G .starts-long)) in
+          let near : ltb (k - 31) (length starts) ≡ true = lt-ltb (k - 31) (length starts) (omega (arith, all-met .starts-long)) in
           let from : k - 31 - 1 ≡ k - 32 = omega arith in
           let to : k - 31 ≡ k - 32 + 1 = omega arith in
           let same : k ≡ k - 32 + 32 = omega arith in
-          rw near (rw (from, to) (G .objects-are (k - 32) (omega arith) (ap (asked? kinds) (sym same) ∙ asks) n))
+          rw near (rw (from, to) (all-met .objects-are (k - 32) (omega arith) (omega arith) (ap (asked? kinds) (sym same) ∙ asks) n))
       go (no d) =
-          let far : ltb (k - 31) (length starts) ≡ false = le-ltb (k - 31) (length starts) (omega (arith, G .starts-long, lt-of-not-le d)) in
+          let far : ltb (k - 31) (length starts) ≡ false = le-ltb (k - 31) (length starts) (omega (arith, all-met .starts-long, lt-of-not-le d)) in
           rw far (sym (none-far l (k - 32) n (omega (arith, lt-of-not-le d))))
 
   pub group-done : AllGrouped kinds l starts first last
   group-done =
-      let all : t ≡ 32 = omega (arith, G .few) in
       record {
         grouped = record {
-          lengths = G .first-long ∙ sym (G .last-long);
-          rising = λ v lt. G .rising v (omega (arith, G .starts-long));
-          inside = λ v lt. omega (arith, G .within v (omega (arith, G .starts-long)), G .room, G .first-long);
+          lengths = all-met .first-long ∙ sym (all-met .last-long);
+          rising = λ v lt. all-met .rising v (omega arith) (omega (arith, all-met .starts-long));
+          inside = λ v lt. let (_, b) = all-met .within v (omega arith) (omega (arith, all-met .starts-long)) in rw (all-met .first-long) b;
         };
         objects-are = ranges-are;
       }

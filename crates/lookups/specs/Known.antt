@@ -5,7 +5,7 @@ use mathlib.Core.List.{List, [], _∷_}
 use Prim.Native.Nat.{ℕ, _-_, _≤_, _<_}
 use native.Mathlib.Omega.{arith}
 use lib.Dec.{eqb}
-use lib.ListN.{length, take}
+use lib.ListN.{length}
 use borrow.Author.Tests.{eq-eqb}
 use Rattle.paper.specs.Lists.{any, all}
 use Rattle.paper.specs.Ledger.{State, object?, holds?}
@@ -15,7 +15,7 @@ use Rattle.values.specs.Annotations.{placed?}
 use Rattle.values.specs.Items.{inRanges, Known}
 use Rattle.values.specs.Spans.{ranges}
 use Rattle.values.specs.MapChunks.{AllKnown}
-use Rattle.lookups.specs.Gather.{Gathered}
+use Rattle.lookups.specs.Gather.{between, GatheredTo}
 use Rattle.lookups.specs.Group.{asked?, asked-first, asked-later, AllGrouped}
 use Rattle.lookups.specs.Named.{unnamed?}
 use Rattle.lookups.specs.Objects.{firsts, lasts, objects-lie}
@@ -42,7 +42,7 @@ module _ {f l : List ℕ} (H : Holds f l) {strings : ℕ} (count : strings ≡ s
       record { strings-are = strings-known; pools-are = λ is. absurd (single is); objects-are = λ high. absurd (omega arith) }
 
   -- the elements refer to objects of the type that k names
-  pub linked-known : {k j : ℕ} {pools first last : List ℕ} → 32 ≤ k → Gathered (k - 32) (logOf l) first last j → Known (view f l) k strings pools (take j first) (take j last)
+  pub linked-known : {k to j : ℕ} {pools first₀ last₀ first last : List ℕ} → 32 ≤ k → GatheredTo (k - 32) (logOf l) to first₀ last₀ first last j → Known (view f l) k strings pools (between j to first) (between j to last)
   unfolding object?
   linked-known high G =
       record { strings-are = strings-known; pools-are = λ is. absurd (omega arith); objects-are = λ h. G .objects-are }

@@ -1,30 +1,39 @@
--- How large the numbers of a range become: no more than a cell holds. Assumes nothing.
-use mathlib.Core.Path.{_≡_, refl, sym, ap, _∙_, subst}
-use mathlib.Core.Bool.{Bool, true, false, _&&_, _||_}
+-- How large the numbers of a range become, which is no more than a cell holds, and how many ranges a type has, which is no more
+-- than there are blocks. Assumes nothing.
+use mathlib.Core.Path.{_≡_, refl}
+use mathlib.Core.Bool.{Bool, true, false}
 use mathlib.Core.List.{List, [], _∷_, _++_}
 use mathlib.Core.Option.{Option, none, some}
 use Prim.Native.Nat.{ℕ, zero, suc, _+_, _-_, _*_, _≤_, _<_}
 use native.Mathlib.Omega.{arith}
-use native.Mathlib.Nat.{mul-add, mul-one, mul-zero}
-use lib.Dec.{leb, ltb, eqb}
+use lib.Dec.{leb}
 use lib.ListN.{length, getD}
 use borrow.Author.Tests.{leb-true}
-use Rattle.paper.specs.Reader.{if_then_else_, Out, got}
+use Rattle.paper.specs.Reader.{if_then_else_, got}
 use Rattle.paper.specs.Bounds.{mostObjects}
-use Rattle.paper.specs.Lists.{total, fold, or, given?}
-use Rattle.paper.specs.Ledger.{Range, New, Head, Entry, Pair, Ledger, State, nothing, poolBefore, size, before?}
-use Rattle.paper.specs.Rules.{smallRules, countRules, fewObjects?, superOf, baseOf, newRange, afterHead, afterNew, afterEntry, withStrings, closed, afterFront, afterPair, anyType}
-use Rattle.paper.specs.Keeps.{every, hold?, inTurn, number?, only?, head?, entry?}
+use Rattle.paper.specs.Lists.{total, fold, or}
+use Rattle.paper.specs.Ledger.{Range, New, Entry, State, nothing, poolBefore, size, of?, before?}
+use Rattle.paper.specs.Rules.{smallRules, countRules, fewObjects?, superOf, baseOf, newRange, afterHead, afterNew, afterEntry, withStrings, afterFront, anyType}
+use Rattle.paper.specs.Keeps.{inTurn, only?, head?, entry?}
 use Rattle.paper.specs.File.{Front, front}
 use Rattle.laws.specs.Bools.{and-split, every-split, number-split}
 use Rattle.laws.specs.Bounds.{turn-keeps}
 use Rattle.laws.specs.Says.{Bytes}
-use Rattle.laws.specs.Exact.{FrontSays, front-says}
+use Rattle.laws.specs.Exact.{front-says}
 
 -- the j-th range begins behind at most j others
 abbrev pub Low : ℕ → List Range → Type 0
 Low j [] = Unit {0}
 Low j (r ∷ rs) = (r .count ≤ 65535) × (r .first ≤ 65535 * (j + 1)) × Low (suc j) rs
+
+-- how many ranges of a log are of type t
+unfoldable pub countOf : ℕ → List Range → ℕ
+countOf t log = total (of? t) (λ r. 1) log
+
+-- what the log is where values are read
+pub record Bounded (log : List Range) : Type 0 where
+  pub low : Low 0 log
+  pub few : (t : ℕ) → countOf t log ≤ 32
 
 low-snoc : (j : ℕ) (rs : List Range) (r : Range) → Low j rs → r .count ≤ 65535 → r .first ≤ 65535 * (j + length rs + 1) → Low j (rs ++ r ∷ [])
 low-snoc j [] r h c f = (c, omega arith, tt)

@@ -1,6 +1,7 @@
 // Whether an object is one of a type, asked of the log itself: for values that are few, this is less than to gather the ranges of the
 // type. In most files every pair has the same entries, so that the ranges of a type stand equally far apart in the log. The range to
-// look at is guessed by that, and where it is not the one, the whole log is asked.
+// look at is guessed by that; where it is not the one, the ranges are looked at one after the other, by the links between them; and
+// where that finds none, the whole log is asked, since nothing is known of a link.
 ghost use mathlib.Core.Path.{_≡_};
 ghost use mathlib.Core.Bool.{true};
 ghost use Prim.Native.Nat.{_<_, _≤_};
@@ -12,6 +13,7 @@ ghost use Rattle.table.specs.Answers.{rangeIn};
 use table::ranges::holds;
 use table::ranges::tally_at;
 use table::rows::RangeRow;
+use table::rows::link_at;
 use table::rows::range_at;
 use table::rows::ranges;
 
@@ -38,18 +40,14 @@ fn lies_at(work: &[u32], i: u32, t: u32, n: u64) -> bool
     lies(range_at(work, i), t, n)
 }
 
-// How far before place i the range of type t before it stands, or 0 where there is none.
-fn distance(work: &[u32], t: u32, i: u32) -> u32
+// How far before place i the range before it of the same type stands, by the link: 0 where that leads to none.
+fn distance(work: &[u32], i: u32) -> u32
     requires { ⌜ Ok (now work) × (i < getD (now work) 3 0) ⌝ }
     ensures { λ r. ⌜ r ≤ i ⌝ }
 {
-    let mut j = i;
-    while 0 < j {
-        j -= 1;
-        let r = range_at(work, j);
-        if r.typ == t {
-            return i - j;
-        }
+    let j = link_at(work, i);
+    if j < i {
+        return i - j;
     }
     0
 }
@@ -103,7 +101,7 @@ fn found(work: &[u32], i: u32, t: u32, n: u64) -> bool
     if lies_at(work, i, t, n) {
         return true;
     }
-    let step = distance(work, t, i);
+    let step = distance(work, i);
     if step == 0 {
         return false;
     }
@@ -114,6 +112,22 @@ fn found(work: &[u32], i: u32, t: u32, n: u64) -> bool
     lies_at(work, place - step, t, n)
 }
 
+// Whether it is found by the links, from the i-th range back to one after the other, that object n is one of type t.
+fn followed(work: &[u32], i: u32, t: u32, n: u64) -> bool
+    requires { ⌜ Ok (now work) × (i < getD (now work) 3 0) ⌝ }
+    ensures { λ r. ⌜ (r ≡ true → any (holds? t n) (logOf (now (work .entry))) ≡ true) ⌝ }
+{
+    let mut place = i;
+    while !lies_at(work, place, t, n) {
+        let before = link_at(work, place);
+        if place <= before {
+            return false;
+        }
+        place = before;
+    }
+    true
+}
+
 // Whether object n is one of type t.
 pub fn is_object(work: &[u32], t: u32, n: u64) -> bool
     requires { ⌜ Ok (now work) × (t < 32) ⌝ }
@@ -122,6 +136,9 @@ pub fn is_object(work: &[u32], t: u32, n: u64) -> bool
     let i = tally_at(work, t, 4);
     if i < ranges(work) {
         if found(work, i, t, n) {
+            return true;
+        }
+        if followed(work, i, t, n) {
             return true;
         }
     }

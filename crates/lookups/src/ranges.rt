@@ -1,80 +1,128 @@
 // The ranges of a type, and of those that a map's kinds name, in two lists: the i-th range begins behind object first[i] and ends
 // with object last[i].
 ghost use mathlib.Core.Path.{_≡_};
+ghost use mathlib.Core.Bool.{true};
 ghost use Prim.Native.Nat.{_+_, _<_, _≤_};
 ghost use lib.ListN.{length};
 ghost use Rattle.table.specs.View.{logOf, Ok};
-ghost use Rattle.lookups.specs.Low.{Low};
-ghost use Rattle.lookups.specs.Gather.{countOf, RangeAdded, GatheredFrom, Gathered};
+ghost use Rattle.lookups.specs.Low.{Bounded};
+ghost use Rattle.lookups.specs.Gather.{RangePut, GatheredTo, MaybeGathered};
 ghost use Rattle.lookups.specs.Group.{refers?, asked?, GatheredAsked, AllGrouped};
 use table::ranges::Pool;
+use table::ranges::objects_of;
 use table::ranges::pool_of;
+use table::ranges::tally_at;
+use table::rows::link_at;
 use table::rows::range_at;
 use table::rows::ranges;
 
-// The range of the objects behind number `begin` up to number `end`, behind those that stand from a place on up to k: the place
-// behind the last. Where it goes on from the one before it, that one is made longer. The ranges of a base type all do, block after
-// block, and so make one.
-fn add_range(
+// The range of the objects behind number `begin` up to number `end`, before those that stand from k up to a place: where it
+// stands. Where it leads on to the first of them, that one is made longer: the ranges of a type that has all objects of its base
+// type do, block after block, and so make one.
+fn put_range(
     first: &mut [u32],
     last: &mut [u32],
-    from: usize,
     k: usize,
+    to: usize,
     begin: u32,
     end: u32,
 ) -> usize
-    requires { ⌜ (length (now first) ≡ 1024) × (length (now last) ≡ 1024) × (from ≤ k) × (k < 1024) × (begin ≤ end) ⌝ }
-    ensures { λ r. ⌜ RangeAdded from k begin end (now (first .entry)) (now (last .entry)) (now (first .exit)) (now (last .exit)) r ⌝ }
+    requires { ⌜ (to ≤ length (now first)) × (to ≤ length (now last)) × (k ≤ to) × (0 < k) × (begin ≤ end) ⌝ }
+    ensures { λ r. ⌜ RangePut k to begin end (now (first .entry)) (now (last .entry)) (now (first .exit)) (now (last .exit)) r ⌝ }
 {
-    if from < k {
-        let j = k - 1;
-        if last[j] == begin {
-            if first[j] <= begin {
-                last[j] = end;
+    if k < to {
+        if first[k] == end {
+            if end <= last[k] {
+                first[k] = begin;
                 return k;
             }
         }
     }
-    first[k] = begin;
-    last[k] = end;
-    k + 1
+    first[k - 1] = begin;
+    last[k - 1] = end;
+    k - 1
 }
 
-// The ranges of type t, which come from a place on in the log's order: the place behind them. What stands before is left alone.
-fn gather_from(work: &[u32], t: u64, first: &mut [u32], last: &mut [u32], from: usize) -> usize
-    requires { ⌜ Ok (now work) × Low 0 (logOf (now work)) ⌝ }
-    requires { ⌜ (length (now first) ≡ 1024) × (length (now last) ≡ 1024) × (from + countOf t (logOf (now work)) ≤ 1024) ⌝ }
-    ensures { λ r. ⌜ GatheredFrom t (logOf (now (work .entry))) from (now (first .entry)) (now (last .entry)) (now (first .exit)) (now (last .exit)) r ⌝ }
+// What a walk by links has found: all ranges of a type, from a place on, or it does not know.
+enum Found {
+    All(usize),
+    Unknown,
+}
+
+// The ranges of type t, from the last to the first by the links between them, before a place. Nothing is known of a link, but where
+// the ranges that were met have as many objects as the type, none is missing.
+fn gather_linked(work: &[u32], t: u32, first: &mut [u32], last: &mut [u32], to: usize) -> Found
+    requires { ⌜ Ok (now work) × Bounded (logOf (now work)) × (t < 32) ⌝ }
+    requires { ⌜ (to ≤ length (now first)) × (to ≤ length (now last)) × (32 ≤ to) ⌝ }
+    ensures { λ r. ⌜ MaybeGathered t (logOf (now (work .entry))) to (now (first .entry)) (now (last .entry)) (now (first .exit)) (now (last .exit)) r ⌝ }
 {
-    let n = ranges(work);
-    let mut k = from;
-    let mut i = 0;
-    while i < n {
+    let objects = objects_of(work, t);
+    let mut k = to;
+    let mut sum: u32 = 0;
+    let mut met = ranges(work);
+    let mut i = tally_at(work, t, 4);
+    while sum < objects {
+        if met <= i {
+            return Found::Unknown;
+        }
+        let r = range_at(work, i);
+        if r.typ != t {
+            return Found::Unknown;
+        }
+        k = put_range(first, last, k, to, r.first, r.first + r.count);
+        sum += r.count;
+        met = i;
+        i = link_at(work, i);
+    }
+    Found::All(k)
+}
+
+// The same for any type, by a walk through the whole log.
+fn gather_each(work: &[u32], t: u64, first: &mut [u32], last: &mut [u32], to: usize) -> usize
+    requires { ⌜ Ok (now work) × Bounded (logOf (now work)) ⌝ }
+    requires { ⌜ (to ≤ length (now first)) × (to ≤ length (now last)) × (32 ≤ to) ⌝ }
+    ensures { λ r. ⌜ GatheredTo t (logOf (now (work .entry))) to (now (first .entry)) (now (last .entry)) (now (first .exit)) (now (last .exit)) r ⌝ }
+{
+    let mut k = to;
+    let mut i = ranges(work);
+    while 0 < i {
+        i -= 1;
         let r = range_at(work, i);
         if r.typ as u64 == t {
-            k = add_range(first, last, from, k, r.first, r.first + r.count);
+            k = put_range(first, last, k, to, r.first, r.first + r.count);
         }
-        i += 1;
     }
     k
 }
 
-// The ranges of type t at the front of both lists: how many there are. A type that is not declared has none, so t has no bound. A base
-// type has one, which is known without a walk through the log: references to it cost the same in every week.
-pub fn gather(work: &[u32], t: u64, first: &mut [u32], last: &mut [u32]) -> usize
-    requires { ⌜ Ok (now work) × Low 0 (logOf (now work)) ⌝ }
-    requires { ⌜ (length (now first) ≡ 1024) × (length (now last) ≡ 1024) ⌝ }
-    ensures { λ r. ⌜ Gathered t (logOf (now (work .entry))) (now (first .exit)) (now (last .exit)) r ⌝ }
+// The same. A base type has one range, which is known without a look at the log: references to it cost the same in every week.
+fn gather_known(work: &[u32], t: u32, first: &mut [u32], last: &mut [u32], to: usize) -> usize
+    requires { ⌜ Ok (now work) × Bounded (logOf (now work)) × (t < 32) ⌝ }
+    requires { ⌜ (to ≤ length (now first)) × (to ≤ length (now last)) × (32 ≤ to) ⌝ }
+    ensures { λ r. ⌜ GatheredTo t (logOf (now (work .entry))) to (now (first .entry)) (now (last .entry)) (now (first .exit)) (now (last .exit)) r ⌝ }
+{
+    let pool = pool_of(work, t);
+    if let Pool::Whole(n) = pool {
+        return put_range(first, last, to, to, 0, n);
+    }
+    let found = gather_linked(work, t, first, last, to);
+    if let Found::All(k) = found {
+        return k;
+    }
+    gather_each(work, t as u64, first, last, to)
+}
+
+// The ranges of type t, which has at most one in a block, before a place: where they begin. What stands from that place on is left
+// alone. A type that is not declared has none, so t has no bound.
+pub fn gather(work: &[u32], t: u64, first: &mut [u32], last: &mut [u32], to: usize) -> usize
+    requires { ⌜ Ok (now work) × Bounded (logOf (now work)) ⌝ }
+    requires { ⌜ (to ≤ length (now first)) × (to ≤ length (now last)) × (32 ≤ to) ⌝ }
+    ensures { λ r. ⌜ GatheredTo t (logOf (now (work .entry))) to (now (first .entry)) (now (last .entry)) (now (first .exit)) (now (last .exit)) r ⌝ }
 {
     if t < 32 {
-        let pool = pool_of(work, t as u32);
-        if let Pool::Whole(n) = pool {
-            first[0] = 0;
-            last[0] = n;
-            return 1;
-        }
+        return gather_known(work, t as u32, first, last, to);
     }
-    gather_from(work, t, first, last, 0)
+    gather_each(work, t, first, last, to)
 }
 
 // Whether one of a map's kinds names a type.
@@ -105,37 +153,37 @@ fn asked(kinds: &[u64], k: u64) -> bool
     false
 }
 
-// The ranges of type t, from a place on, if one of the kinds names it.
+// The ranges of type t, before a place, if one of the kinds names it.
 fn gather_asked(
     work: &[u32],
     kinds: &[u64],
     t: u64,
     first: &mut [u32],
     last: &mut [u32],
-    from: usize,
+    to: usize,
 ) -> usize
-    requires { ⌜ Ok (now work) × Low 0 (logOf (now work)) × (t < 32) ⌝ }
-    requires { ⌜ (length (now first) ≡ 1024) × (length (now last) ≡ 1024) × (from + countOf t (logOf (now work)) ≤ 1024) ⌝ }
-    ensures { λ r. ⌜ GatheredAsked (asked? (now (kinds .entry)) (t + 32)) t (logOf (now (work .entry))) from (now (first .entry)) (now (last .entry)) (now (first .exit)) (now (last .exit)) r ⌝ }
+    requires { ⌜ Ok (now work) × Bounded (logOf (now work)) ⌝ }
+    requires { ⌜ (to ≤ length (now first)) × (to ≤ length (now last)) × (asked? (now kinds) (t + 32) ≡ true → 32 ≤ to) × (t < 32) ⌝ }
+    ensures { λ r. ⌜ GatheredAsked (asked? (now (kinds .entry)) (t + 32)) t (logOf (now (work .entry))) to (now (first .entry)) (now (last .entry)) (now (first .exit)) (now (last .exit)) r ⌝ }
 {
     if !asked(kinds, t + 32) {
-        return from;
+        return to;
     }
-    gather_from(work, t, first, last, from)
+    gather(work, t, first, last, to)
 }
 
 // The ranges of all types that a map's kinds name, one type after the other: those of type t stand from starts[t] up to starts[t + 1].
 pub fn group(work: &[u32], kinds: &[u64], starts: &mut [u32], first: &mut [u32], last: &mut [u32])
-    requires { ⌜ Ok (now work) × Low 0 (logOf (now work)) ⌝ }
-    requires { ⌜ (length (now starts) ≡ 33) × (length (now first) ≡ 1024) × (length (now last) ≡ 1024) ⌝ }
+    requires { ⌜ Ok (now work) × Bounded (logOf (now work)) × (length (now kinds) ≤ 8) ⌝ }
+    requires { ⌜ (length (now starts) ≡ 33) × (length (now first) ≡ 256) × (length (now last) ≡ 256) ⌝ }
     ensures { λ r. ⌜ AllGrouped (now (kinds .entry)) (now (work .entry)) (now (starts .exit)) (now (first .exit)) (now (last .exit)) ⌝ }
 {
-    starts[0] = 0;
-    let mut k: usize = 0;
-    let mut t: usize = 0;
-    while t < 32 {
+    starts[32] = 256;
+    let mut k: usize = 256;
+    let mut t: usize = 32;
+    while 0 < t {
+        t -= 1;
         k = gather_asked(work, kinds, t as u64, first, last, k);
-        t += 1;
         starts[t] = k as u32;
     }
 }

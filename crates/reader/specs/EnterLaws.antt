@@ -12,7 +12,7 @@ use Rattle.paper.specs.Ledger.{State, Head, Range, Typ, typeNamed, typeIn, text
 use Rattle.paper.specs.Rules.{entered?, new?, typeOf, superOf, baseUnder, baseOf, newName, newType, newRange, afterHead}
 use Rattle.numbers.specs.declared.Cursor.{Cursor}
 use Rattle.numbers.specs.declared.Refusal.{Refusal}
-use Rattle.table.specs.View.{view, Said, said, maybe, typesOf, strsOf, namesOf, sumOf, Ok, Holds, Now, Memo, rangesIn}
+use Rattle.table.specs.View.{view, Said, said, maybe, typesOf, strsOf, namesOf, sumOf, tally, Ok, Holds, Now, Memo, rangesIn}
 use Rattle.table.specs.Adds.{addType, addRange}
 use Rattle.table.specs.Answers.{Stands, rangeIn, Small}
 use Rattle.table.specs.Packed.{rangeCells}
@@ -238,11 +238,11 @@ module _ {f l : List ℕ} (h : Holds f l) {t : Top} (placed : Placed (view f l) 
     range-is =
         rw (or-due (given? (maybe (t .above .up))) (t .start) (λ g. placed .none (no-up (t .above .up) g)), base-is, ← placed .name .typ) (sym isr)
 
-    pub entered : {l′ : List ℕ} → Pushed 3 4272 3 (rangeCells r) l₁ l′ → Entered f l l′ t
+    pub entered : {l′ : List ℕ} → Pushed 3 4272 3 (rangeCells r (tally l₁ (r .typ) 4)) l₁ l′ → Entered f l l′ t
     entered pushed =
         let room = range-fits in
         let first = typed .says (nameless k placed) in
-        let second = pushed-range (first .holds) r (room .1 .0) (room .1 .1) (pushed .push) in
+        let second = pushed-range (first .holds) r (tally l₁ (r .typ) 4) (room .1 .0) (room .1 .1) (pushed .push) in
         let now : said f _ ≡ addHead (said f l) (headOf t) =
         second .says ∙ ap (λ (g : Said). addRange g (rangeIn r)) (first .says)
         ∙ sym (head-added (said f l) (headOf t) ∙ rw (← placed .name .fresh, ← placed .up, base-is, range-is) refl) in

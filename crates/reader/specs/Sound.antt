@@ -1,5 +1,5 @@
 -- What holds of all that the table says while the entries of a block are read, and gives each push its room: a block has at
--- most one entry of a type, and at most one chunk of a field. Assumes nothing.
+-- most one entry of a type, so a type has no more ranges than there are blocks, and at most one chunk of a field. Assumes nothing.
 use mathlib.Core.Path.{_≡_, refl, sym, ap, _∙_, subst}
 use mathlib.Core.Bool.{Bool, true, false, _&&_, _||_}
 use mathlib.Core.List.{List, [], _∷_, _++_}
@@ -50,6 +50,7 @@ pub record Sound (g : Said) : Type 0 where
   pub known : Keys typeOfRange (length (g .state .typeNames)) (g .state .log)
   pub once : (t : ℕ) → total (entryOf? (g .state .block) t) one (g .state .log) ≤ 1
   pub room : length (g .state .log) ≤ 32 * g .state .block + total (here? (g .state .block)) one (g .state .log)
+  pub spread : (t : ℕ) → total (of? t) one (g .state .log) ≤ g .state .block + total (entryOf? (g .state .block) t) one (g .state .log)
   pub declared : Every (Declared (g .state)) (g .due)
   pub apart : (i : ℕ) → total (at? any-due fieldOfDue i) one (g .due) ≤ 1
   pub chunks : length (g .chunks) ≤ 128 * g .state .block
@@ -124,6 +125,11 @@ module _ {g g′ : Said} (k : Sound g) {r : Range} (h : Headed (g .state) (g′ 
   unfolding here?
   here-one = count-one (here? (g .state .block)) r [] (eq-eqb (r .block) (g .state .block) (h .mine)) ∙ rw (count-none (here? (g .state .block)))
 
+  -- of its type it is one more, and one more in this block
+  same-one : (t : ℕ) → total (of? t) one (r ∷ []) ≡ total (entryOf? (g .state .block) t) one (r ∷ [])
+  unfolding entryOf? here? total
+  same-one t = rw (eq-eqb (r .block) (g .state .block) (h .mine)) refl
+
   pub head-sound : Sound g′
   head-sound =
       record {
@@ -133,6 +139,7 @@ module _ {g g′ : Said} (k : Sound g) {r : Range} (h : Headed (g .state) (g′ 
         known = rw (h .log) (keys-snoc typeOfRange (length (g′ .state .typeNames)) (g .state .log) r (keys-weaker typeOfRange (length (g .state .typeNames)) (length (g′ .state .typeNames)) (g .state .log) (h .more) (k .known)) (h .known));
         once = λ t. rw (h .log, h .block) (once-after t);
         room = rw (h .log, h .block, total-snoc (here? (g .state .block)) one (g .state .log) r, length-append (g .state .log) (r ∷ [])) (omega (arith, k .room, here-one));
+        spread = λ t. rw (h .log, h .block, total-snoc (of? t) one (g .state .log) r, total-snoc (entryOf? (g .state .block) t) one (g .state .log) r) (omega (arith, k .spread t, same-one t));
         declared = rw due (every-map (Declared (g .state)) (Declared (g′ .state)) (still-declared h) (g .due) (k .declared));
         apart = λ i. rw due (k .apart i);
         chunks = rw (chunks, h .block) (k .chunks);
@@ -215,6 +222,7 @@ module _ {g g′ : Said} {t i : ℕ} (o : Open g t i) (j : ℕ) (le : i ≤ j) (
               known = rw state (k .known);
               once = λ u. rw state (k .once u);
               room = rw state (k .room);
+              spread = λ u. rw state (k .spread u);
               declared = rw (state, due) (every-snoc (Declared (g .state)) (g .due) d (k .declared) (record { below = rw is lt; entered = rw (is, own) (o .entered) }));
               apart = λ u. rw due (once-more any-due fieldOfDue (g .due) d u (k .apart u) none);
               chunks = rw (chunks, state) (k .chunks);
@@ -267,6 +275,7 @@ module _ {g g′ : Said} {t i : ℕ} (o : Open g t i) (room : length (g .state .
               known = rw (h .typeNames, h .log) (k .known);
               once = λ u. rw (h .log, h .block) (k .once u);
               room = rw (h .log, h .block) (k .room);
+              spread = λ u. rw (h .log, h .block) (k .spread u);
               declared = rw due (every-map (Declared s) (Declared (g′ .state)) (kept-declared h) (g .due) (k .declared));
               apart = λ u. rw due (k .apart u);
               chunks = rw (chunks, h .block) (k .chunks);

@@ -160,6 +160,7 @@ strings-sound {g} ps k =
       known = k .known;
       once = k .once;
       room = k .room;
+      spread = k .spread;
       declared = every-map (Declared (g .state)) (Declared (withStrings (g .state) ps)) (λ d x. record { below = x .below; entered = x .entered }) (g .due) (k .declared);
       apart = k .apart;
       chunks = k .chunks;

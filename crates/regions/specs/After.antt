@@ -19,7 +19,7 @@ use Rattle.lay.specs.Laid.{most}
 use Rattle.table.specs.View.{duesOf, view, said, Said}
 use Rattle.reader.specs.Counting.{one, at?}
 use Rattle.reader.specs.Sound.{Sound, Every, Declared, fieldOfDue, any-due}
-use Rattle.lookups.specs.Low.{Low}
+use Rattle.lookups.specs.Low.{Bounded}
 use Rattle.walk.specs.Listed.{Listed}
 use Rattle.walk.specs.Region.{sizes}
 use Rattle.regions.specs.Chunks.{put-count}
@@ -64,6 +64,7 @@ still-sound {g} {g′} k state due chunks =
       known = rw state (k .known);
       once = λ u. rw state (k .once u);
       room = rw state (k .room);
+      spread = λ u. rw state (k .spread u);
       declared = rw state (every-declared (g .state) (g′ .due) (g .due) due (k .declared));
       apart = λ u. rw (times-due u (g′ .due) (g .due) due) (k .apart u);
       chunks = rw (chunks, state) (k .chunks);
@@ -98,7 +99,7 @@ module _ {t l : List ℕ} {from e : ℕ} {l′ : List ℕ} (S : Sized t l from e
       record {
         holds = S .now .holds;
         sound = still-sound {g = said t l} {g′ = said t l′} (R .sound) same-view same-dues (ap (λ (g : Said). g .chunks) (S .now .says));
-        low = subst (λ (s : State). Low 0 (s .log)) (sym same-view) (R .low);
+        bounded = subst (λ (s : State). Bounded (s .log)) (sym same-view) (R .bounded);
         pooled = subst Pooled (sym same-view) (R .pooled);
         listed = subst (λ (s : State). Listed (s .fields)) (sym same-view) (R .listed);
       }

@@ -21,7 +21,7 @@ use Rattle.words.specs.declared.read.Place.{Place}
 use Rattle.words.specs.declared.read.Step.{Step}
 use Rattle.words.specs.declared.read.Step.the-variants as step
 use Rattle.reader.specs.Sound.{Sound, Every, Declared}
-use Rattle.lookups.specs.Low.{Low}
+use Rattle.lookups.specs.Low.{Bounded}
 use Rattle.lookups.specs.Named.{Noted}
 use Rattle.walk.specs.Listed.{Listed}
 use Rattle.texts.specs.Told.{Told, was-got, was-bad}
@@ -35,7 +35,7 @@ use Rattle.regions.specs.Sizes.{counted, sizedBy, sized-none, sized-at, 
 pub record RegionReady (t l : List ℕ) : Type 0 where
   pub holds : Holds t l
   pub sound : Sound (said t l)
-  pub low : Low 0 (logOf l)
+  pub bounded : Bounded (logOf l)
   pub pooled : Pooled (view t l)
   pub listed : Listed (fldsOf l)
 
@@ -52,7 +52,7 @@ every-at P (d ∷ ds) (suc i) h lt = every-at P ds i (h .1) (omega arith)
 -- what a turn asks, with a list that says which annotations keep the rule
 pub record DueReady (t l pools : List ℕ) (i : ℕ) : Type 0 where
   pub holds : Holds t l
-  pub low : Low 0 (logOf l)
+  pub bounded : Bounded (logOf l)
   pub noted : Noted pools (view t l)
   pub listed : Listed (fldsOf l)
   pub due : i < duesIn l
@@ -66,7 +66,7 @@ ready-at {t} {l} R N i lt =
     let ok = R .holds .ok in
     record {
       holds = R .holds;
-      low = R .low;
+      bounded = R .bounded;
       noted = N;
       listed = R .listed;
       due = lt;
@@ -198,7 +198,7 @@ module _ {t l₀ : List ℕ} {from : ℕ} (R : RegionReady t l₀) {l : List ℕ
         let first = ready-at R N i lt in
         record {
           holds = G .holds;
-          low = subst (λ (s : State). Low 0 (s .log)) (sym (G .state)) (R .low);
+          bounded = subst (λ (s : State). Bounded (s .log)) (sym (G .state)) (R .bounded);
           noted = subst (Noted pools) (sym (G .state)) N;
           listed = subst (λ (s : State). Listed (s .fields)) (sym (G .state)) (R .listed);
           due = omega (arith, own .dues-count, before .dues-count, dues-long);
@@ -256,7 +256,7 @@ module _ {t : List ℕ} (l : List ℕ) {l₁ : List ℕ} (N : Now t l₁ (said t
       record {
         holds = N .holds;
         sound = subst Sound (sym says) (R .sound);
-        low = subst (λ (g : Said). Low 0 (g .state .log)) (sym says) (R .low);
+        bounded = subst (λ (g : Said). Bounded (g .state .log)) (sym says) (R .bounded);
         pooled = subst (λ (g : Said). Pooled (g .state)) (sym says) (R .pooled);
         listed = subst (λ (g : Said). Listed (g .state .fields)) (sym says) (R .listed);
       }

@@ -13,7 +13,7 @@ ghost use Rattle.lay.specs.Laid.{most};
 ghost use Rattle.table.specs.View.{fldsOf, logOf, duesOf, view, Ok, Holds, fieldsIn};
 ghost use Rattle.table.specs.Answers.{dueIn};
 ghost use Rattle.values.specs.Chunks.{Kinds};
-ghost use Rattle.lookups.specs.Low.{Low};
+ghost use Rattle.lookups.specs.Low.{Bounded};
 ghost use Rattle.lookups.specs.Named.{Noted};
 ghost use Rattle.walk.specs.Listed.{Listed};
 ghost use Rattle.walk.specs.Region.{sizes};
@@ -125,21 +125,21 @@ fn linked_bytes(
     out: &mut [u8],
     at: usize,
 ) -> TextRead
-    requires { ⌜ Holds (now text) (now work) × Low 0 (logOf (now work)) ⌝ }
+    requires { ⌜ Holds (now text) (now work) × Bounded (logOf (now work)) ⌝ }
     requires { ⌜ Kinds (kind .kind) (kind .a) (kind .e) × (kind .kind ≡ 20 → ⊥) × (32 ≤ kind .e) ⌝ }
     ensures { λ r. ⌜ KindTaken n kind (now (work .entry)) (now (text .entry)) (p .at) (now (out .entry)) at (now (out .exit)) r ⌝ }
 {
-    let mut first = [0u32; Ledger::RANGES as usize];
-    let mut last = [0u32; Ledger::RANGES as usize];
-    let k = gather(work, kind.e - 32, &mut first, &mut last);
+    let mut first = [0u32; Ledger::PAIRS as usize];
+    let mut last = [0u32; Ledger::PAIRS as usize];
+    let k = gather(work, kind.e - 32, &mut first, &mut last, 32);
     ranged_bytes(
         text,
         p,
         n,
         kind,
         strings(work) as u64,
-        &first[..k],
-        &last[..k],
+        &first[k..],
+        &last[k..],
         out,
         at,
     )
@@ -185,13 +185,13 @@ fn grouped_bytes(
     out: &mut [u8],
     at: usize,
 ) -> TextRead
-    requires { ⌜ Holds (now text) (now work) × Low 0 (logOf (now work)) × PoolsSay (now kinds) (now pools) (view (now text) (now work)) ⌝ }
-    requires { ⌜ (1 ≤ length (now kinds)) × (all elementKind? (now kinds) ≡ true) ⌝ }
+    requires { ⌜ Holds (now text) (now work) × Bounded (logOf (now work)) × PoolsSay (now kinds) (now pools) (view (now text) (now work)) ⌝ }
+    requires { ⌜ (1 ≤ length (now kinds)) × (all elementKind? (now kinds) ≡ true) × (length (now kinds) ≤ 8) ⌝ }
     ensures { λ r. ⌜ MapsTold n (now (kinds .entry)) (now (work .entry)) (now (text .entry)) (p .at) (now (out .entry)) at (now (out .exit)) r ⌝ }
 {
     let mut starts = [0u32; Ledger::TYPES as usize + 1];
-    let mut first = [0u32; Ledger::RANGES as usize];
-    let mut last = [0u32; Ledger::RANGES as usize];
+    let mut first = [0u32; 8 * Ledger::PAIRS as usize];
+    let mut last = [0u32; 8 * Ledger::PAIRS as usize];
     group(work, kinds, &mut starts, &mut first, &mut last);
     maps_text(
         text,
@@ -219,8 +219,8 @@ fn mapped_bytes(
     out: &mut [u8],
     at: usize,
 ) -> TextRead
-    requires { ⌜ Holds (now text) (now work) × Low 0 (logOf (now work)) × PoolsSay (now kinds) (now pools) (view (now text) (now work)) ⌝ }
-    requires { ⌜ (1 ≤ length (now kinds)) × (all elementKind? (now kinds) ≡ true) ⌝ }
+    requires { ⌜ Holds (now text) (now work) × Bounded (logOf (now work)) × PoolsSay (now kinds) (now pools) (view (now text) (now work)) ⌝ }
+    requires { ⌜ (1 ≤ length (now kinds)) × (all elementKind? (now kinds) ≡ true) × (length (now kinds) ≤ 8) ⌝ }
     ensures { λ r. ⌜ MapsTold n (now (kinds .entry)) (now (work .entry)) (now (text .entry)) (p .at) (now (out .entry)) at (now (out .exit)) r ⌝ }
 {
     if refers(kinds) {
@@ -252,7 +252,7 @@ fn map_bytes(
     out: &mut [u8],
     at: usize,
 ) -> TextRead
-    requires { ⌜ Holds (now text) (now work) × Low 0 (logOf (now work)) × NotedKind (now pools) (kind .kind) (kind .a) (kind .e) (view (now text) (now work)) ⌝ }
+    requires { ⌜ Holds (now text) (now work) × Bounded (logOf (now work)) × NotedKind (now pools) (kind .kind) (kind .a) (kind .e) (view (now text) (now work)) ⌝ }
     requires { ⌜ Kinds (kind .kind) (kind .a) (kind .e) × (kind .kind ≡ 20) ⌝ }
     ensures { λ r. ⌜ KindTaken n kind (now (work .entry)) (now (text .entry)) (p .at) (now (out .entry)) at (now (out .exit)) r ⌝ }
 {
@@ -272,7 +272,7 @@ fn kind_bytes(
     out: &mut [u8],
     at: usize,
 ) -> TextRead
-    requires { ⌜ Holds (now text) (now work) × Low 0 (logOf (now work)) × NotedKind (now pools) (kind .kind) (kind .a) (kind .e) (view (now text) (now work)) ⌝ }
+    requires { ⌜ Holds (now text) (now work) × Bounded (logOf (now work)) × NotedKind (now pools) (kind .kind) (kind .a) (kind .e) (view (now text) (now work)) ⌝ }
     requires { ⌜ Kinds (kind .kind) (kind .a) (kind .e) ⌝ }
     ensures { λ r. ⌜ KindTaken n kind (now (work .entry)) (now (text .entry)) (p .at) (now (out .entry)) at (now (out .exit)) r ⌝ }
 {
@@ -312,7 +312,7 @@ fn chunk_bytes(
     out: &mut [u8],
     at: usize,
 ) -> TextRead
-    requires { ⌜ Holds (now text) (now work) × Low 0 (logOf (now work)) × Noted (now pools) (view (now text) (now work)) × Listed (fldsOf (now work)) ⌝ }
+    requires { ⌜ Holds (now text) (now work) × Bounded (logOf (now work)) × Noted (now pools) (view (now text) (now work)) × Listed (fldsOf (now work)) ⌝ }
     requires { ⌜ d .field < fieldsIn (now work) ⌝ }
     ensures { λ r. ⌜ Told (chunkText (view (now (text .entry)) (now (work .entry))) (dueIn d .0)) (putChunk (view (now (text .entry)) (now (work .entry))) (dueIn d .0)) (now (text .entry)) (p .at) (now (out .entry)) at (now (out .exit)) r ⌝ }
 {

@@ -45,7 +45,7 @@ noRange = record { type = 0; block = 0; start = 0; first = 0; count = 0 }
 -- what a range's packed row can hold
 pub record Small (r : RangeRow) : Type 0 where
   pub typ-fits : r .typ < 32
-  pub block-fits : r .block < 134217728
+  pub block-fits : r .block < 32768
   pub start-fits : r .start < 65536
   pub count-fits : r .count < 65536
 

@@ -416,12 +416,12 @@ module _ {r : RangeRow} {up n : ℕ} {l l′ : List ℕ} (R : Retold r up n l l�
       all-stored : getD (R .mid) 16304 0 ≡ getD l 16304 0 + share up (r .count)
       all-stored = ap (λ (t : List ℕ). getD t 16304 0) (R .mid-is) ∙ getD-set-same (sets l (16048 + 8 * r .typ + 1) news) 16304 (getD l 16304 0 + share up (r .count)) 0 (rw length-sets (omega arith))
 
-module _ (r : RangeRow) (up : ℕ) {l m l′ : List ℕ} (ok : Ok l) (room : getD l 3 0 < 1024) (small : Small r) (above : maybe up ≡ typeIn (typesOf l) (r .typ) .super) (is : m ≡ sets l (4272 + 3 * getD l 3 0) (rangeCells r)) (T : Tallied r up (getD l 3 0) (set m 3 (getD l 3 0 + 1)) l′) where
-  row-laid : Laid 3 4272 3 (rangeCells r) l (set m 3 (getD l 3 0 + 1))
+module _ (r : RangeRow) (up k : ℕ) {l m l′ : List ℕ} (ok : Ok l) (room : getD l 3 0 < 1024) (small : Small r) (above : maybe up ≡ typeIn (typesOf l) (r .typ) .super) (is : m ≡ sets l (4272 + 3 * getD l 3 0) (rangeCells r k)) (T : Tallied r up (getD l 3 0) (set m 3 (getD l 3 0 + 1)) l′) where
+  row-laid : Laid 3 4272 3 (rangeCells r k) l (set m 3 (getD l 3 0 + 1))
   unfolding starts width most
-  row-laid = laid-by 3 (rangeCells r) l m refl (omega arith) ok room is
+  row-laid = laid-by 3 (rangeCells r k) l m refl (omega arith) ok room is
 
-  range-laid : Laid 3 4272 3 (rangeCells r) l l′
+  range-laid : Laid 3 4272 3 (rangeCells r k) l l′
   range-laid = record { wide = refl; low = omega arith; head = omega arith; room = row-laid .room; full = row-laid .full; long = T .long ∙ row-laid .long; near = λ j lt n7. T .near j lt n7 ∙ row-laid .near j lt n7 }
 
   types-there : length (typesOf l) ≡ getD (set m 3 (getD l 3 0 + 1)) 1 0
@@ -432,13 +432,13 @@ module _ (r : RangeRow) (up : ℕ) {l m l′ : List ℕ} (ok : Ok l) (room : get
   range-telling on =
       let l₁ = set m 3 (getD l 3 0 + 1) in
       let R = T .retold on in
-      let same = tallies-same 3 (rangeCells r) l m refl (omega arith) ok room is in
-      let flag = flag-same 3 (rangeCells r) l m refl (omega arith) ok room is in
+      let same = tallies-same 3 (rangeCells r k) l m refl (omega arith) ok room is in
+      let flag = flag-same 3 (rangeCells r k) l m refl (omega arith) ok room is in
       let types-same : typesOf l₁ ≡ typesOf l = others {c = 3} row-laid ok (omega arith) room [] .types (omega arith) in
       let C : Counted (tally l₁) (tally l′) (typesOf l) (rangeIn r) = counted-of R (row-laid .long ∙ ok .long) (small .typ-fits) (typesOf l) above types-there in
       let was : Told (tally l₁) (typesOf l) (logOf l) = subst (λ (x : ℕ → ℕ → ℕ). Told x (typesOf l) (logOf l)) (sym same) (ok .telling (sym flag ∙ R .regular .told)) in
       subst (λ (x : List Typ × List Range). Told (tally l′) (x .0) (x .1))
-      (λ i. (sym (others {c = 3} range-laid ok (omega arith) room [] .types (omega arith)) i, sym (push-mine range-laid rangeOf ∙ ap (λ (d : Range). logOf l ++ d ∷ []) (range-cells r small)) i))
+      (λ i. (sym (others {c = 3} range-laid ok (omega arith) room [] .types (omega arith)) i, sym (push-mine range-laid rangeOf ∙ ap (λ (d : Range). logOf l ++ d ∷ []) (range-cells r k small)) i))
       (told-range was (rangeIn r) C)
 
   -- those of the fields are not touched
@@ -446,13 +446,13 @@ module _ (r : RangeRow) (up : ℕ) {l m l′ : List ℕ} (ok : Ok l) (room : get
   unfolding starts width most fldsOf
   range-owning on =
       let R = T .retold on in
-      let flag = flag-same 3 (rangeCells r) l m refl (omega arith) ok room is in
-      let same = tally-same 3 (rangeCells r) l m refl (omega arith) ok room is in
+      let flag = flag-same 3 (rangeCells r k) l m refl (omega arith) ok room is in
+      let same = tally-same 3 (rangeCells r k) l m refl (omega arith) ok room is in
       let kept = fields-kept R (row-laid .long ∙ ok .long) (small .typ-fits) (typesOf l) above types-there in
       subst (λ (x : List Field). Owned (tally l′) x) (sym (others {c = 3} range-laid ok (omega arith) room [] .fields (omega arith)))
       (owned-cong (λ t lt. (kept t lt .0 ∙ same (16048 + 8 * t + 0) (omega arith), kept t lt .1 ∙ same (16048 + 8 * t + 7) (omega arith)))
       (ok .owning (sym flag ∙ R .regular .told)))
 
-  pub pushed-range-by : Pushed 3 4272 3 (rangeCells r) l l′
+  pub pushed-range-by : Pushed 3 4272 3 (rangeCells r k) l l′
   unfolding starts width most
   pushed-range-by = pushed-laid 3 range-laid (omega arith) ok room range-telling range-owning

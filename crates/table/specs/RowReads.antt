@@ -69,7 +69,7 @@ module _ (l : List ℕ) (i : ℕ) where
   unfolding fldsOf cells
   field-row lt p q = rw (p, q) (simp towards-suc (sym (seg-at fldOf 2 2224 16 l i noField (omega (arith, count-flds l)))))
 
-  pub range-row : i < getD l 3 0 → record { type = getD l (4272 + 3 * i) 0 % 32; block = getD l (4272 + 3 * i) 0 / 32; start = getD l (4272 + 3 * i + 1) 0 % 65536; first = getD l (4272 + 3 * i + 2) 0; count = getD l (4272 + 3 * i + 1) 0 / 65536 } ≡ getD (logOf l) i noRange
+  pub range-row : i < getD l 3 0 → record { type = getD l (4272 + 3 * i) 0 % 32; block = getD l (4272 + 3 * i) 0 / 32 % 32768; start = getD l (4272 + 3 * i + 1) 0 % 65536; first = getD l (4272 + 3 * i + 2) 0; count = getD l (4272 + 3 * i + 1) 0 / 65536 } ≡ getD (logOf l) i noRange
   unfolding logOf cells
   range-row lt = simp towards-suc (sym (seg-at rangeOf 3 4272 3 l i noRange (omega (arith, count-log l))))
 

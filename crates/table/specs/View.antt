@@ -31,7 +31,7 @@ use Rattle.table.specs.Told.{Told, Owned}
 --     16 ..  2063  strings: first byte and what it names (`Memo`), end         1,024 x 2
 --   2064 ..  2223  types: name's first byte, its end, super type + 1, base, sum  32 x 5
 --   2224 ..  4271  fields: name's first byte, its end, owner, kind, two numbers, sum 128 x 16
---   4272 ..  7343  ranges: type and block, start and count, first             1,024 x 3
+--   4272 ..  7343  ranges: type, block and link, start and count, first       1,024 x 3
 --   7344 ..  7855  chunks due: field, values, size in two                       128 x 4
 --   7856 .. 16047  chunks: field and first byte, end                          4,096 x 2
 --  16048 .. 16303  tallies of types, eight cells each (`Told`)
@@ -100,8 +100,9 @@ kindFrom k a e =
 abbrev pub fldOf : List ℕ → Field
 fldOf r = record { owner = getD r 2 0; kind = kindFrom (getD r 3 0) (wide (getD r 4 0) (getD r 5 0)) (wide (getD r 6 0) (getD r 7 0)) }
 
+-- above the block stands the link, a guess at the place of the type's range before: it says nothing
 abbrev pub rangeOf : List ℕ → Range
-rangeOf r = record { type = getD r 0 0 % 32; block = getD r 0 0 / 32; start = getD r 1 0 % 65536; first = getD r 2 0; count = getD r 1 0 / 65536 }
+rangeOf r = record { type = getD r 0 0 % 32; block = getD r 0 0 / 32 % 32768; start = getD r 1 0 % 65536; first = getD r 2 0; count = getD r 1 0 / 65536 }
 
 -- a chunk that is due, and its size
 abbrev pub dueOf : List ℕ → Due × ℕ

@@ -290,11 +290,11 @@ module _ {f l l′ : List ℕ} (h : Holds f l) where
         };
       }
 
-  pub pushed-range : (r : RangeRow) → getD l 3 0 < 1024 → Small r → Push 3 4272 3 (rangeCells r) l l′ → Now f l′ (addRange (said f l) (rangeIn r))
+  pub pushed-range : (r : RangeRow) (k : ℕ) → getD l 3 0 < 1024 → Small r → Push 3 4272 3 (rangeCells r k) l l′ → Now f l′ (addRange (said f l) (rangeIn r))
   unfolding starts width most strsOf namesOf typesOf titlesOf fldsOf logOf duesOf chunksOf addRange
-  pushed-range r room small p =
+  pushed-range r k room small p =
       let other = others {c = 3} (p .laid) (h .ok) (omega arith) room f in
-      let mine = push-mine (p .laid) rangeOf ∙ ap (λ (d : Range). logOf l ++ d ∷ []) (range-cells r small) in
+      let mine = push-mine (p .laid) rangeOf ∙ ap (λ (d : Range). logOf l ++ d ∷ []) (range-cells r k small) in
       record {
         holds = holds-after {c = 3} (p .laid) (h .ok) (omega arith) room h (p .ok) (λ lt. absurd (omega arith)) (λ e. absurd (omega arith)) (λ e. absurd (omega arith));
         says = λ i. record {

@@ -6,7 +6,7 @@ ghost use mathlib.Core.Bool.{true};
 ghost use Prim.Native.Nat.{_+_, _*_, _/_, _%_, _<_, _≤_};
 ghost use lib.ListN.{length, getD};
 ghost use lib.Seq.{sets};
-ghost use Rattle.table.specs.View.{Ok};
+ghost use Rattle.table.specs.View.{tally, Ok};
 ghost use Rattle.table.specs.Answers.{Small};
 ghost use Rattle.table.specs.Packed.{typeCells, fieldCells, rangeCells, dueCells, chunkCells};
 ghost use Rattle.table.specs.Pushes.{Pushed, FieldTallied, Regular, share, Aboved, Tallied};
@@ -155,7 +155,7 @@ fn share_of(up: u32, n: u32) -> u32
 // In the tallies of the super type up - 1, a range below it of block b that ends at `end`.
 fn tally_above(work: &mut [u32], up: u32, b: u32, end: u32)
     requires { ⌜ length (now work) ≡ 16384 ⌝ }
-    requires { ⌜ b < 134217728 ⌝ }
+    requires { ⌜ b < 32768 ⌝ }
     ensures { λ _. ⌜ Aboved up b end (now (work .entry)) (now (work .exit)) ⌝ }
 {
     if up == 0 {
@@ -198,15 +198,17 @@ fn tally_range(work: &mut [u32], r: RangeRow, up: u32, n: u32)
     tally_above(work, up, r.block, r.start + r.count);
 }
 
+// A range has a link: where the type's last one before it stands, by the tallies.
 pub fn push_range(work: &mut [u32], r: RangeRow)
     requires { ⌜ Ok (now work) ⌝ }
     requires { ⌜ getD (now work) 3 0 < 1024 ⌝ }
     requires { ⌜ Small r ⌝ }
-    ensures { λ _. ⌜ Pushed 3 4272 3 (rangeCells r) (now (work .entry)) (now (work .exit)) ⌝ }
+    ensures { λ _. ⌜ Pushed 3 4272 3 (rangeCells r (tally (now (work .entry)) (r .typ) 4)) (now (work .entry)) (now (work .exit)) ⌝ }
 {
     let up = super_of(work, r.typ);
     let n = work[3];
-    let whose = r.typ + 32 * r.block;
+    let link = work[16048 + 8 * (r.typ as usize) + 4] % 4096;
+    let whose = r.typ + 32 * r.block + 1048576 * link;
     let extent = r.start + 65536 * r.count;
     put3(work, 4272 + 3 * (n as usize), whose, extent, r.first);
     work[3] = n + 1;

@@ -201,11 +201,20 @@ pub fn range_at(work: &[u32], i: u32) -> RangeRow
     let extent = work[at + 1];
     RangeRow {
         typ: whose % 32,
-        block: whose / 32,
+        block: whose / 32 % 32768,
         start: extent % 65536,
         first: work[at + 2],
         count: extent / 65536,
     }
+}
+
+// Where the range before the i-th of the same type stands: a guess, to be looked at before it is trusted. The first one of a type has 0.
+pub fn link_at(work: &[u32], i: u32) -> u32
+    requires { ⌜ Ok (now work) ⌝ }
+    requires { ⌜ i < getD (now work) 3 0 ⌝ }
+    ensures { λ r. ⌜ r < 4096 ⌝ }
+{
+    work[4272 + 3 * (i as usize)] / 1048576
 }
 
 pub fn due_at(work: &[u32], i: u32) -> DueRow

@@ -15,7 +15,7 @@ use Rattle.table.specs.View.{Said}
 use Rattle.table.specs.Counts.{nextBlock}
 use Rattle.reader.specs.Counting.{one, count-not, count-none, none-counted, Keys, keys-weaker, keys-snoc, fewer-rows, none-past}
 use Rattle.reader.specs.Sound.{typeOfRange, Every, Declared, Sound}
-use Rattle.lookups.specs.Low.{news-log}
+use Rattle.lookups.specs.Low.{Low, countOf, Bounded, news-log}
 
 abbrev pub blockOfRange : Range → ℕ
 blockOfRange r = r .block
@@ -27,6 +27,7 @@ pub record Between (g : Said) : Type 0 where
   pub known : Keys typeOfRange (length (g .state .typeNames)) (g .state .log)
   pub past : Keys blockOfRange (g .state .block) (g .state .log)
   pub room : length (g .state .log) ≤ 32 * g .state .block
+  pub spread : (t : ℕ) → total (of? t) one (g .state .log) ≤ g .state .block
   pub none : g .due ≡ []
   pub chunks : length (g .chunks) ≤ 128 * g .state .block
 
@@ -49,6 +50,7 @@ begins {g} k lt =
       known = k .known;
       once = λ t. omega (arith, no-entry (g .state .block) t (g .state .log) (k .past));
       room = omega (arith, k .room);
+      spread = λ t. omega (arith, k .spread t);
       declared = rw (k .none) tt;
       apart = λ i. rw (k .none, count-none _) (omega arith);
       chunks = k .chunks;
@@ -87,6 +89,12 @@ pub front-past : (s : State) (strings : List (List ℕ)) (es : List Entry) → K
 unfolding afterFront withStrings
 front-past s strings es h = entries-past es (withStrings s strings) (s .block + 1) (omega arith) (keys-weaker blockOfRange (s .block) (s .block + 1) (s .log) (omega arith) h)
 
+-- ── its data region: the values are held to a log with no more ranges of a type than there are blocks ──
+
+pub bounded-by : {g : Said} → Sound g → Low 0 (g .state .log) → Bounded (g .state .log)
+unfolding countOf
+bounded-by k low = record { low = low; few = λ t. omega (arith, k .spread t, k .once t, k .block) }
+
 -- ── a block ends ──
 
 -- it has at most an entry for each type
@@ -114,6 +122,7 @@ closes {g} k past cs few =
       known = k .known;
       past = past;
       room = omega (arith, k .room, few-here k);
+      spread = λ t. omega (arith, k .spread t, k .once t);
       none = refl;
       chunks = rw (length-append (g .chunks) cs) (omega (arith, k .chunks));
     }

@@ -10,7 +10,7 @@ use borrow.Author.Tests.{le-leb, lt-leb}
 use Rattle.paper.specs.Reader.{if_then_else_, Out, got, no, turned}
 use Rattle.paper.specs.Bounds.{mostBytes, mostPairs}
 use Rattle.paper.specs.Lists.{fold}
-use Rattle.paper.specs.Ledger.{Ledger, State, nothing}
+use Rattle.paper.specs.Ledger.{Ledger, State, nothing, of?}
 use Rattle.paper.specs.Rules.{afterPair}
 use Rattle.paper.specs.File.{pairs, file}
 use Rattle.paper.specs.Places.{spots}
@@ -20,6 +20,7 @@ use Rattle.numbers.specs.declared.Cursor.{Cursor}
 use Rattle.numbers.specs.declared.Refusal.{Refusal}
 use Rattle.table.specs.View.{view, fldsOf, logOf, said, Said, Holds}
 use Rattle.table.specs.Counts.{begun, Begun}
+use Rattle.reader.specs.Counting.{count-none}
 use Rattle.walk.specs.Pairs.{pairsTo, saidOf, pairs-are}
 use Rattle.laws.specs.Pools.{Pooled, nothing-pooled}
 use Rattle.lookups.specs.Low.{Low}
@@ -69,7 +70,7 @@ module _ (f : List ℕ) {l : List ℕ} (lt : length f < 66000000) (B : Begun l) 
   steady-begun =
       record {
         holds = B .says f lt .holds;
-        between = rw now-begun (record { block = omega arith; names = omega arith; flds = omega arith; known = tt; past = tt; room = omega arith; none = refl; chunks = omega arith });
+        between = rw now-begun (record { block = omega arith; names = omega arith; flds = omega arith; known = tt; past = tt; room = omega arith; spread = λ t. omega (arith, count-none (of? t)); none = refl; chunks = omega arith });
         low = subst (λ (s : Said). Low 0 (s .state .log)) (sym now-begun) tt;
         pooled = subst (λ (s : Said). Pooled (s .state)) (sym now-begun) nothing-pooled;
         listed = subst (λ (s : Said). Listed (s .state .fields)) (sym now-begun) tt;

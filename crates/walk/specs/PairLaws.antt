@@ -41,7 +41,7 @@ use Rattle.walk.specs.Steps.{stepOf}
 use Rattle.walk.specs.Stand.{stands?, AllStand, new-fields-stand}
 use Rattle.walk.specs.Dues.{Declared, front-declared}
 use Rattle.walk.specs.RegionTurns.{RegionReady, RegionChecked, region-ends}
-use Rattle.walk.specs.Blocks.{blockOfRange, Between, begins, front-block, front-past, closes}
+use Rattle.walk.specs.Blocks.{blockOfRange, Between, begins, front-block, front-past, bounded-by, closes}
 use Rattle.numbers.specs.declared.Step.{Step}
 use Rattle.numbers.specs.declared.Step.the-variants.{Got, No}
 
@@ -204,7 +204,7 @@ module _ {f l l₁ : List ℕ} {at size m : ℕ} (R : PairReady f l at) (F : Fro
         let fields : length (fldsOf l₁) ≡ length (s₂ .fields) = ap (λ (u : State). length (u .fields)) state-is in
         record {
           holds = h₁;
-          low = rw (ap (λ (u : State). u .log) state-is) (front-low s f at d m (R .bytes) (R .inside) (F .is) (R .steady .low));
+          bounded = bounded-by sound (rw (ap (λ (u : State). u .log) state-is) (front-low s f at d m (R .bytes) (R .inside) (F .is) (R .steady .low)));
           pooled = subst Pooled (sym state-is) (front-pooled s f at d m (R .bytes) (R .inside) (F .is) (R .steady .pooled));
           listed = rw (ap (λ (u : State). u .fields) state-is) (front-listed s f at d m (R .bytes) (R .inside) (F .is) (R .steady .listed));
           declared = rw (sym (h₁ .ok .flds-count) ∙ fields, dues-are) (front-declared s (d .strings) (d .entries) (d .ends));
@@ -225,7 +225,7 @@ module _ {f l l₁ : List ℕ} {at size m : ℕ} (R : PairReady f l at) (F : Fro
         record {
           holds = h₃;
           between = rw closing (closes sound own cs many);
-          low = subst (λ (g : Said). Low 0 (g .state .log)) (sym closing) (ready .low);
+          low = subst (λ (g : Said). Low 0 (g .state .log)) (sym closing) (ready .bounded .low);
           pooled = subst (λ (g : Said). Pooled (g .state)) (sym closing) (closed-pooled (view f l₁) (ready .pooled));
           listed = subst (λ (g : Said). Listed (g .state .fields)) (sym closing) (ready .listed);
         }

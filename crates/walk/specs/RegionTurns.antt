@@ -23,7 +23,7 @@ use Rattle.numbers.specs.declared.Cursor.{Cursor}
 use Rattle.numbers.specs.declared.Refusal.{Refusal}
 use Rattle.values.specs.Pass.{forget}
 use Rattle.walk.specs.Region.{chunksAt, sizes}
-use Rattle.lookups.specs.Low.{Low}
+use Rattle.lookups.specs.Low.{Bounded}
 use Rattle.lookups.specs.Named.{Noted}
 use Rattle.walk.specs.Listed.{Listed}
 use Rattle.walk.specs.Dues.{Declared, declared-at}
@@ -78,7 +78,7 @@ chunks-end s (d ∷ ds) f at e h = go (λ m q. chunks-end s ds f m e q) (forget 
 -- what a turn asks: the i-th chunk that is due stands at `at`
 pub record DueAt (f l pools : List ℕ) (at i : ℕ) : Type 0 where
   pub holds : Holds f l
-  pub low : Low 0 (logOf l)
+  pub bounded : Bounded (logOf l)
   pub noted : Noted pools (view f l)
   pub listed : Listed (fldsOf l)
   pub due : i < duesIn l
@@ -137,7 +137,7 @@ module _ {f l pools : List ℕ} {at i : ℕ} (D : DueAt f l pools at i) {d : Due
 -- what a region asks of the file and the table: the chunks that are due begin at `from`
 pub record RegionReady (f l : List ℕ) (from : ℕ) : Type 0 where
   pub holds : Holds f l
-  pub low : Low 0 (logOf l)
+  pub bounded : Bounded (logOf l)
   pub pooled : Pooled (view f l)
   pub listed : Listed (fldsOf l)
   pub declared : Declared (fieldsIn l) (duesOf l)
@@ -203,7 +203,7 @@ module _ {f l₀ : List ℕ} {from : ℕ} (R : RegionReady f l₀ from) {l : Lis
         let before = R .holds .ok in
         record {
           holds = G .holds;
-          low = rw (ap (λ (s : State). s .log) (G .state)) (R .low);
+          bounded = rw (ap (λ (s : State). s .log) (G .state)) (R .bounded);
           noted = subst (Noted pools) (sym (G .state)) N;
           listed = rw fields-same (R .listed);
           due = omega (arith, own .dues-count, before .dues-count);
@@ -254,7 +254,7 @@ module _ {f l l₁ : List ℕ} (N : Now f l₁ (said f l)) where
       let chunks : chunksIn l₁ ≡ chunksIn l = sym (N .holds .ok .chunks-count) ∙ ap (λ (g : Said). length (g .chunks)) says ∙ R .holds .ok .chunks-count in
       record {
         holds = N .holds;
-        low = subst (λ (g : Said). Low 0 (g .state .log)) (sym says) (R .low);
+        bounded = subst (λ (g : Said). Bounded (g .state .log)) (sym says) (R .bounded);
         pooled = subst (λ (g : Said). Pooled (g .state)) (sym says) (R .pooled);
         listed = subst (λ (g : Said). Listed (g .state .fields)) (sym says) (R .listed);
         declared = subst (λ (x : ℕ × List (Due × ℕ)). Declared (x .0) (x .1)) (λ i. (sym fields i, sym says i .due)) (R .declared);

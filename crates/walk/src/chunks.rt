@@ -14,7 +14,7 @@ ghost use Rattle.numbers.specs.Cursors.{outOf, placeOf};
 ghost use Rattle.values.specs.Pass.{forget, Passed};
 ghost use Rattle.values.specs.Items.{linked, someObject};
 ghost use Rattle.values.specs.Chunks.{Kinds};
-ghost use Rattle.lookups.specs.Low.{Low};
+ghost use Rattle.lookups.specs.Low.{Bounded};
 ghost use Rattle.lookups.specs.Objects.{firsts, lasts};
 ghost use Rattle.walk.specs.Listed.{Listed};
 ghost use Rattle.lookups.specs.Named.{Noted};
@@ -135,19 +135,19 @@ fn object_values(part: &[u8], n: u32, t: u32, work: &[u32]) -> Number
 
 // n values whose elements refer to objects: the ranges of their type are gathered once, and not asked for at each value.
 fn gathered_values(part: &[u8], n: u32, kind: FieldRow, work: &[u32]) -> Number
-    requires { ⌜ Ok (now work) × Low 0 (logOf (now work)) ⌝ }
+    requires { ⌜ Ok (now work) × Bounded (logOf (now work)) ⌝ }
     requires { ⌜ Kinds (kind .kind) (kind .a) (kind .e) × (4 < kind .kind) × (kind .kind ≡ 20 → ⊥) × (32 ≤ kind .e) ⌝ }
     ensures { λ r. ⌜ ((file : List ℕ) → Holds file (now (work .entry)) → Valued n (kind .kind) (kind .a) (kind .e) (view file (now (work .entry))) (now (part .entry)) r) ⌝ }
 {
-    let mut first = [0u32; Ledger::RANGES as usize];
-    let mut last = [0u32; Ledger::RANGES as usize];
-    let k = gather(work, kind.e - 32, &mut first, &mut last);
-    ranged_values(part, n, kind, strings(work) as u64, &first[..k], &last[..k])
+    let mut first = [0u32; Ledger::PAIRS as usize];
+    let mut last = [0u32; Ledger::PAIRS as usize];
+    let k = gather(work, kind.e - 32, &mut first, &mut last, 32);
+    ranged_values(part, n, kind, strings(work) as u64, &first[k..], &last[k..])
 }
 
 // The same, for any number of values. One reference is no reason to gather ranges; of several each could cost a walk of its own.
 fn linked_values(part: &[u8], n: u32, kind: FieldRow, work: &[u32]) -> Number
-    requires { ⌜ Ok (now work) × Low 0 (logOf (now work)) ⌝ }
+    requires { ⌜ Ok (now work) × Bounded (logOf (now work)) ⌝ }
     requires { ⌜ Kinds (kind .kind) (kind .a) (kind .e) × (4 < kind .kind) × (kind .kind ≡ 20 → ⊥) × (32 ≤ kind .e) ⌝ }
     ensures { λ r. ⌜ ((file : List ℕ) → Holds file (now (work .entry)) → Valued n (kind .kind) (kind .a) (kind .e) (view file (now (work .entry))) (now (part .entry)) r) ⌝ }
 {
@@ -164,13 +164,13 @@ fn linked_values(part: &[u8], n: u32, kind: FieldRow, work: &[u32]) -> Number
 
 // n maps of these kinds, whose annotations are held to the pools: the ranges of the types that they name are gathered once.
 fn grouped_values(part: &[u8], n: u32, kinds: &[u64], pools: &[u32], work: &[u32]) -> Number
-    requires { ⌜ Ok (now work) × Low 0 (logOf (now work)) ⌝ }
-    requires { ⌜ (2 ≤ length (now kinds)) × (all elementKind? (now kinds) ≡ true) ⌝ }
+    requires { ⌜ Ok (now work) × Bounded (logOf (now work)) ⌝ }
+    requires { ⌜ (2 ≤ length (now kinds)) × (all elementKind? (now kinds) ≡ true) × (length (now kinds) ≤ 8) ⌝ }
     ensures { λ r. ⌜ MapsValued n (now (kinds .entry)) (now (pools .entry)) (now (work .entry)) (now (part .entry)) r ⌝ }
 {
     let mut starts = [0u32; Ledger::TYPES as usize + 1];
-    let mut first = [0u32; Ledger::RANGES as usize];
-    let mut last = [0u32; Ledger::RANGES as usize];
+    let mut first = [0u32; 8 * Ledger::PAIRS as usize];
+    let mut last = [0u32; 8 * Ledger::PAIRS as usize];
     group(work, kinds, &mut starts, &mut first, &mut last);
     maps(
         part,
@@ -186,8 +186,8 @@ fn grouped_values(part: &[u8], n: u32, kinds: &[u64], pools: &[u32], work: &[u32
 
 // The same. Most maps refer to no object, and then nothing is gathered.
 fn mapped_values(part: &[u8], n: u32, kinds: &[u64], pools: &[u32], work: &[u32]) -> Number
-    requires { ⌜ Ok (now work) × Low 0 (logOf (now work)) ⌝ }
-    requires { ⌜ (2 ≤ length (now kinds)) × (all elementKind? (now kinds) ≡ true) ⌝ }
+    requires { ⌜ Ok (now work) × Bounded (logOf (now work)) ⌝ }
+    requires { ⌜ (2 ≤ length (now kinds)) × (all elementKind? (now kinds) ≡ true) × (length (now kinds) ≤ 8) ⌝ }
     ensures { λ r. ⌜ MapsValued n (now (kinds .entry)) (now (pools .entry)) (now (work .entry)) (now (part .entry)) r ⌝ }
 {
     if refers(kinds) {
@@ -207,7 +207,7 @@ fn mapped_values(part: &[u8], n: u32, kinds: &[u64], pools: &[u32], work: &[u32]
 
 // n maps: their kinds stand in the row, a byte each.
 fn map_values(part: &[u8], n: u32, kind: FieldRow, pools: &[u32], work: &[u32]) -> Number
-    requires { ⌜ Ok (now work) × Low 0 (logOf (now work)) ⌝ }
+    requires { ⌜ Ok (now work) × Bounded (logOf (now work)) ⌝ }
     requires { ⌜ Kinds (kind .kind) (kind .a) (kind .e) × (kind .kind ≡ 20) ⌝ }
     ensures { λ r. ⌜ ((file : List ℕ) → Holds file (now (work .entry)) → NotedKind (now (pools .entry)) (kind .kind) (kind .a) (kind .e) (view file (now (work .entry))) → Valued n (kind .kind) (kind .a) (kind .e) (view file (now (work .entry))) (now (part .entry)) r) ⌝ }
 {
@@ -218,7 +218,7 @@ fn map_values(part: &[u8], n: u32, kind: FieldRow, pools: &[u32], work: &[u32]) 
 
 // n values of any kind: the pools say which annotations keep the rule.
 fn values_of(part: &[u8], n: u32, kind: FieldRow, pools: &[u32], work: &[u32]) -> Number
-    requires { ⌜ Ok (now work) × Low 0 (logOf (now work)) ⌝ }
+    requires { ⌜ Ok (now work) × Bounded (logOf (now work)) ⌝ }
     requires { ⌜ Kinds (kind .kind) (kind .a) (kind .e) ⌝ }
     ensures { λ r. ⌜ ((file : List ℕ) → Holds file (now (work .entry)) → NotedKind (now (pools .entry)) (kind .kind) (kind .a) (kind .e) (view file (now (work .entry))) → Valued n (kind .kind) (kind .a) (kind .e) (view file (now (work .entry))) (now (part .entry)) r) ⌝ }
 {
@@ -277,7 +277,7 @@ fn fill(a: Number, at: usize, size: usize) -> Step
 
 // The chunk d, from `at` on: its values are read from a part of the file that has nothing else.
 pub fn chunk(file: &[u8], at: usize, d: DueRow, work: &[u32], pools: &[u32]) -> Step
-    requires { ⌜ Holds (now file) (now work) × Low 0 (logOf (now work)) × Noted (now pools) (view (now file) (now work)) × Listed (fldsOf (now work)) ⌝ }
+    requires { ⌜ Holds (now file) (now work) × Bounded (logOf (now work)) × Noted (now pools) (view (now file) (now work)) × Listed (fldsOf (now work)) ⌝ }
     requires { ⌜ (d .field < fieldsIn (now work)) × (at + d .size ≤ length (now file)) ⌝ }
     ensures { λ r. ⌜ stepOf r ≡ forget (chunk (view (now (file .entry)) (now (work .entry))) (dueIn d) (now (file .entry)) at) ⌝ }
 {

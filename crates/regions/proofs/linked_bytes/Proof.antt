@@ -1,6 +1,6 @@
 -- `regions::linked_bytes` meets its contract: the ranges that were gathered are those of the type. Assumes nothing.
-use mathlib.Core.Path.{sym, _∙_}
-use Rattle.lookups.specs.Gather.{first-lent, last-lent}
+use native.Mathlib.Omega.{arith}
+use Rattle.lookups.specs.Gather.{lent-alike}
 use Rattle.lookups.specs.Known.{linked-known}
 use borrow.Author.Needs.{needs}
 use Rattle.regions.proofs.linked_bytes.Statement.{statement}
@@ -17,9 +17,13 @@ linked-bytes-spec =
     (λ c κs. search needs)
     (λ c. search needs)
     (λ c. search needs)
-    (λ c. first-lent (c .before .before .before .before .gather .ensures))
     (λ c. search needs)
-    (λ c. last-lent (c .before .before .before .before .before .gather .ensures))
-    (λ c κs. let s = c .before .before .before .before .before .before .before .before .before .before .before .before .before in (s .pre .1 .0, s .pre .1 .1, sym (first-lent (c .before .before .before .before .before .before .gather .ensures)) ∙ last-lent (c .before .before .before .before .before .before .gather .ensures)))
     (λ c. search needs)
-    (λ c. let s = c .before .before .before .before .before .before .before .before .before .before .before .before .before .before .before .before in c .before .before .ranged-bytes .ensures .told _ (λ pools. linked-known (s .pre .0 .0) (c .before .before .before .before .before .before .strings .ensures) (s .pre .1 .2) (c .before .before .before .before .before .before .before .before .before .gather .ensures))))
+    (λ c. search needs)
+    (λ c. search needs)
+    (λ c. search needs)
+    (λ c. search needs)
+    (λ c. search needs)
+    (λ c κs. let s = (c .before .before .before .before .before .before .before .before .before .before .before .before .before .before .before) in (s .pre .1 .0, s .pre .1 .1, lent-alike (c .before .before .before .before .before .before .before .before .gather .ensures) (omega arith) (omega arith)))
+    (λ c. search needs)
+    (λ c. let s = (c .before .before .before .before .before .before .before .before .before .before .before .before .before .before .before .before .before .before) in c .before .before .ranged-bytes .ensures .told _ (λ pools. linked-known (s .pre .0 .0) (c .before .before .before .before .before .before .before .before .strings .ensures) (s .pre .1 .2) (c .before .before .before .before .before .before .before .before .before .before .before .gather .ensures))))

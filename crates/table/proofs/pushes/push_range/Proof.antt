@@ -3,6 +3,7 @@ use mathlib.Core.Path.{_≡_, refl, sym, ap, _∙_, subst}
 use native.Mathlib.Omega.{arith}
 use Prim.Native.Nat.{ℕ, _+_, _*_}
 use lib.ListN.{length, getD, length-set}
+use Rattle.table.specs.View.{tally}
 use Rattle.table.specs.Packed.{rangeCells}
 use lib.Seq.{length-sets}
 use Rattle.table.specs.Pushes.{pushed-range-by}
@@ -23,9 +24,17 @@ push-range-spec =
     (λ c. search needs)
     (λ c. search needs)
     (λ c. search needs)
+    (λ c. search needs)
+    (λ c. search needs)
+    (λ c. search needs)
+    (λ c. search needs)
+    (λ c. search needs)
+    (λ c. search needs)
+    (λ c. search needs)
+    (λ c. search needs)
     (λ c κs. search needs)
     (λ c. search needs)
     (λ c. search needs)
-    (λ c κs. let l = (c .before .before .before .before .before .before .before .before .before .before .before .before .before .args) .work .now in (length-set (c .before .before .before .put3 .last .0) 3 (getD l 3 0 + 1) ∙ ap length (c .before .before .before .put3 .ensures) ∙ length-sets l (4272 + 3 * getD l 3 0) (rangeCells ((c .before .before .before .before .before .before .before .before .before .before .before .before .before .args) .r)) ∙ c .before .before .before .before .before .before .before .before .before .before .before .before .before .pre .0 .long, c .before .before .before .before .before .before .before .before .before .before .before .before .before .pre .1 .1))
-    (λ c. let l = (c .before .before .before .before .before .before .before .before .before .before .before .before .before .before .before .before .args) .work .now in c .before .before .tally-range .ensures .long ∙ length-set (c .before .before .before .before .before .before .put3 .last .0) 3 (getD l 3 0 + 1) ∙ ap length (c .before .before .before .before .before .before .put3 .ensures) ∙ length-sets l (4272 + 3 * getD l 3 0) (rangeCells ((c .before .before .before .before .before .before .before .before .before .before .before .before .before .before .before .before .args) .r)))
-    (λ c. pushed-range-by (c .before .before .before .before .before .before .before .before .before .before .before .before .before .before .before .before .args .r) (c .before .before .before .before .before .before .before .before .before .before .before .before .before .super-of .result) (c .before .before .before .before .before .before .before .before .before .before .before .before .before .before .before .before .pre .0) (c .before .before .before .before .before .before .before .before .before .before .before .before .before .before .before .before .pre .1 .0) (c .before .before .before .before .before .before .before .before .before .before .before .before .before .before .before .before .pre .1 .1) (c .before .before .before .before .before .before .before .before .before .before .before .before .before .super-of .ensures) (c .before .before .before .before .before .before .put3 .ensures) (c .before .before .tally-range .ensures)))
+    (λ c κs. let s = c .before .before .before .before .before .before .before .before .before .before .before .before .before .before .before in let l = s .args .work .now in let r = s .args .r in (length-set (c .before .before .before .put3 .last .0) 3 (getD l 3 0 + 1) ∙ ap length (c .before .before .before .put3 .ensures) ∙ length-sets l (4272 + 3 * getD l 3 0) (rangeCells r (tally l (r .typ) 4)) ∙ s .pre .0 .long, s .pre .1 .1))
+    (λ c. let s = c .before .before .before .before .before .before .before .before .before .before .before .before .before .before .before .before .before .before in let l = s .args .work .now in let r = s .args .r in c .before .before .tally-range .ensures .long ∙ length-set (c .before .before .before .before .before .before .put3 .last .0) 3 (getD l 3 0 + 1) ∙ ap length (c .before .before .before .before .before .before .put3 .ensures) ∙ length-sets l (4272 + 3 * getD l 3 0) (rangeCells r (tally l (r .typ) 4)))
+    (λ c. let s = c .before .before .before .before .before .before .before .before .before .before .before .before .before .before .before .before .before .before in pushed-range-by (s .args .r) (c .before .before .before .before .before .before .before .before .before .before .before .before .before .before .before .super-of .result) (tally (s .args .work .now) (s .args .r .typ) 4) (s .pre .0) (s .pre .1 .0) (s .pre .1 .1) (c .before .before .before .before .before .before .before .before .before .before .before .before .before .before .before .super-of .ensures) (c .before .before .before .before .before .before .put3 .ensures) (c .before .before .tally-range .ensures)))

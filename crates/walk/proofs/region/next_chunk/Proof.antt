@@ -10,7 +10,7 @@ next-chunk-spec =
     tie.close
     (tie.spec
     (λ c κs. search needs)
-    (λ c κs. let pre = c .before .before .before .before .before .before .pre in ((pre .holds, pre .low, pre .noted, pre .listed), (field-declared pre (c .before .due-at .ensures), size-within pre (c .before .due-at .ensures))))
+    (λ c κs. let pre = c .before .before .before .before .before .before .pre in ((pre .holds, pre .bounded, pre .noted, pre .listed), (field-declared pre (c .before .due-at .ensures), size-within pre (c .before .due-at .ensures))))
     (λ c. search needs)
     (λ c. search needs)
     (λ c. search needs)
