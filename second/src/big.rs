@@ -25,7 +25,7 @@ type Maker = fn(u64) -> Vec<u8>;
 
 /// All files at all sizes, the smallest of each first.
 pub fn files() -> Vec<Case> {
-    let makers: [(&str, Maker); 18] = [
+    let makers: [(&str, Maker); 19] = [
         ("v64 values", v64_values),
         ("v64 values, every number in nine bytes", padded),
         ("mixed kinds", mixed_kinds),
@@ -47,6 +47,10 @@ pub fn files() -> Vec<Case> {
         ("small chunks in many pairs", small_chunks),
         ("types entered by copies of their long names", copied_names),
         ("references between subtypes in many pairs", subtypes),
+        (
+            "references between subtypes in weeks that differ",
+            other_weeks,
+        ),
         (
             "annotations beside many strings in many pairs",
             few_annotations,
@@ -323,41 +327,88 @@ pub fn copied_names(part: u64) -> Vec<u8> {
 /// object of the next subtype: no two ranges of a type join, and there is a
 /// chunk to be held to them at nearly every entry.
 pub fn subtypes(part: u64) -> Vec<u8> {
-    let mut random = Random::new(SEED);
-    let mut pairs: Vec<PairDraft> = (0..32 / part)
-        .map(|pair| subtype_pair(&mut random, pair))
-        .collect();
-    let types = (0..32).map(|index| format!("type {index}").into_bytes());
-    pairs[0].strings = types.chain([FIELD.to_vec()]).collect();
-    draft::write(&pairs)
+    let weeks = Weeks {
+        objects: 1,
+        place: |_, index| index,
+    };
+    weeks.write(32 / part)
 }
 
-fn subtype_pair(random: &mut Random, pair: u64) -> PairDraft {
-    let base = EntryDraft {
-        name: 1,
-        super_name: (pair == 0).then_some(0),
-        start: None,
-        count: 31,
-        fields: Vec::new(),
+/// The same with four objects, and each pair enters the subtypes in another
+/// order: where the ranges of a type stand in one pair says nothing of the
+/// others.
+pub fn other_weeks(part: u64) -> Vec<u8> {
+    let weeks = Weeks {
+        objects: 4,
+        place: |pair, index| index * (1 + pair % 30) % BELOW,
     };
-    let below = (0..31).map(|index| {
-        let next = (index + 1) % 31;
-        let object = 31 * random.between(0, pair) + next + 1;
+    weeks.write(32 / part)
+}
+
+/// How many types are right below the base type.
+const BELOW: u64 = 31;
+
+/// How many objects a subtype has in a pair, and which of the subtypes of a
+/// pair it is.
+struct Weeks {
+    objects: u64,
+    place: fn(u64, u64) -> u64,
+}
+
+impl Weeks {
+    fn write(&self, pairs: u64) -> Vec<u8> {
+        let mut random = Random::new(SEED);
+        let mut pairs: Vec<PairDraft> = (0..pairs)
+            .map(|pair| self.pair(&mut random, pair))
+            .collect();
+        let types = (0..=BELOW).map(|index| format!("type {index}").into_bytes());
+        pairs[0].strings = types.chain([FIELD.to_vec()]).collect();
+        draft::write(&pairs)
+    }
+
+    fn pair(&self, random: &mut Random, pair: u64) -> PairDraft {
+        let base = EntryDraft {
+            name: 1,
+            super_name: (pair == 0).then_some(0),
+            start: None,
+            count: BELOW * self.objects,
+            fields: Vec::new(),
+        };
+        let mut indices: Vec<u64> = (0..BELOW).collect();
+        indices.sort_by_key(|&index| (self.place)(pair, index));
+        let below = indices
+            .into_iter()
+            .map(|index| self.subtype(random, pair, index));
+        PairDraft {
+            strings: Vec::new(),
+            entries: [base].into_iter().chain(below).collect(),
+        }
+    }
+
+    fn subtype(&self, random: &mut Random, pair: u64, index: u64) -> EntryDraft {
+        let next = (index + 1) % BELOW;
+        let mut chunk = Vec::new();
+        for _ in 0..self.objects {
+            v64::write(&mut chunk, self.object(random, pair, next));
+        }
         let kind = || kind_bytes(single(Element::Object(1 + next)));
         EntryDraft {
             name: 2 + index,
             super_name: (pair == 0).then_some(1),
-            start: Some(index),
-            count: 1,
+            start: Some(self.objects * (self.place)(pair, index)),
+            count: self.objects,
             fields: vec![FieldDraft {
-                new: (pair == 0).then(|| (kind(), 33)),
-                chunk: v64::coded(object),
+                new: (pair == 0).then(|| (kind(), BELOW + 2)),
+                chunk,
             }],
         }
-    });
-    PairDraft {
-        strings: Vec::new(),
-        entries: [base].into_iter().chain(below).collect(),
+    }
+
+    /// An object of this subtype, from a pair up to this one.
+    fn object(&self, random: &mut Random, pair: u64, index: u64) -> u64 {
+        let from = random.between(0, pair);
+        let range = BELOW * from + (self.place)(from, index);
+        self.objects * range + random.between(1, self.objects)
     }
 }
 

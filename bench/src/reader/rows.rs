@@ -42,7 +42,7 @@ pub struct Task {
 type Maker = fn(u64) -> Vec<u8>;
 
 #[rustfmt::skip]
-const FILES: [(&str, Maker, Grows); 17] = [
+const FILES: [(&str, Maker, Grows); 18] = [
     ("v64 values", big::v64_values, Grows::Bytes),
     ("padded v64", big::padded, Grows::Bytes),
     ("mixed kinds", big::mixed_kinds, Grows::Bytes),
@@ -61,6 +61,7 @@ const FILES: [(&str, Maker, Grows); 17] = [
     ("small chunks", big::small_chunks, Grows::Entries),
     ("names by copies", big::copied_names, Grows::Entries),
     ("subtypes in many pairs", big::subtypes, Grows::Entries),
+    ("weeks that differ", big::other_weeks, Grows::Entries),
     ("annotations, many pairs", big::few_annotations, Grows::Entries),
 ];
 
