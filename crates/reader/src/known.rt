@@ -19,7 +19,7 @@ use super::heads::few_objects;
 use super::heads::in_range;
 use numbers::Cursor;
 use table::pushes::push_range;
-use table::ranges::entered;
+use table::ranges::none_from;
 use table::ranges::pool_before;
 use table::rows::RangeRow;
 use table::rows::block;
@@ -99,7 +99,7 @@ fn known_type(work: &[u32], n: u64) -> u32
     if !is_called(work, t, n) {
         return 32;
     }
-    if entered(work, block(work), t) {
+    if !none_from(work, block(work), t) {
         return 32;
     }
     t
@@ -137,6 +137,9 @@ fn count_byte(file: &[u8], at: usize, work: &[u32], up: u32, start: u32) -> u64
     }
     if !few_objects(work, up, n) {
         return 128;
+    }
+    if up == 0 {
+        return n;
     }
     if !in_range(work, up, start, n as u32) {
         return 128;

@@ -172,7 +172,7 @@ pub fn pool_of(work: &[u32], t: u32) -> Pool
 }
 
 // It is known that no block from b on has a range of type t.
-fn none_from(work: &[u32], b: u32, t: u32) -> bool
+pub fn none_from(work: &[u32], b: u32, t: u32) -> bool
     requires { ⌜ Ok (now work) ⌝ }
     ensures { λ r. ⌜ (r ≡ true → all (upTo? t b) (logOf (now (work .entry))) ≡ true) ⌝ }
 {
@@ -263,22 +263,23 @@ pub fn objects_of(work: &[u32], t: u32) -> u32
     sum_of(work, Ask::Of(t))
 }
 
-// The same, where the tallies are told.
-fn pool_told(work: &[u32], b: u32, t: u32) -> u32
+// The same by the tallies alone, or the largest number there is where they do not know it. No range is looked at, so that this can
+// be put in line where an entry asks for it.
+fn tallied_before(work: &[u32], b: u32, t: u32) -> u32
     requires { ⌜ Ok (now work) ⌝ }
-    requires { ⌜ (getD (now work) 7 0 ≡ 1) × (t < 32) ⌝ }
-    ensures { λ r. ⌜ r ≡ total (before? b t) size (logOf (now (work .entry))) ⌝ }
-    ensures { λ r. ⌜ r ≤ 67107840 ⌝ }
+    ensures { λ r. ⌜ (r ≤ 67107840 → r ≡ total (before? b t) size (logOf (now (work .entry)))) ⌝ }
 {
+    if !told(work, t) {
+        return 4294967295;
+    }
     let c = tally_at(work, t, 2);
     if c <= b {
-        return objects_of(work, t);
+        return tally_at(work, t, 1);
     }
-    let n = tally_at(work, t, 3);
-    if c - 1 == b && n <= 67107840 {
-        return n;
+    if c - 1 == b {
+        return tally_at(work, t, 3);
     }
-    sum_of(work, Ask::Before(b, t))
+    4294967295
 }
 
 // The objects of type t that the blocks before b have added.
@@ -287,8 +288,9 @@ pub fn pool_before(work: &[u32], b: u32, t: u32) -> u32
     ensures { λ r. ⌜ r ≡ total (before? b t) size (logOf (now (work .entry))) ⌝ }
     ensures { λ r. ⌜ r ≤ 67107840 ⌝ }
 {
-    if told(work, t) {
-        return pool_told(work, b, t);
+    let known = tallied_before(work, b, t);
+    if known <= 67107840 {
+        return known;
     }
     sum_of(work, Ask::Before(b, t))
 }

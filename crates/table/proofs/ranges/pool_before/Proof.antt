@@ -8,7 +8,6 @@ pool-before-spec =
     tie.close
     (tie.spec
     (λ c κs. search needs)
-    (λ c κs. (c .before .before .before .pre, c .before .told .ensures (c .if1 .taken)))
-    (λ c. c .pool-told .ensures)
+    (λ c. (c .before .tallied-before .ensures (c .if1 .taken), c .if1 .taken))
     (λ c κs. search needs)
     (λ c. c .sum-of .ensures))
