@@ -81,7 +81,8 @@ fn is_called(work: &[u32], t: u32, n: u64) -> bool
     row.end == name.end
 }
 
-// The known type that string n names, where it is the likely one and has no entry in this block; 32 where it is not.
+// The known type that string n names, where it is the likely one and the tallies tell that it has no entry in this block; 32 where
+// it is not so. No range is looked at but the last.
 fn known_type(work: &[u32], n: u64) -> u32
     requires { ⌜ Ok (now work) ⌝ }
     ensures { λ r. ⌜ (r < 32 → Knows (now (work .entry)) n r) ⌝ }
@@ -126,7 +127,8 @@ fn behind_start(at: usize, up: u32) -> usize
     at + 1
 }
 
-// The count of objects in one byte, where it keeps its rules; 128 where it does not.
+// The count of objects in one byte, where it keeps its rules; 128 where it does not. Where no type is above, there is no range to
+// keep to, and none is asked for.
 fn count_byte(file: &[u8], at: usize, work: &[u32], up: u32, start: u32) -> u64
     requires { ⌜ Holds (now file) (now work) ⌝ }
     ensures { λ r. ⌜ (r < 128 → CountByte (now (file .entry)) (now (work .entry)) at up start r) ⌝ }

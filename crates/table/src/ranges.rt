@@ -263,8 +263,8 @@ pub fn objects_of(work: &[u32], t: u32) -> u32
     sum_of(work, Ask::Of(t))
 }
 
-// The same by the tallies alone, or the largest number there is where they do not know it. No range is looked at, so that this can
-// be put in line where an entry asks for it.
+// The objects of type t that the blocks before b have added, by the tallies alone; the largest number there is where they do not
+// tell. One walk then stands behind it and not one behind each tally, and a compiler puts what is so short in line.
 fn tallied_before(work: &[u32], b: u32, t: u32) -> u32
     requires { ⌜ Ok (now work) ⌝ }
     ensures { λ r. ⌜ (r ≤ 67107840 → r ≡ total (before? b t) size (logOf (now (work .entry)))) ⌝ }
@@ -282,7 +282,7 @@ fn tallied_before(work: &[u32], b: u32, t: u32) -> u32
     4294967295
 }
 
-// The objects of type t that the blocks before b have added.
+// The same, in any case.
 pub fn pool_before(work: &[u32], b: u32, t: u32) -> u32
     requires { ⌜ Ok (now work) ⌝ }
     ensures { λ r. ⌜ r ≡ total (before? b t) size (logOf (now (work .entry))) ⌝ }
