@@ -36,9 +36,6 @@ impl Ledger {
     // Over all base pools; and no count of entries or objects, local start or array length is above it.
     pub const OBJECTS: u64 = 65535;
 
-    // The ranges of objects: a type has at most one entry in a block.
-    pub const RANGES: u64 = Ledger::PAIRS * Ledger::TYPES;
-
     // The numbers of a work table.
     pub const TABLE: u64 = 16384;
 

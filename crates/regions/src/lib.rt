@@ -115,7 +115,8 @@ fn ranged_bytes(
     )
 }
 
-// n values whose elements refer to objects: the ranges of their type are gathered once, and not asked for at each value.
+// n values whose elements refer to objects: the ranges of their type, at most one in a block, are gathered once, and not asked for
+// at each value.
 fn linked_bytes(
     text: &[u8],
     p: Place,
@@ -174,7 +175,8 @@ fn constant_bytes(
     )
 }
 
-// n maps of these kinds, whose annotations are held to the pools: the ranges of the types that they name are gathered once.
+// n maps of these kinds, whose annotations are held to the pools: the ranges of the types that they name, at most eight, are gathered
+// once.
 fn grouped_bytes(
     text: &[u8],
     p: Place,

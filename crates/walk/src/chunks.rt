@@ -133,7 +133,8 @@ fn object_values(part: &[u8], n: u32, t: u32, work: &[u32]) -> Number
     Number::Got(0, here)
 }
 
-// n values whose elements refer to objects: the ranges of their type are gathered once, and not asked for at each value.
+// n values whose elements refer to objects: the ranges of their type, at most one in a block, are gathered once, and not asked for
+// at each value.
 fn gathered_values(part: &[u8], n: u32, kind: FieldRow, work: &[u32]) -> Number
     requires { ⌜ Ok (now work) × Bounded (logOf (now work)) ⌝ }
     requires { ⌜ Kinds (kind .kind) (kind .a) (kind .e) × (4 < kind .kind) × (kind .kind ≡ 20 → ⊥) × (32 ≤ kind .e) ⌝ }
@@ -162,7 +163,8 @@ fn linked_values(part: &[u8], n: u32, kind: FieldRow, work: &[u32]) -> Number
     gathered_values(part, n, kind, work)
 }
 
-// n maps of these kinds, whose annotations are held to the pools: the ranges of the types that they name are gathered once.
+// n maps of these kinds, whose annotations are held to the pools: the ranges of the types that they name, at most eight, are gathered
+// once.
 fn grouped_values(part: &[u8], n: u32, kinds: &[u64], pools: &[u32], work: &[u32]) -> Number
     requires { ⌜ Ok (now work) × Bounded (logOf (now work)) ⌝ }
     requires { ⌜ (2 ≤ length (now kinds)) × (all elementKind? (now kinds) ≡ true) × (length (now kinds) ≤ 8) ⌝ }
