@@ -7,9 +7,8 @@ use native.Mathlib.Omega.{arith}
 use native.Mathlib.Numerals.{add-one}
 use native.Mathlib.Nat.{add-zero, sub-zero, lt-of-not-le}
 use native.Mathlib.Decide.{decLe}
-use native.Nat.{ℕᴺ-discrete}
-use lib.ListN.{length, getD, drop, set, length-set}
-use lib.Seq.{drop-cons, length-sets, getD-set-same, getD-set-other, ext-getD}
+use lib.ListN.{length, getD, drop}
+use lib.Seq.{drop-cons, length-sets}
 use borrow.Author.Tests.{ne-eqb}
 use Rattle.paper.specs.Reader.{if_then_else_, Out, got, no as bad, andThen}
 use Rattle.paper.specs.Scan.{nibble, hexOn, hexPairs, hexBytes}
@@ -85,7 +84,7 @@ unfolding unhexedFrom
 unhexed-long zero t at = refl
 unhexed-long (suc k) t at = ap suc (unhexed-long k t (at + 2))
 
-unhexed-at :
+pub unhexed-at :
     (k : ℕ) (t : List ℕ) (at i : ℕ) → i < k
     → getD (unhexedFrom k t at) i 0 ≡ valueOf (getD t (at + 2 * i) 0) * 16 + valueOf (getD t (at + 2 * i + 1) 0)
 unfolding unhexedFrom
@@ -94,30 +93,6 @@ unhexed-at (suc k) t at zero h = rw add-zero refl
 unhexed-at (suc k) t at (suc i) h =
     let place : at + 2 + 2 * i ≡ at + 2 * suc i = omega arith in
     rw place at (unhexed-at k t (at + 2) i (omega arith))
-
--- the first i are stored
-pub record Reckoned (k : ℕ) (t : List ℕ) (at : ℕ) (m : List ℕ) (i : ℕ) : Type 0 where
-  pub long : length m ≡ k
-  pub same : (j : ℕ) → j < i → getD m j 0 ≡ getD (unhexedFrom k t at) j 0
-
-pub reckoned-none : (k : ℕ) (t : List ℕ) (at : ℕ) (m : List ℕ) → length m ≡ k → Reckoned k t at m 0
-reckoned-none k t at m h = record { long = h; same = λ j l. absurd (omega arith) }
-
-module _ {k : ℕ} {t : List ℕ} {at : ℕ} {m : List ℕ} {i : ℕ} (R : Reckoned k t at m i) where
-  pub reckoned-on :
-      {x y : ℕ} → i < k → x ≡ valueOf (getD t (at + 2 * i) 0) → y ≡ valueOf (getD t (at + 2 * i + 1) 0)
-      → Reckoned k t at (set m i (x * 16 + y)) (i + 1)
-  reckoned-on {x} {y} lt high low =
-      record {
-        long = length-set m i (x * 16 + y) ∙ R .long;
-        same = λ j l. elim (ℕᴺ-discrete j i) [
-          | yes is ↦ rw is (getD-set-same m i (x * 16 + y) 0 (omega (arith, R .long)) ∙ rw (high, low) (sym (unhexed-at k t at i lt)))
-          | no ne ↦ getD-set-other m i j (x * 16 + y) 0 ne ∙ R .same j (let z : j ≡ i → ⊥ = ne in omega arith)
-        ];
-      }
-
-  pub reckoned-all : k ≤ i → m ≡ unhexedFrom k t at
-  reckoned-all h = ext-getD 0 m (unhexedFrom k t at) (R .long ∙ sym (unhexed-long k t at)) (λ j l. R .same j (omega (arith, R .long)))
 
 -- ── the number of n digits: v is that of the first i, which end at p ──
 

@@ -5,6 +5,7 @@ pub mod Signs
 pub mod Answers
 pub mod Backwards
 pub mod Blocks
+pub mod Pairs
 pub mod Stored
 pub mod ReadBytes
 pub mod ReadDecimals

@@ -5,7 +5,8 @@ ghost use Prim.Native.Nat.{_+_, _≤_, _<_};
 ghost use lib.ListN.{length, drop};
 ghost use Rattle.lay.specs.Laid.{Laid};
 ghost use Rattle.paper.specs.Scan.{byteIs, literal, ended, tooLarge?, digitsOn, natural, integer, orNone, nibble, hexOn};
-ghost use Rattle.words.specs.Blocks.{valueOf, Hexes, unhexedFrom};
+ghost use Rattle.words.specs.Blocks.{valueOf, Hexes};
+ghost use Rattle.words.specs.Pairs.{valuesOf, Values, Written, Paired, Unpaired, Unhexes};
 ghost use Rattle.words.specs.Answers.{outStep, outNumber, outBits, outMaybe, Peeked, Digit, Unhexed};
 use crate::HALF;
 use crate::MOST;
@@ -173,28 +174,68 @@ fn hex_in_turn(t: &[u8], at: usize, n: usize) -> Number
     Number::Got(v, Place { at: p })
 }
 
-// The 32 bytes that stand in hex at a place.
-fn store_block(t: &[u8], at: usize, bytes: &mut [u8])
-    requires { ⌜ Hexes (now t) at 64 × (length (now bytes) ≡ 32) ⌝ }
-    ensures { λ _. ⌜ now (bytes .exit) ≡ unhexedFrom 32 (now (t .entry)) at ⌝ }
+// The 64 bytes at a place, two in a number, the first of them its low byte. The compiler makes a plain copy of this, and takes many
+// of the numbers at once; of bytes that lie two apart it loads each by itself.
+fn copy_pairs(t: &[u8], at: usize, pairs: &mut [u16])
+    requires { ⌜ (at + 64 ≤ length (now t)) × (length (now pairs) ≡ 32) ⌝ }
+    ensures { λ _. ⌜ Paired (now (t .entry)) at (now (pairs .exit)) 32 ⌝ }
 {
     let mut i: usize = 0;
     while i < 32 {
-        let high = value_of(t[at + 2 * i]);
-        let low = value_of(t[at + 2 * i + 1]);
-        bytes[i] = high * 16 + low;
+        let p = at + 2 * i;
+        pairs[i] = t[p] as u16 + 256 * (t[p + 1] as u16);
         i += 1;
     }
 }
 
-// These, laid into a buffer.
-fn put_block(t: &[u8], at: usize, out: &mut [u8], q: usize) -> usize
-    requires { ⌜ Hexes (now t) at 64 ⌝ }
-    ensures { λ r. ⌜ Laid (now (out .entry)) q (unhexedFrom 32 (now (t .entry)) at) (now (out .exit)) r ⌝ }
+// The values of two hex digits by their bits, as `value_of` has that of one.
+fn values_of(pair: u16) -> u16
+    ensures { λ r. ⌜ r ≡ valuesOf pair ⌝ }
 {
-    let mut bytes = [0u8; 32];
-    store_block(t, at, &mut bytes);
-    lay::put_bytes(out, q, &bytes)
+    ((pair & 0x0F0F) + 9 * ((pair >> 6) & 0x0303)) & 0x0F0F
+}
+
+// The digits that two values are written as: a letter lies 39 further up than a digit would.
+fn written(values: u16) -> u16
+    requires { ⌜ Values values ⌝ }
+    ensures { λ r. ⌜ Written values r ⌝ }
+{
+    values + 0x3030 + 39 * (((values + 0x0606) >> 4) & 0x0101)
+}
+
+// The bytes of 32 pairs, if all of these are hex digits. There is no way out of the loop before its end, as in `digits_there`.
+fn unhex_pairs(pairs: &[u16], bytes: &mut [u8]) -> bool
+    requires { ⌜ (length (now pairs) ≡ 32) × (length (now bytes) ≡ 32) ⌝ }
+    ensures { λ r. ⌜ (r ≡ true → Unpaired (now (pairs .entry)) (now (bytes .exit)) 0 32) ⌝ }
+{
+    let mut others: u16 = 0;
+    let mut i: usize = 0;
+    while i < 32 {
+        let pair = pairs[i];
+        let values = values_of(pair);
+        if pair != written(values) {
+            others = 1;
+        }
+        bytes[i] = (values % 16 * 16 + values / 256) as u8;
+        i += 1;
+    }
+    others == 0
+}
+
+// The 32 bytes that stand in hex at a place, if they do.
+fn unhex_block(t: &[u8], at: usize, bytes: &mut [u8]) -> bool
+    requires { ⌜ length (now bytes) ≡ 32 ⌝ }
+    ensures { λ r. ⌜ (r ≡ true → Unhexes (now (t .entry)) at (now (bytes .exit))) ⌝ }
+{
+    if t.len() < at {
+        return false;
+    }
+    if t.len() - at < 64 {
+        return false;
+    }
+    let mut pairs = [0u16; 32];
+    copy_pairs(t, at, &mut pairs);
+    unhex_pairs(&pairs, bytes)
 }
 
 // Bytes in hex, one by one, as long as there are any, laid into a buffer from q on.
@@ -399,8 +440,9 @@ impl Place {
     {
         let mut p = self.at;
         let mut q = at;
-        while digits_there(t, p, 64) {
-            q = put_block(t, p, out, q);
+        let mut bytes = [0u8; 32];
+        while unhex_block(t, p, &mut bytes) {
+            q = lay::put_bytes(out, q, &bytes);
             p += 64;
         }
         hex_pairs(t, p, out, q)
