@@ -1,5 +1,5 @@
 -- Hex digits two in a number, the first of them its low byte: told from other bytes, and reckoned. Assumes nothing.
-use mathlib.Core.Path.{_≡_, refl, sym, _∙_, ap, ap₂}
+use mathlib.Core.Path.{_≡_, refl, sym, _∙_, ap, ap₂, subst}
 use mathlib.Core.Bool.{true, false}
 use mathlib.Core.List.{List}
 use Prim.Native.Nat.{ℕ, _+_, _*_, _/_, _%_, _^_, _≤_, _<_}
@@ -56,16 +56,16 @@ second-top w h = rw (tops w, tops-high (w / 256) (w % 256 / 64) (omega arith)) (
 
 -- a number of two bytes
 module _ (a b : ℕ) (h : a < 256) where
-  low-byte : (b * 256 + a) % 256 ≡ a
+  low-byte : (a + 256 * b) % 256 ≡ a
   low-byte = omega arith
 
-  high-byte : (b * 256 + a) / 256 ≡ b
+  high-byte : (a + 256 * b) / 256 ≡ b
   high-byte = omega arith
 
 -- what is summed up for them: no byte of it runs over
 summed :
     (w : ℕ) → w < 65536
-    → bitAnd w 3855 + 9 * bitAnd (w / 64) 771 ≡ (w / 256 % 16 + 9 * (w / 256 / 64)) * 256 + (w % 256 % 16 + 9 * (w % 256 / 64))
+    → bitAnd w 3855 + 9 * bitAnd (w / 64) 771 ≡ w % 256 % 16 + 9 * (w % 256 / 64) + 256 * (w / 256 % 16 + 9 * (w / 256 / 64))
 summed w h = rw (fours w, twos (w / 64), first-top w, second-top w h) (omega arith)
 
 pub summed-small : (w : ℕ) → w < 65536 → (9 * bitAnd (w / 64) 771 < 65536) × (bitAnd w 3855 + 9 * bitAnd (w / 64) 771 < 65536)
@@ -106,7 +106,7 @@ written-are v h =
     let z = letters-are v h in
     let low = h .0 in
     let small : 48 + v % 256 + 39 * ((v % 256 + 6) / 16) < 256 = omega arith in
-    let sum : v + 12336 + 39 * bitAnd ((v + 1542) / 16) 257 ≡ (48 + v / 256 + 39 * ((v / 256 + 6) / 16)) * 256 + (48 + v % 256 + 39 * ((v % 256 + 6) / 16)) = rw z (omega arith) in
+    let sum : v + 12336 + 39 * bitAnd ((v + 1542) / 16) 257 ≡ 48 + v % 256 + 39 * ((v % 256 + 6) / 16) + 256 * (48 + v / 256 + 39 * ((v / 256 + 6) / 16)) = rw z (omega arith) in
     record { low = rw sum (low-byte _ _ small); high = rw sum (high-byte _ _ small) }
 
 -- a pair of digits, and the byte that they are
@@ -138,36 +138,123 @@ module _ (w : ℕ) {v : ℕ} (is : v ≡ valuesOf w) where
 
 -- ── 32 pairs ──
 
--- the first i pairs are the bytes from a place on
-pub record Paired (t : List ℕ) (at : ℕ) (ps : List ℕ) (i : ℕ) : Type 0 where
-  pub long : length ps ≡ 32
-  pub first : (j : ℕ) → j < i → getD ps j 0 % 256 ≡ getD t (at + 2 * j) 0
-  pub second : (j : ℕ) → j < i → getD ps j 0 / 256 ≡ getD t (at + 2 * j + 1) 0
+-- four bytes in a number
+pub record Four (t : List ℕ) (p w : ℕ) : Type 0 where
+  pub one : w % 65536 % 256 ≡ getD t p 0
+  pub two : w % 65536 / 256 ≡ getD t (p + 1) 0
+  pub three : w / 65536 % 256 ≡ getD t (p + 2) 0
+  pub four : w / 65536 / 256 ≡ getD t (p + 3) 0
 
-pub paired-none : (t : List ℕ) (at : ℕ) (ps : List ℕ) → length ps ≡ 32 → Paired t at ps 0
-paired-none t at ps h = record { long = h; first = λ j l. absurd (omega arith); second = λ j l. absurd (omega arith) }
+module _ (x y : ℕ) (h : x < 65536) where
+  low-half : (x + 65536 * y) % 65536 ≡ x
+  low-half = omega arith
 
-module _ {t : List ℕ} {at : ℕ} {ps : List ℕ} {i : ℕ} (P : Paired t at ps i) where
-  pub paired-on :
-      i < 32 → getD t (at + 2 * i) 0 < 256
-      → Paired t at (set ps i (getD t (at + 2 * i) 0 + 256 * getD t (at + 2 * i + 1) 0)) (i + 1)
-  paired-on lt small =
-      let x = getD t (at + 2 * i) 0 + 256 * getD t (at + 2 * i + 1) 0 in
-      let same = getD-set-same ps i x 0 (omega (arith, P .long)) in
+  high-half : (x + 65536 * y) / 65536 ≡ y
+  high-half = omega arith
+
+pub four-is :
+    (t : List ℕ) (p : ℕ) → ((i : ℕ) → getD t i 0 < 256)
+    → Four t p (getD t p 0 + 256 * getD t (p + 1) 0 + 65536 * (getD t (p + 2) 0 + 256 * getD t (p + 3) 0))
+four-is t p small =
+    let x = getD t p 0 + 256 * getD t (p + 1) 0 in
+    let y = getD t (p + 2) 0 + 256 * getD t (p + 3) 0 in
+    let h : getD t p 0 + 256 * getD t (p + 1) 0 < 65536 = omega (arith, small p, small (p + 1)) in
+    record {
+      one = ap (λ (n : ℕ). n % 256) (low-half x y h) ∙ low-byte (getD t p 0) (getD t (p + 1) 0) (small p);
+      two = ap (λ (n : ℕ). n / 256) (low-half x y h) ∙ high-byte (getD t p 0) (getD t (p + 1) 0) (small p);
+      three = ap (λ (n : ℕ). n % 256) (high-half x y h) ∙ low-byte (getD t (p + 2) 0) (getD t (p + 3) 0) (small (p + 2));
+      four = ap (λ (n : ℕ). n / 256) (high-half x y h) ∙ high-byte (getD t (p + 2) 0) (getD t (p + 3) 0) (small (p + 2));
+    }
+
+-- the first i numbers are the bytes from a place on
+pub record Foured (t : List ℕ) (at : ℕ) (fs : List ℕ) (i : ℕ) : Type 0 where
+  pub long : length fs ≡ 16
+  pub each : (j : ℕ) → j < i → Four t (at + 4 * j) (getD fs j 0)
+
+pub foured-none : (t : List ℕ) (at : ℕ) (fs : List ℕ) → length fs ≡ 16 → Foured t at fs 0
+foured-none t at fs h = record { long = h; each = λ j l. absurd (omega arith) }
+
+module _ {t : List ℕ} {at : ℕ} {fs : List ℕ} {i : ℕ} (F : Foured t at fs i) where
+  pub foured-on : {w : ℕ} → i < 16 → Four t (at + 4 * i) w → Foured t at (set fs i w) (i + 1)
+  foured-on {w} lt W =
       record {
-        long = length-set ps i x ∙ P .long;
-        first = λ j l. elim (ℕᴺ-discrete j i) [
-          | yes is ↦ rw is (ap (λ (y : ℕ). y % 256) same ∙ omega arith)
-          | no ne ↦ ap (λ (y : ℕ). y % 256) (getD-set-other ps i j x 0 ne) ∙ P .first j (let z : j ≡ i → ⊥ = ne in omega arith)
-        ];
-        second = λ j l. elim (ℕᴺ-discrete j i) [
-          | yes is ↦ rw is (ap (λ (y : ℕ). y / 256) same ∙ omega arith)
-          | no ne ↦ ap (λ (y : ℕ). y / 256) (getD-set-other ps i j x 0 ne) ∙ P .second j (let z : j ≡ i → ⊥ = ne in omega arith)
+        long = length-set fs i w ∙ F .long;
+        each = λ j l. elim (ℕᴺ-discrete j i) [
+          | yes is ↦ rw (is, getD-set-same fs i w 0 (omega (arith, F .long))) W
+          | no ne ↦ rw (getD-set-other fs i j w 0 ne) (F .each j (let z : j ≡ i → ⊥ = ne in omega arith))
         ];
       }
 
-  pub paired-all : 32 ≤ i → Paired t at ps 32
-  paired-all h = record { long = P .long; first = λ j l. P .first j (omega arith); second = λ j l. P .second j (omega arith) }
+  pub foured-all : 16 ≤ i → Foured t at fs 16
+  foured-all h = record { long = F .long; each = λ j l. F .each j (omega arith) }
+
+-- the halves of the first i
+pub record Halved (fs ps : List ℕ) (i : ℕ) : Type 0 where
+  pub long : length ps ≡ 32
+  pub even : (j : ℕ) → j < i → getD ps (2 * j) 0 ≡ getD fs j 0 % 65536
+  pub odd : (j : ℕ) → j < i → getD ps (2 * j + 1) 0 ≡ getD fs j 0 / 65536
+
+pub halved-none : (fs ps : List ℕ) → length ps ≡ 32 → Halved fs ps 0
+halved-none fs ps h = record { long = h; even = λ j l. absurd (omega arith); odd = λ j l. absurd (omega arith) }
+
+module _ {fs ps : List ℕ} {i : ℕ} (H : Halved fs ps i) where
+  pub halved-on : i < 16 → Halved fs (set (set ps (2 * i) (getD fs i 0 % 65536)) (2 * i + 1) (getD fs i 0 / 65536)) (i + 1)
+  halved-on lt =
+      let x = getD fs i 0 % 65536 in
+      let y = getD fs i 0 / 65536 in
+      let once = length-set ps (2 * i) x in
+      record {
+        long = length-set (set ps (2 * i) x) (2 * i + 1) y ∙ once ∙ H .long;
+        even = λ j l. getD-set-other (set ps (2 * i) x) (2 * i + 1) (2 * j) y 0 (λ e. omega arith)
+            ∙ elim (ℕᴺ-discrete j i) [
+              | yes is ↦ rw is (getD-set-same ps (2 * i) x 0 (omega (arith, H .long)))
+              | no ne ↦ getD-set-other ps (2 * i) (2 * j) x 0 (λ e. ne (omega arith)) ∙ H .even j (let z : j ≡ i → ⊥ = ne in omega arith)
+            ];
+        odd = λ j l. elim (ℕᴺ-discrete j i) [
+          | yes is ↦ rw is (getD-set-same (set ps (2 * i) x) (2 * i + 1) y 0 (omega (arith, H .long, once)))
+          | no ne ↦
+              getD-set-other (set ps (2 * i) x) (2 * i + 1) (2 * j + 1) y 0 (λ e. ne (omega arith))
+              ∙ getD-set-other ps (2 * i) (2 * j + 1) x 0 (λ e. omega arith)
+              ∙ H .odd j (let z : j ≡ i → ⊥ = ne in omega arith)
+        ];
+      }
+
+  pub halved-all : 16 ≤ i → Halved fs ps 16
+  halved-all h = record { long = H .long; even = λ j l. H .even j (omega arith); odd = λ j l. H .odd j (omega arith) }
+
+-- the pairs are the bytes from a place on
+pub record Paired (t : List ℕ) (at : ℕ) (ps : List ℕ) : Type 0 where
+  pub long : length ps ≡ 32
+  pub first : (j : ℕ) → j < 32 → getD ps j 0 % 256 ≡ getD t (at + 2 * j) 0
+  pub second : (j : ℕ) → j < 32 → getD ps j 0 / 256 ≡ getD t (at + 2 * j + 1) 0
+
+module _ {t : List ℕ} {at : ℕ} {fs ps : List ℕ} (F : Foured t at fs 16) (H : Halved fs ps 16) where
+  -- a pair is two bytes
+  abbrev Pair : ℕ → Type 0
+  Pair j = (getD ps j 0 % 256 ≡ getD t (at + 2 * j) 0) × (getD ps j 0 / 256 ≡ getD t (at + 2 * j + 1) 0)
+
+  pair-even : (j : ℕ) → j < 16 → Pair (2 * j)
+  pair-even j l =
+      let is : at + 4 * j ≡ at + 2 * (2 * j) = omega arith in
+      let W = rw is at (F .each j l) in
+      (rw (H .even j l) (W .one), rw (H .even j l) (W .two))
+
+  pair-odd : (j : ℕ) → j < 16 → Pair (2 * j + 1)
+  pair-odd j l =
+      let W = F .each j l in
+      let third : at + 4 * j + 2 ≡ at + 2 * (2 * j + 1) = omega arith in
+      let fourth : at + 4 * j + 3 ≡ at + 2 * (2 * j + 1) + 1 = omega arith in
+      (rw (H .odd j l) (rw third at (W .three)), rw (H .odd j l) (rw fourth at (W .four)))
+
+  pair : (j : ℕ) → j < 32 → Pair j
+  pair j l =
+      elim (ℕᴺ-discrete (j % 2) 0) [
+        | yes e ↦ (let is : 2 * (j / 2) ≡ j = omega arith in subst Pair is (pair-even (j / 2) (omega arith)))
+        | no ne ↦ (let z : j % 2 ≡ 0 → ⊥ = ne in let is : 2 * (j / 2) + 1 ≡ j = omega arith in subst Pair is (pair-odd (j / 2) (omega arith)))
+      ]
+
+  pub paired : Paired t at ps
+  paired = record { long = H .long; first = λ j l. pair j l .0; second = λ j l. pair j l .1 }
 
 -- the first i are digits and their bytes are stored, if no other byte was met
 pub record Unpaired (ps m : List ℕ) (others i : ℕ) : Type 0 where
@@ -206,7 +293,7 @@ pub record Unhexes (t : List ℕ) (at : ℕ) (m : List ℕ) : Type 0 where
 pub no-block : {t : List ℕ} {at : ℕ} {m : List ℕ} → false ≡ true → Unhexes t at m
 no-block h = let z : _≡_ {A = ℕ} 0 1 = cc h in absurd (omega arith)
 
-module _ {t : List ℕ} {at : ℕ} {ps m : List ℕ} (inside : at + 64 ≤ length t) (P : Paired t at ps 32) (U : Unpaired ps m 0 32) where
+module _ {t : List ℕ} {at : ℕ} {ps m : List ℕ} (inside : at + 64 ≤ length t) (P : Paired t at ps) (U : Unpaired ps m 0 32) where
   half : (j : ℕ) → j < 32 → (nibble (getD t (at + 2 * j) 0) ≡ valueOf (getD t (at + 2 * j) 0)) × (nibble (getD t (at + 2 * j + 1) 0) ≡ valueOf (getD t (at + 2 * j + 1) 0))
   half j l = let T = U .so refl j l in (rw (P .first j l) at (T .first), rw (P .second j l) at (T .second))
 

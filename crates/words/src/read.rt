@@ -6,7 +6,7 @@ ghost use lib.ListN.{length, drop};
 ghost use Rattle.lay.specs.Laid.{Laid};
 ghost use Rattle.paper.specs.Scan.{byteIs, literal, ended, tooLarge?, digitsOn, natural, integer, orNone, nibble, hexOn};
 ghost use Rattle.words.specs.Blocks.{valueOf, Hexes};
-ghost use Rattle.words.specs.Pairs.{valuesOf, Values, Written, Paired, Unpaired, Unhexes};
+ghost use Rattle.words.specs.Pairs.{valuesOf, Values, Written, Foured, Halved, Paired, Unpaired, Unhexes};
 ghost use Rattle.words.specs.Answers.{outStep, outNumber, outBits, outMaybe, Peeked, Digit, Unhexed};
 use crate::HALF;
 use crate::MOST;
@@ -174,18 +174,44 @@ fn hex_in_turn(t: &[u8], at: usize, n: usize) -> Number
     Number::Got(v, Place { at: p })
 }
 
-// The 64 bytes at a place, two in a number, the first of them its low byte. The compiler makes a plain copy of this, and takes many
-// of the numbers at once; of bytes that lie two apart it loads each by itself.
-fn copy_pairs(t: &[u8], at: usize, pairs: &mut [u16])
-    requires { ⌜ (at + 64 ≤ length (now t)) × (length (now pairs) ≡ 32) ⌝ }
-    ensures { λ _. ⌜ Paired (now (t .entry)) at (now (pairs .exit)) 32 ⌝ }
+// The 64 bytes at a place, four in a number, the first of them its lowest byte.
+fn copy_fours(t: &[u8], at: usize, fours: &mut [u32])
+    requires { ⌜ (at + 64 ≤ length (now t)) × (length (now fours) ≡ 16) ⌝ }
+    ensures { λ _. ⌜ Foured (now (t .entry)) at (now (fours .exit)) 16 ⌝ }
 {
     let mut i: usize = 0;
-    while i < 32 {
-        let p = at + 2 * i;
-        pairs[i] = t[p] as u16 + 256 * (t[p + 1] as u16);
+    while i < 16 {
+        let p = at + 4 * i;
+        let low = t[p] as u32 + 256 * (t[p + 1] as u32);
+        let high = t[p + 2] as u32 + 256 * (t[p + 3] as u32);
+        fours[i] = low + 65536 * high;
         i += 1;
     }
+}
+
+// The same, two in a number.
+fn halve_fours(fours: &[u32], pairs: &mut [u16])
+    requires { ⌜ (length (now fours) ≡ 16) × (length (now pairs) ≡ 32) ⌝ }
+    ensures { λ _. ⌜ Halved (now (fours .entry)) (now (pairs .exit)) 16 ⌝ }
+{
+    let mut i: usize = 0;
+    while i < 16 {
+        let four = fours[i];
+        pairs[2 * i] = (four % 65536) as u16;
+        pairs[2 * i + 1] = (four / 65536) as u16;
+        i += 1;
+    }
+}
+
+// The 64 bytes at a place, two in a number. The compiler makes one plain copy of all this, and takes many of the numbers at once; of
+// bytes that lie two apart it loads each by itself. By way of fours, since not every machine has two bytes for a word.
+fn copy_pairs(t: &[u8], at: usize, pairs: &mut [u16])
+    requires { ⌜ (at + 64 ≤ length (now t)) × (length (now pairs) ≡ 32) ⌝ }
+    ensures { λ _. ⌜ Paired (now (t .entry)) at (now (pairs .exit)) ⌝ }
+{
+    let mut fours = [0u32; 16];
+    copy_fours(t, at, &mut fours);
+    halve_fours(&fours, pairs);
 }
 
 // The values of two hex digits by their bits, as `value_of` has that of one.
