@@ -65,11 +65,11 @@ int64_t th_check(const uint8_t *file, size_t file_length, uint32_t *work, size_t
 int64_t th_objects(const uint8_t *file, size_t file_length, const uint8_t *type, size_t type_length,
                    uint32_t *work, size_t work_length);
 
-/* Writes one field's values to the front of `out`, one for each object of the type, in the order of
- * the file. Gives their number, which th_objects gives too. The rest of `out` is untouched, and a
- * refusal leaves all of it as it was. The field is one of the type itself, not of its super types.
+/* Two calls give the values of one field. th_count_values says how many there are; lend so many
+ * numbers, or more, and th_fill_values writes them. Both take the same names and kind.
  *
- * `kind` has to be the field's kind:
+ * There is one value for each object of the type, in the order of the file. The field is one of the
+ * type itself, not of its super types. `kind` has to be the field's kind:
  *   0 to 4     constant i8, i16, i32, i64, v64: its value, for every object
  *   6          bool: 0 or 1
  *   7 to 11    i8, i16, i32, i64, v64
@@ -77,11 +77,32 @@ int64_t th_objects(const uint8_t *file, size_t file_length, const uint8_t *type,
  *   14         string: its number in the file, from 1, or 0 for none
  *   32         reference to any type: the object's number, from 1, or 0 for none
  * Any other number gives TH_OTHER_KIND. So does every number asked of an annotation (kind 5), of an
- * array, list or set (15, 17 to 19) or of a map (20): these have no column, and th_listing shows
- * them. */
-int64_t th_column(const uint8_t *file, size_t file_length, const uint8_t *type, size_t type_length,
-                  const uint8_t *field, size_t field_length, uint64_t kind, uint32_t *work,
-                  size_t work_length, int64_t *out, size_t out_length);
+ * array, list or set (15, 17 to 19) or of a map (20): a value of these is not one number, and
+ * th_listing shows them. */
+
+/* Gives the number of values, which th_objects gives too.
+ *
+ * The refusals are TH_TABLE, those of the file, TH_NO_TYPE, TH_NO_FIELD and TH_OTHER_KIND, looked
+ * for in this order. TH_ROOM is never given: no output is lent. */
+int64_t th_count_values(const uint8_t *file, size_t file_length, const uint8_t *type,
+                        size_t type_length, const uint8_t *field, size_t field_length,
+                        uint64_t kind, uint32_t *work, size_t work_length);
+
+/* Writes the values to the front of `out`. Gives their number, which is what th_count_values gives.
+ * The rest of `out` is untouched, and a refusal leaves all of it as it was.
+ *
+ * The refusals are those of th_count_values, in the same order, and behind them TH_ROOM, if `out`
+ * has fewer places than there are values.
+ *
+ * Each of the two reads the whole file anew, and knows nothing of the other. If the bytes change
+ * in between, this one answers for the bytes that it gets. There may be another number of values
+ * then, and TH_ROOM if it is more than `out` has places: nothing is ever written past these.
+ *
+ * TH_OBJECTS numbers are always enough. Whoever would rather make one call lends so many, and need
+ * not ask. */
+int64_t th_fill_values(const uint8_t *file, size_t file_length, const uint8_t *type,
+                       size_t type_length, const uint8_t *field, size_t field_length, uint64_t kind,
+                       uint32_t *work, size_t work_length, int64_t *out, size_t out_length);
 
 /* Writes the listing of a file, which is text, to the front of `out`. Gives its length in bytes; no
  * zero byte ends it. The rest of `out` is untouched, and a refusal leaves all of it as it was.

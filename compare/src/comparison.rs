@@ -41,6 +41,16 @@ impl Display for Mismatch {
     }
 }
 
+/// Both programs agree on each call; here one call has to keep what the other has promised: the values that were counted
+/// are written, and what cannot be counted cannot be written either.
+fn same_number(question: &Question<'_>, counted: i64, filled: i64) -> Result<(), Mismatch> {
+    if counted == filled {
+        return Ok(());
+    }
+    let text = format!("answers {counted}, and fill_values with that room {filled}\n{question}");
+    Err(Mismatch::new("number of values", text))
+}
+
 impl<'r, R: Reader> Comparison<'r, R> {
     pub fn new(reader: &'r R, seed: u64) -> Self {
         let mut random = Random::new(seed);
@@ -91,7 +101,7 @@ impl<'r, R: Reader> Comparison<'r, R> {
         self.ask_tables(origin, input, call, &tables)
     }
 
-    /// Asks once for each of these lengths of the table.
+    /// Asks once for each of these lengths of the table. A count is followed by the fill that it is for.
     pub fn ask_tables(
         &mut self,
         origin: &str,
@@ -100,12 +110,18 @@ impl<'r, R: Reader> Comparison<'r, R> {
         tables: &[usize],
     ) -> Result<(), Mismatch> {
         for &table in tables {
-            self.ask(&Question {
+            let question = Question {
                 origin,
                 input,
                 call,
                 table,
-            })?;
+            };
+            let answer = self.ask(&question)?;
+            if let Some(fill) = call.fill_for(answer) {
+                let call = &fill;
+                let filled = self.ask(&Question { call, ..question })?;
+                same_number(&question, answer, filled)?;
+            }
         }
         Ok(())
     }
@@ -120,5 +136,31 @@ impl<'r, R: Reader> Comparison<'r, R> {
     pub fn short_table(&mut self) -> usize {
         let some = self.random.index(TABLE);
         *self.random.pick(&[0, 1, TABLE - 1, some])
+    }
+}
+
+#[cfg(test)]
+mod tests {
+    use super::*;
+
+    #[test]
+    fn another_number_than_was_counted_is_seen() {
+        let call = Call::CountValues {
+            type_name: b"a".to_vec(),
+            field_name: b"b".to_vec(),
+            kind: 11,
+        };
+        let question = Question {
+            origin: "a test",
+            input: &[0, 0],
+            call: &call,
+            table: TABLE,
+        };
+        let seen = |counted, filled| same_number(&question, counted, filled).err();
+        assert!(seen(3, 3).is_none() && seen(-17, -17).is_none());
+        for (counted, filled) in [(3, 2), (3, 4), (3, -19), (0, -19), (-17, 0), (-17, -16)] {
+            let mismatch = seen(counted, filled).expect("the numbers differ");
+            assert_eq!(mismatch.part, "number of values");
+        }
     }
 }

@@ -71,7 +71,8 @@ fn tables<R: Reader>(comparison: &mut Comparison<'_, R>) -> [usize; 7] {
     [0, 1, TABLE - 1, TABLE, TABLE + 1, short, long]
 }
 
-/// How many calls a file of this length is asked, so that a few large ones do not take all the time.
+/// How many calls a file of this length is asked, so that a few large ones do not take all the time. Each count among them
+/// brings a fill with it.
 fn affordable(length: usize) -> usize {
-    12 + 1_000_000 / (length + 5_000)
+    14 + 1_900_000 / (length + 5_000)
 }

@@ -66,8 +66,8 @@ pub const TEXTS: &[Large] = &[
     Large { group: MANY, name: "a listing and a million empty lines", make: || many("pair\t0\t0\n", "\n") },
     Large { group: MANY, name: "a million pairs", make: || many("", "pair\t0\t0\n") },
     Large { group: MANY, name: "a million strings", make: || many("pair\t1000000\t0\n", "str\t\n") },
-    Large { group: MANY, name: "a million values", make: || many(&column(65_535), "val\t1\n") },
-    Large { group: MANY, name: "a million values of a million objects", make: || many(&column(MILLION), "val\t1\n") },
+    Large { group: MANY, name: "a million values", make: || many(&before_values(65_535), "val\t1\n") },
+    Large { group: MANY, name: "a million values of a million objects", make: || many(&before_values(MILLION), "val\t1\n") },
     Large { group: MANY, name: "a million old fields", make: || many("pair\t1\t1\nstr\t61\ntype\t1\t0\t-\t1\t1000000\n", "old\n") },
     Large { group: MANY, name: "a million entries", make: || many("pair\t1\t65535\nstr\t61\n", "type\t1\t-\t-\t0\t0\n") },
 ];
@@ -141,7 +141,7 @@ fn many(head: &str, line: &str) -> Vec<u8> {
 }
 
 /// The lines before the values of one v64 field.
-fn column(objects: usize) -> String {
+fn before_values(objects: usize) -> String {
     format!("pair\t1\t1\nstr\t61\ntype\t1\t0\t-\t{objects}\t1\nnew\t11\t1\n")
 }
 

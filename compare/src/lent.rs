@@ -76,7 +76,7 @@ pub struct Memory {
     pub type_name: Lent<u8>,
     pub field_name: Lent<u8>,
     pub table: Lent<u32>,
-    /// The output of a column.
+    /// The output of a field's values.
     pub out: Lent<i64>,
     /// The output of a listing or of a build.
     pub bytes: Lent<u8>,
@@ -205,19 +205,24 @@ mod tests {
 
     #[test]
     fn a_changed_part_is_seen() {
-        let call = Call::Column {
+        let count = Call::CountValues {
             type_name: b"a".to_vec(),
             field_name: b"b".to_vec(),
             kind: 11,
-            room: 2,
         };
-        let seen = |change| seen(&call, change);
-        assert_eq!(seen(|_| ()), None);
-        assert_eq!(seen(|m| m.input.numbers_mut()[0] ^= 1), Some("input"));
-        assert_eq!(seen(|m| m.type_name.cells[0] ^= 1), Some("type name"));
-        assert_eq!(seen(|m| m.field_name.cells[61] ^= 1), Some("field name"));
-        assert_eq!(seen(|m| m.table.numbers_mut()[2] ^= 1), Some("table"));
-        assert_eq!(seen(|m| m.out.cells[63] ^= 1), Some("output"));
+        let fill = count.fill_for(2).expect("a count is for a fill");
+        for call in [&count, &fill] {
+            let seen = |change| seen(call, change);
+            assert_eq!(seen(|_| ()), None);
+            assert_eq!(seen(|m| m.input.numbers_mut()[0] ^= 1), Some("input"));
+            assert_eq!(seen(|m| m.type_name.cells[0] ^= 1), Some("type name"));
+            assert_eq!(seen(|m| m.field_name.cells[61] ^= 1), Some("field name"));
+            assert_eq!(seen(|m| m.table.numbers_mut()[2] ^= 1), Some("table"));
+        }
+        // The last of two numbers, and behind it. A count is lent none, and has guards alone.
+        assert_eq!(seen(&fill, |m| m.out.numbers_mut()[1] ^= 1), Some("output"));
+        assert_eq!(seen(&fill, |m| m.out.cells[63] ^= 1), Some("output"));
+        assert_eq!(seen(&count, |m| m.out.cells[61] ^= 1), Some("output"));
     }
 
     #[test]

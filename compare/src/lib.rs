@@ -1,7 +1,7 @@
 //! Holds a reader of ledgers to the second program.
 //!
 //! Both are asked the same calls over equal memory. Afterwards the answers must be equal, and so must every number that
-//! was lent: file or text, names, work table, column, bytes, and the guards around each of them. The proved library is one
+//! was lent: file or text, names, work table, values, bytes, and the guards around each of them. The proved library is one
 //! such reader (it stands in the program, so that this part needs nothing linked); the tests put wrong ones in its place,
 //! and each must be noticed.
 //!
@@ -27,3 +27,5 @@ pub mod sheet;
 mod wrong;
 #[cfg(test)]
 mod wrong_builders;
+#[cfg(test)]
+mod wrong_values;

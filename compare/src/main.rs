@@ -42,16 +42,19 @@ fn main() -> ExitCode {
     }
 }
 
-/// All generated files and texts; it fails as well where a refusal was never met.
+/// All generated files and texts; it fails as well where a refusal was never met, or one that the call cannot give.
 fn every_file() -> Result<String, String> {
     let mut comparison = Comparison::new(&Proved, SEED);
     files::compare_all(&mut comparison).map_err(text)?;
     builds::compare_all(&mut comparison).map_err(text)?;
-    let line = comparison.met.lines();
-    match comparison.met.missing() {
-        missing if missing.is_empty() => Ok(line),
-        missing => Err(format!("{line}\nnever met: {}", missing.join(", "))),
+    let lines = comparison.met.lines();
+    let (missing, impossible) = (comparison.met.missing(), comparison.met.impossible());
+    if missing.is_empty() && impossible.is_empty() {
+        return Ok(lines);
     }
+    let missing = format!("never met: [{}]", missing.join(", "));
+    let impossible = format!("met and impossible: [{}]", impossible.join(", "));
+    Err(format!("{lines}\n{missing}\n{impossible}"))
 }
 
 fn some_mutants(count: u64) -> Result<String, String> {

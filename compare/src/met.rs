@@ -64,15 +64,25 @@ impl Met {
 
     /// The answers that a call can give and never gave.
     pub fn missing(&self) -> Vec<String> {
-        let mut missing = Vec::new();
+        self.such(|count, possible| count == 0 && possible)
+    }
+
+    /// The answers that a call cannot give and gave. Both programs did, or they would not agree.
+    pub fn impossible(&self) -> Vec<String> {
+        self.such(|count, possible| count > 0 && !possible)
+    }
+
+    /// The answers of which this holds, by how often they were given and whether they can be.
+    fn such(&self, holds: fn(u64, bool) -> bool) -> Vec<String> {
+        let mut such = Vec::new();
         for (name, answers) in NAMES.iter().zip(&self.answers) {
             for (number, &count) in answers.iter().enumerate() {
-                if count == 0 && possible(name, number) {
-                    missing.push(format!("{name} {}", named(number)));
+                if holds(count, possible(name, number)) {
+                    such.push(format!("{name} {}", named(number)));
                 }
             }
         }
-        missing
+        such
     }
 }
 
@@ -84,16 +94,41 @@ fn named(number: usize) -> String {
     }
 }
 
-/// Whether a call can give this answer. No file gets 2 or 8. Whatever is wrong with a text, or with the file it would be, is
-/// 20.
+/// Whether a call can give this answer. No file gets 2 or 8. A count is lent no output, so it never gives 19. Whatever is
+/// wrong with a text, or with the file it would be, is 20.
 fn possible(name: &str, number: usize) -> bool {
     match number {
         0 | 15 => true,
         2 | 8 => false,
-        16 => matches!(name, "objects" | "column"),
-        17 | 18 => name == "column",
-        19 => matches!(name, "column" | "listing" | "build"),
+        16 => matches!(name, "objects" | "count_values" | "fill_values"),
+        17 | 18 => matches!(name, "count_values" | "fill_values"),
+        19 => matches!(name, "fill_values" | "listing" | "build"),
         20 => name == "build",
         _ => name != "build",
+    }
+}
+
+#[cfg(test)]
+mod tests {
+    use super::*;
+
+    #[test]
+    fn an_impossible_answer_is_told() {
+        let count = Call::CountValues {
+            type_name: Vec::new(),
+            field_name: Vec::new(),
+            kind: 11,
+        };
+        let fill = count.fill_for(2).expect("a count is for a fill");
+        let mut met = Met::default();
+        for answer in [2, -17, -18] {
+            met.count(&count, answer);
+            met.count(&fill, answer);
+        }
+        met.count(&fill, -19);
+        assert_eq!(met.impossible(), Vec::<String>::new());
+        met.count(&count, -19);
+        met.count(&Call::Check, -16);
+        assert_eq!(met.impossible(), ["check #16", "count_values #19"]);
     }
 }

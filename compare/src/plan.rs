@@ -70,16 +70,16 @@ pub fn any_listings(random: &mut Random) -> Vec<Call> {
     rooms.map(|room| Call::Listing { room }).to_vec()
 }
 
-/// Two calls on a file that is refused, whatever is asked.
+/// Three calls on a file that is refused, whatever is asked.
 pub fn any_calls(random: &mut Random) -> Vec<Call> {
-    let column = Column {
+    let values = Values {
         type_name: any_name(random),
         field_name: any_name(random),
         kind: random.below(REFERENCE + 2),
         room: random.index(9),
     };
     let type_name = any_name(random).to_vec();
-    vec![Call::Objects { type_name }, column.call()]
+    vec![Call::Objects { type_name }, values.count(), values.fill()]
 }
 
 /// A name that the generator likes to give.
@@ -88,18 +88,26 @@ fn any_name(random: &mut Random) -> &'static [u8] {
     names[random.index(names.len())]
 }
 
-/// What a call for a column says.
+/// What is asked about a field's values: how many there are, and the values themselves, with so much room.
 #[derive(Clone, Copy)]
-struct Column<'a> {
+struct Values<'a> {
     type_name: &'a [u8],
     field_name: &'a [u8],
     kind: u64,
     room: usize,
 }
 
-impl Column<'_> {
-    fn call(self) -> Call {
-        Call::Column {
+impl Values<'_> {
+    fn count(self) -> Call {
+        Call::CountValues {
+            type_name: self.type_name.to_vec(),
+            field_name: self.field_name.to_vec(),
+            kind: self.kind,
+        }
+    }
+
+    fn fill(self) -> Call {
+        Call::FillValues {
             type_name: self.type_name.to_vec(),
             field_name: self.field_name.to_vec(),
             kind: self.kind,
@@ -120,13 +128,12 @@ impl Plan<'_, '_> {
     /// Names that need not be in the file at all.
     fn nothing_there(&mut self) {
         for name in [&b""[..], b"no such name"] {
-            let column = Column {
+            self.ask_wrong(Values {
                 type_name: name,
                 field_name: name,
                 kind: 11,
                 room: 3,
-            };
-            self.wrong.push(column.call());
+            });
             self.wrong.push(Call::Objects {
                 type_name: name.to_vec(),
             });
@@ -144,10 +151,10 @@ impl Plan<'_, '_> {
         }
         for &field in &own.fields {
             let field = self.ledger.fields[field];
-            let right = Column {
+            let right = Values {
                 type_name,
                 field_name: self.ledger.names.bytes(field.name),
-                // No column can be asked of an array kind, and then this is as wrong as any.
+                // No values can be asked of an array kind, and then this is as wrong as any.
                 kind: field.kind.number().min(REFERENCE),
                 room: own.objects as usize,
             };
@@ -158,58 +165,59 @@ impl Plan<'_, '_> {
         }
     }
 
-    fn with_rooms(&mut self, right: Column<'_>) {
+    /// Both calls for values that are not there, or mostly not.
+    fn ask_wrong(&mut self, values: Values<'_>) {
+        self.wrong.extend([values.count(), values.fill()]);
+    }
+
+    /// The number is asked once; it does not depend on a room.
+    fn with_rooms(&mut self, right: Values<'_>) {
+        self.right.push(right.count());
         for room in rooms(right.room, self.random) {
-            self.right.push(Column { room, ..right }.call());
+            self.right.push(Values { room, ..right }.fill());
         }
     }
 
     /// Half of them without room: 18 comes before 19.
-    fn with_kinds(&mut self, right: Column<'_>, own: u64) {
+    fn with_kinds(&mut self, right: Values<'_>, own: u64) {
         for kind in other_kinds(own) {
             let room = *self.random.pick(&[right.room, 0]);
-            let other = Column {
+            self.ask_wrong(Values {
                 kind,
                 room,
                 ..right
-            };
-            self.wrong.push(other.call());
+            });
         }
     }
 
     /// Half of them with a kind that is none: 16 and 17 come before 18.
-    fn with_names(&mut self, right: Column<'_>) {
+    fn with_names(&mut self, right: Values<'_>) {
         for name in self.near(right.field_name) {
             let kind = *self.random.pick(&[right.kind, 5]);
-            let field_name = &name[..];
-            let other = Column {
-                field_name,
+            self.ask_wrong(Values {
+                field_name: &name,
                 kind,
                 ..right
-            };
-            self.wrong.push(other.call());
+            });
         }
         for name in self.near(right.type_name) {
             let kind = *self.random.pick(&[right.kind, 5]);
-            let type_name = &name[..];
-            let other = Column {
-                type_name,
+            self.ask_wrong(Values {
+                type_name: &name,
                 kind,
                 ..right
-            };
-            self.wrong.push(other.call());
+            });
         }
     }
 
     /// A type has not the fields of others, its super types included.
-    fn with_other_types(&mut self, right: Column<'_>) {
+    fn with_other_types(&mut self, right: Values<'_>) {
         for other in self.ledger.types.iter().take(4) {
-            let other = Column {
+            self.ask_wrong(Values {
                 type_name: self.ledger.names.bytes(other.name),
                 room: right.room.max(other.objects as usize),
                 ..right
-            };
-            self.wrong.push(other.call());
+            });
         }
     }
 

@@ -15,7 +15,19 @@ extern "C" {
         work_length: usize,
     ) -> i64;
 
-    fn th_column(
+    fn th_count_values(
+        file: *const u8,
+        file_length: usize,
+        type_name: *const u8,
+        type_length: usize,
+        field_name: *const u8,
+        field_length: usize,
+        kind: u64,
+        work: *mut u32,
+        work_length: usize,
+    ) -> i64;
+
+    fn th_fill_values(
         file: *const u8,
         file_length: usize,
         type_name: *const u8,
@@ -72,11 +84,34 @@ impl Reader for Proved {
         }
     }
 
-    fn column(&self, file: &[u8], asked: Asked<'_>, table: &mut [u32], out: &mut [i64]) -> i64 {
+    fn count_values(&self, file: &[u8], asked: Asked<'_>, table: &mut [u32]) -> i64 {
+        // SAFETY: as for `check`; the names are only read.
+        unsafe {
+            th_count_values(
+                file.as_ptr(),
+                file.len(),
+                asked.type_name.as_ptr(),
+                asked.type_name.len(),
+                asked.field_name.as_ptr(),
+                asked.field_name.len(),
+                asked.kind,
+                table.as_mut_ptr(),
+                table.len(),
+            )
+        }
+    }
+
+    fn fill_values(
+        &self,
+        file: &[u8],
+        asked: Asked<'_>,
+        table: &mut [u32],
+        out: &mut [i64],
+    ) -> i64 {
         // SAFETY: as for `check`; the names are only read. The table and the output are two slices lent to be changed, so
         // they do not overlap each other or what is read.
         unsafe {
-            th_column(
+            th_fill_values(
                 file.as_ptr(),
                 file.len(),
                 asked.type_name.as_ptr(),
@@ -93,7 +128,7 @@ impl Reader for Proved {
     }
 
     fn listing(&self, file: &[u8], table: &mut [u32], text: &mut [u8]) -> i64 {
-        // SAFETY: as for `column`.
+        // SAFETY: as for `fill_values`.
         unsafe {
             th_listing(
                 file.as_ptr(),
@@ -107,7 +142,7 @@ impl Reader for Proved {
     }
 
     fn build(&self, text: &[u8], table: &mut [u32], file: &mut [u8]) -> i64 {
-        // SAFETY: as for `column`; the text is only read.
+        // SAFETY: as for `fill_values`; the text is only read.
         unsafe {
             th_build(
                 text.as_ptr(),

@@ -12,7 +12,12 @@ pub enum Call {
     Objects {
         type_name: Vec<u8>,
     },
-    Column {
+    CountValues {
+        type_name: Vec<u8>,
+        field_name: Vec<u8>,
+        kind: u64,
+    },
+    FillValues {
         type_name: Vec<u8>,
         field_name: Vec<u8>,
         kind: u64,
@@ -30,16 +35,24 @@ pub enum Call {
 }
 
 /// The names of the calls, in the order of [`Call::index`].
-pub const NAMES: [&str; 5] = ["check", "objects", "column", "listing", "build"];
+pub const NAMES: [&str; 6] = [
+    "check",
+    "objects",
+    "count_values",
+    "fill_values",
+    "listing",
+    "build",
+];
 
 impl Call {
     pub fn index(&self) -> usize {
         match self {
             Call::Check => 0,
             Call::Objects { .. } => 1,
-            Call::Column { .. } => 2,
-            Call::Listing { .. } => 3,
-            Call::Build { .. } => 4,
+            Call::CountValues { .. } => 2,
+            Call::FillValues { .. } => 3,
+            Call::Listing { .. } => 4,
+            Call::Build { .. } => 5,
         }
     }
 
@@ -48,7 +61,12 @@ impl Call {
         match self {
             Call::Check | Call::Listing { .. } | Call::Build { .. } => (&[], &[]),
             Call::Objects { type_name } => (type_name, &[]),
-            Call::Column {
+            Call::CountValues {
+                type_name,
+                field_name,
+                ..
+            }
+            | Call::FillValues {
                 type_name,
                 field_name,
                 ..
@@ -59,10 +77,28 @@ impl Call {
     /// How many numbers and how many bytes of output are lent.
     pub fn rooms(&self) -> (usize, usize) {
         match *self {
-            Call::Check | Call::Objects { .. } => (0, 0),
-            Call::Column { room, .. } => (room, 0),
+            Call::Check | Call::Objects { .. } | Call::CountValues { .. } => (0, 0),
+            Call::FillValues { room, .. } => (room, 0),
             Call::Listing { room } | Call::Build { room } => (0, room),
         }
+    }
+
+    /// The fill that a count is for: with exactly as much room as its answer says, and with none where it is refused.
+    pub fn fill_for(&self, counted: i64) -> Option<Call> {
+        let Call::CountValues {
+            type_name,
+            field_name,
+            kind,
+        } = self
+        else {
+            return None;
+        };
+        Some(Call::FillValues {
+            type_name: type_name.clone(),
+            field_name: field_name.clone(),
+            kind: *kind,
+            room: usize::try_from(counted).unwrap_or(0),
+        })
     }
 }
 
@@ -89,16 +125,17 @@ impl Question<'_> {
         } = memory;
         let (input, table) = (input.numbers(), table.numbers_mut());
         let (type_name, field_name) = (type_name.numbers(), field_name.numbers());
+        let asked = |kind| Asked {
+            type_name,
+            field_name,
+            kind,
+        };
         match *self.call {
             Call::Check => reader.check(input, table),
             Call::Objects { .. } => reader.objects(input, type_name, table),
-            Call::Column { kind, .. } => {
-                let asked = Asked {
-                    type_name,
-                    field_name,
-                    kind,
-                };
-                reader.column(input, asked, table, out.numbers_mut())
+            Call::CountValues { kind, .. } => reader.count_values(input, asked(kind), table),
+            Call::FillValues { kind, .. } => {
+                reader.fill_values(input, asked(kind), table, out.numbers_mut())
             }
             Call::Listing { .. } => reader.listing(input, table, bytes.numbers_mut()),
             Call::Build { .. } => reader.build(input, table, bytes.numbers_mut()),
@@ -113,14 +150,18 @@ impl Display for Question<'_> {
     fn fmt(&self, to: &mut Formatter<'_>) -> fmt::Result {
         write!(to, "call    {}", NAMES[self.call.index()])?;
         let (type_name, field_name) = self.call.names();
-        if let Call::Objects { .. } | Call::Column { .. } = self.call {
-            write!(to, ", type {}", hex(type_name))?;
-        }
-        if let Call::Column { kind, room, .. } = self.call {
-            write!(to, ", field {}, kind {kind}, room {room}", hex(field_name))?;
-        }
-        if let Call::Listing { room } | Call::Build { room } = self.call {
-            write!(to, ", room {room}")?;
+        let (type_name, field_name) = (hex(type_name), hex(field_name));
+        match self.call {
+            Call::Check => {}
+            Call::Objects { .. } => write!(to, ", type {type_name}")?,
+            Call::CountValues { kind, .. } => {
+                write!(to, ", type {type_name}, field {field_name}, kind {kind}")?;
+            }
+            Call::FillValues { kind, room, .. } => {
+                write!(to, ", type {type_name}, field {field_name}, kind {kind}")?;
+                write!(to, ", room {room}")?;
+            }
+            Call::Listing { room } | Call::Build { room } => write!(to, ", room {room}")?,
         }
         writeln!(to, ", table {}", self.table)?;
         write!(to, "input   {}, {} bytes", self.origin, self.input.len())?;
@@ -135,4 +176,51 @@ impl Display for Question<'_> {
 fn hex(bytes: &[u8]) -> String {
     let digits: String = bytes.iter().map(|byte| format!("{byte:02X}")).collect();
     format!("[{digits}]")
+}
+
+#[cfg(test)]
+mod tests {
+    use super::*;
+
+    fn count() -> Call {
+        Call::CountValues {
+            type_name: b"a".to_vec(),
+            field_name: b"b".to_vec(),
+            kind: 11,
+        }
+    }
+
+    #[test]
+    fn a_count_is_for_a_fill() {
+        for (counted, room) in [(0, 0), (3, 3), (-17, 0)] {
+            let fill = Call::FillValues {
+                type_name: b"a".to_vec(),
+                field_name: b"b".to_vec(),
+                kind: 11,
+                room,
+            };
+            assert_eq!(count().fill_for(counted), Some(fill.clone()));
+            assert_eq!(fill.fill_for(counted), None);
+        }
+        assert_eq!(Call::Check.fill_for(3), None);
+    }
+
+    #[test]
+    fn a_question_in_words() {
+        let said = |call: &Call| {
+            let question = Question {
+                origin: "a test",
+                input: &[0, 0x1F],
+                call,
+                table: 9,
+            };
+            question.to_string()
+        };
+        let input = "input   a test, 2 bytes\nbytes   [001F]";
+        let asked = "count_values, type [61], field [62], kind 11";
+        assert_eq!(said(&count()), format!("call    {asked}, table 9\n{input}"));
+        let fill = count().fill_for(3).expect("a count is for a fill");
+        let asked = "fill_values, type [61], field [62], kind 11, room 3";
+        assert_eq!(said(&fill), format!("call    {asked}, table 9\n{input}"));
+    }
 }

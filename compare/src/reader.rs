@@ -2,20 +2,23 @@
 
 use second::Refusal;
 
-/// The five calls as the C functions have them: an answer of 0 or more is done, one below 0 is minus the refusal number.
+/// The six calls as the C functions have them: an answer of 0 or more is done, one below 0 is minus the refusal number.
 pub trait Reader {
     fn check(&self, file: &[u8], table: &mut [u32]) -> i64;
 
     fn objects(&self, file: &[u8], type_name: &[u8], table: &mut [u32]) -> i64;
 
-    fn column(&self, file: &[u8], asked: Asked<'_>, table: &mut [u32], out: &mut [i64]) -> i64;
+    fn count_values(&self, file: &[u8], asked: Asked<'_>, table: &mut [u32]) -> i64;
+
+    fn fill_values(&self, file: &[u8], asked: Asked<'_>, table: &mut [u32], out: &mut [i64])
+        -> i64;
 
     fn listing(&self, file: &[u8], table: &mut [u32], text: &mut [u8]) -> i64;
 
     fn build(&self, text: &[u8], table: &mut [u32], file: &mut [u8]) -> i64;
 }
 
-/// Which column is asked for.
+/// Whose values are asked for, and with which kind.
 #[derive(Clone, Copy)]
 pub struct Asked<'a> {
     pub type_name: &'a [u8],
@@ -35,13 +38,29 @@ impl Reader for Second {
         number(second::objects(file, type_name, table))
     }
 
-    fn column(&self, file: &[u8], asked: Asked<'_>, table: &mut [u32], out: &mut [i64]) -> i64 {
+    fn count_values(&self, file: &[u8], asked: Asked<'_>, table: &mut [u32]) -> i64 {
         let Asked {
             type_name,
             field_name,
             kind,
         } = asked;
-        let answer = second::column(file, type_name, field_name, kind, table, out);
+        let answer = second::count_values(file, type_name, field_name, kind, table);
+        number(answer)
+    }
+
+    fn fill_values(
+        &self,
+        file: &[u8],
+        asked: Asked<'_>,
+        table: &mut [u32],
+        out: &mut [i64],
+    ) -> i64 {
+        let Asked {
+            type_name,
+            field_name,
+            kind,
+        } = asked;
+        let answer = second::fill_values(file, type_name, field_name, kind, table, out);
         number(answer)
     }
 

@@ -25,8 +25,18 @@ impl Reader for Wrong {
         Second.objects(file, type_name, table)
     }
 
-    fn column(&self, file: &[u8], asked: Asked<'_>, table: &mut [u32], out: &mut [i64]) -> i64 {
-        Second.column(file, asked, table, out)
+    fn count_values(&self, file: &[u8], asked: Asked<'_>, table: &mut [u32]) -> i64 {
+        Second.count_values(file, asked, table)
+    }
+
+    fn fill_values(
+        &self,
+        file: &[u8],
+        asked: Asked<'_>,
+        table: &mut [u32],
+        out: &mut [i64],
+    ) -> i64 {
+        Second.fill_values(file, asked, table, out)
     }
 
     fn listing(&self, file: &[u8], table: &mut [u32], text: &mut [u8]) -> i64 {

@@ -1,4 +1,4 @@
-//! The five calls over lent memory.
+//! The six calls over lent memory.
 
 use crate::bounds;
 use crate::builder;
@@ -23,8 +23,24 @@ pub fn objects(file: &[u8], type_name: &[u8], work: &mut [u32]) -> Result<usize,
     })
 }
 
-/// Writes one field's values to the front of `out`; answers how many.
-pub fn column(
+/// How many values a field has: one for each object of its type.
+pub fn count_values(
+    file: &[u8],
+    type_name: &[u8],
+    field_name: &[u8],
+    kind: u64,
+    work: &mut [u32],
+) -> Result<usize, Refusal> {
+    with_table(work, || {
+        let ledger = reader::read_into(file, &mut Nothing)?;
+        let (_, count) = asked_field(&ledger, type_name, field_name, kind)?;
+        Ok(count)
+    })
+}
+
+/// Writes a field's values to the front of `out`; answers how many, which is
+/// what [`count_values`] answers.
+pub fn fill_values(
     file: &[u8],
     type_name: &[u8],
     field_name: &[u8],
@@ -35,14 +51,7 @@ pub fn column(
     with_table(work, || {
         let mut values = Column::new(type_name, field_name, kind);
         let ledger = reader::read_into(file, &mut values)?;
-        let index = named_type(&ledger, type_name)?;
-        let field = ledger
-            .find_field(index, field_name)
-            .ok_or(Refusal::of_call(NO_FIELD))?;
-        if !columns::answers(ledger.fields[field].kind, kind) {
-            return Err(Refusal::of_call(OTHER_KIND));
-        }
-        let count = ledger.types[index].objects as usize;
+        let (field, count) = asked_field(&ledger, type_name, field_name, kind)?;
         let front = out.get_mut(..count).ok_or(Refusal::of_call(ROOM))?;
         values.fill(&ledger, field, front);
         Ok(count)
@@ -74,6 +83,23 @@ fn put(output: &[u8], out: &mut [u8]) -> Result<usize, Refusal> {
     let front = out.get_mut(..output.len()).ok_or(Refusal::of_call(ROOM))?;
     front.copy_from_slice(output);
     Ok(output.len())
+}
+
+/// The field that is asked for, and how many values it has.
+fn asked_field(
+    ledger: &Ledger<'_>,
+    type_name: &[u8],
+    field_name: &[u8],
+    kind: u64,
+) -> Result<(usize, usize), Refusal> {
+    let index = named_type(ledger, type_name)?;
+    let field = ledger
+        .find_field(index, field_name)
+        .ok_or(Refusal::of_call(NO_FIELD))?;
+    if !columns::answers(ledger.fields[field].kind, kind) {
+        return Err(Refusal::of_call(OTHER_KIND));
+    }
+    Ok((field, ledger.types[index].objects as usize))
 }
 
 fn named_type(ledger: &Ledger<'_>, name: &[u8]) -> Result<usize, Refusal> {

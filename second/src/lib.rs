@@ -1,10 +1,11 @@
 //! A reader and writer of SKilL ledgers, written from the paper alone.
 //!
 //! It is what the proved library is held against, so it shares nothing with
-//! it: no code, no tables, no ideas of how to go about it. The five calls are
-//! [`check`], [`objects`], [`column`], [`listing`] and [`build`]; they work
-//! over lent memory and leave it as the paper says. [`generate`] makes the
-//! files and listings to compare with, [`big`] the ones to measure with.
+//! it: no code, no tables, no ideas of how to go about it. The six calls are
+//! [`check`], [`objects`], [`count_values`], [`fill_values`], [`listing`] and
+//! [`build`]; they work over lent memory and leave it as the paper says.
+//! [`generate`] makes the files and listings to compare with, [`big`] the ones
+//! to measure with.
 
 #![forbid(unsafe_code)]
 
@@ -35,5 +36,5 @@ pub mod v64;
 mod values;
 pub mod vectors;
 
-pub use calls::{build, check, column, listing, objects};
+pub use calls::{build, check, count_values, fill_values, listing, objects};
 pub use refusal::Refusal;

@@ -7,14 +7,15 @@ use std::os::unix::ffi::OsStrExt;
 use std::path::Path;
 use std::process::ExitCode;
 
-use second::bounds::{FILE, OBJECTS, TABLE};
+use second::bounds::{FILE, TABLE};
 use second::generate::{self, Case};
 use second::{examples, programs, questions, tally, vectors, Refusal};
 
 const USAGE: &str = "\
 usage: second check FILE
        second objects FILE TYPE
-       second column FILE TYPE FIELD KIND
+       second count-values FILE TYPE FIELD KIND
+       second values FILE TYPE FIELD KIND
        second listing FILE
        second build FILE
        second program-print
@@ -82,17 +83,10 @@ fn run(arguments: &[OsString]) -> io::Result<Outcome> {
     match (command.to_str().unwrap_or(""), rest) {
         ("check", [file]) => Ok(check(&input(file)?)),
         ("objects", [file, name]) => Ok(objects(&input(file)?, name.as_bytes())),
-        ("column", [file, name, field, kind]) => {
-            let Some(kind) = kind.to_str().and_then(|kind| kind.parse().ok()) else {
-                return Ok(Outcome::WrongUse);
-            };
-            Ok(column(
-                &input(file)?,
-                name.as_bytes(),
-                field.as_bytes(),
-                kind,
-            ))
+        ("count-values", [file, name, field, kind]) => {
+            of_field(count_values, file, name, field, kind)
         }
+        ("values", [file, name, field, kind]) => of_field(values, file, name, field, kind),
         ("listing", [file]) => Ok(listing(&input(file)?)),
         ("build", [file]) => Ok(build(&input(file)?)),
         ("program-print", []) => program(programs::print),
@@ -149,13 +143,34 @@ fn objects(file: &[u8], name: &[u8]) -> Outcome {
     answered(second::objects(file, name, &mut table()).map(|n| format!("{n}\n").into_bytes()))
 }
 
-fn column(file: &[u8], name: &[u8], field: &[u8], kind: u64) -> Outcome {
-    let mut out = vec![0; OBJECTS as usize];
-    let answer = second::column(file, name, field, kind, &mut table(), &mut out);
-    answered(answer.map(|count| {
-        let lines = out[..count].iter().map(|value| format!("{value}\n"));
-        lines.collect::<String>().into_bytes()
-    }))
+/// Asks about a field of a file, in the terms of the command line.
+fn of_field(
+    ask: fn(&[u8], &[u8], &[u8], u64) -> Result<Vec<u8>, Refusal>,
+    file: &OsString,
+    name: &OsString,
+    field: &OsString,
+    kind: &OsString,
+) -> io::Result<Outcome> {
+    let Some(kind) = kind.to_str().and_then(|kind| kind.parse().ok()) else {
+        return Ok(Outcome::WrongUse);
+    };
+    let answer = ask(&input(file)?, name.as_bytes(), field.as_bytes(), kind);
+    Ok(answered(answer))
+}
+
+fn count_values(file: &[u8], name: &[u8], field: &[u8], kind: u64) -> Result<Vec<u8>, Refusal> {
+    let count = second::count_values(file, name, field, kind, &mut table())?;
+    Ok(format!("{count}\n").into_bytes())
+}
+
+/// Asks how many there are and lends just that much.
+fn values(file: &[u8], name: &[u8], field: &[u8], kind: u64) -> Result<Vec<u8>, Refusal> {
+    let mut work = table();
+    let count = second::count_values(file, name, field, kind, &mut work)?;
+    let mut out = vec![0; count];
+    second::fill_values(file, name, field, kind, &mut work, &mut out)?;
+    let lines = out.iter().map(|value| format!("{value}\n"));
+    Ok(lines.collect::<String>().into_bytes())
 }
 
 /// The length of a listing is not known beforehand, and a small file can have

@@ -8,7 +8,7 @@
 
 use std::fmt::Write;
 
-use crate::bounds::{FILE, OBJECTS, TABLE};
+use crate::bounds::{FILE, TABLE};
 use crate::generate::{self, notation, sentences, Case};
 use crate::reader;
 use crate::Refusal;
@@ -24,7 +24,7 @@ use lib.IntN.{ℤ, pos, negsuc}
 use Rattle.paper.specs.Reader.{Out, got, no}
 use Rattle.paper.specs.File.{file}
 use Rattle.paper.specs.Listing.{ascii}
-use Rattle.paper.specs.Calls.{Answer, done, refused, objects, column, listing, build}
+use Rattle.paper.specs.Calls.{Answer, done, refused, objects, fillValues, listing, build}
 use Rattle.paper.specs.Whole.{whole}
 ";
 
@@ -34,7 +34,7 @@ const SMALL: &str = "Small";
 /// From how many equal bytes on they are written as a run.
 const SHORTEST_RUN: usize = 5;
 
-/// The kinds that a column can be asked with.
+/// The kinds that values can be asked for with.
 const ASKED: [u64; 15] = [0, 1, 2, 3, 4, 6, 7, 8, 9, 10, 11, 12, 13, 14, 32];
 
 /// The names of the parts: the small files, and a part for each section of
@@ -158,27 +158,27 @@ fn columns(case: &Case, file: &str) -> Vec<String> {
         for &field in &known.fields {
             let field_name = ledger.names.bytes(ledger.fields[field].name);
             for kind in ASKED {
-                let mut table = vec![0; TABLE];
-                let mut out = vec![0; OBJECTS as usize];
-                let answer = crate::column(
-                    &case.bytes,
-                    type_name,
-                    field_name,
-                    kind,
-                    &mut table,
-                    &mut out,
-                );
-                if let Ok(count) = answer {
+                if let Ok(values) = values(&case.bytes, type_name, field_name, kind) {
                     claims.push(format!(
-                        "(column ({of}) ({}) {kind} {count} {TABLE} ({file}) ≡ done ({}))",
+                        "(fillValues ({of}) ({}) {kind} {} {TABLE} ({file}) ≡ done ({}))",
                         numbers(field_name),
-                        signed(&out[..count])
+                        values.len(),
+                        signed(&values)
                     ));
                 }
             }
         }
     }
     claims
+}
+
+/// The values of a field, in just as much room as they need.
+fn values(file: &[u8], name: &[u8], field: &[u8], kind: u64) -> Result<Vec<i64>, Refusal> {
+    let mut table = vec![0; TABLE];
+    let count = crate::count_values(file, name, field, kind, &mut table)?;
+    let mut out = vec![0; count];
+    crate::fill_values(file, name, field, kind, &mut table, &mut out)?;
+    Ok(out)
 }
 
 /// Bytes as a list of the checker's: known pieces at the front by their names,

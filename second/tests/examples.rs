@@ -3,7 +3,7 @@
 
 mod common;
 
-use common::{build, check, column, listing, objects};
+use common::{build, check, listing, objects, values_of};
 use second::{reader, v64};
 
 const WEAR: &[u8] = include_bytes!("../../examples/wear.skill");
@@ -15,7 +15,7 @@ const NINE_LISTING: &[u8] = include_bytes!("../../examples/nine.listing");
 const NINE_SHORT: &[u8] = include_bytes!("../../examples/nine.short.skill");
 
 fn drives(field: &[u8], kind: u64) -> Vec<i64> {
-    column(WEAR, b"drive", field, kind).unwrap()
+    values_of(WEAR, b"drive", field, kind).unwrap()
 }
 
 #[test]
@@ -49,10 +49,10 @@ fn nine_bytes_for_each_number() {
         assert_eq!(check(file), Ok(()));
         assert_eq!(objects(file, b"drive"), Ok(10));
         assert_eq!(objects(file, b"spare"), Ok(2));
-        let wear = column(file, b"drive", b"wear", 11);
+        let wear = values_of(file, b"drive", b"wear", 11);
         let expected = vec![127, 256, 402, 311, 128, 0, 300, 255, 129, 1];
         assert_eq!(wear, Ok(expected));
-        let shelf = column(file, b"drive", b"shelf", 7);
+        let shelf = values_of(file, b"drive", b"shelf", 7);
         assert_eq!(shelf, Ok(vec![5, 5, 5, 5, 5, 5, 6, 6, 6, 6]));
     }
     // No number of the padded file has fewer than nine bytes: its columns of
@@ -123,7 +123,7 @@ fn ten_slots_and_what_there_is_to_put_in_them() {
     for (name, count) in all {
         assert_eq!(objects(SLOTS, name.as_bytes()), Ok(count), "{name}");
     }
-    let wear = column(SLOTS, b"drive", b"wear", 11);
+    let wear = values_of(SLOTS, b"drive", b"wear", 11);
     assert_eq!(wear, Ok(vec![118, 127, 255, 402, 93, 0]));
 }
 
@@ -157,7 +157,7 @@ fn string(number: u64) -> String {
 
 #[test]
 fn what_sits_in_each_slot() {
-    let labels = column(SLOTS, b"slot", b"label", 14).unwrap();
+    let labels = values_of(SLOTS, b"slot", b"label", 14).unwrap();
     let holds = numbers(b"slot", b"holds");
     let table: Vec<String> = labels
         .iter()
@@ -218,7 +218,7 @@ fn ports_of_slots_and_tiers() {
 fn no_columns_of_annotations_and_maps() {
     for (owner, field) in [("slot", "holds"), ("slot", "ports"), ("tier", "ports")] {
         for kind in 0..64 {
-            let asked = column(SLOTS, owner.as_bytes(), field.as_bytes(), kind);
+            let asked = values_of(SLOTS, owner.as_bytes(), field.as_bytes(), kind);
             assert_eq!(asked, Err(18), "{owner} {field} {kind}");
         }
     }

@@ -148,21 +148,21 @@ fn big_files_are_accepted_and_as_large_as_they_should_be() {
     let file = big::subtypes(1);
     assert_eq!(common::objects(&file, b"type 0"), Ok(32 * 31));
     assert_eq!(common::objects(&file, b"type 31"), Ok(32));
-    assert!(common::column(&file, b"type 31", big::FIELD, 32).is_ok());
+    assert!(common::values_of(&file, b"type 31", big::FIELD, 32).is_ok());
     let file = big::few_annotations(1);
     assert_eq!(common::objects(&file, b"t031"), Ok(32));
     let file = big::column(1);
-    let values = common::column(&file, big::TYPE, big::FIELD, 11).unwrap();
+    let values = common::values_of(&file, big::TYPE, big::FIELD, 11).unwrap();
     assert_eq!(values.len(), 65_535);
     let file = big::references(1);
     assert_eq!(common::objects(&file, big::TYPE), Ok(32 * 2_047));
     assert_eq!(common::objects(&file, big::SUBTYPE), Ok(32 * 1_023));
-    assert!(common::column(&file, big::TYPE, big::FIELD, 32).is_ok());
+    assert!(common::values_of(&file, big::TYPE, big::FIELD, 32).is_ok());
     for (name, kind) in big::COLUMNS {
         let file = big::column_of(kind, 1);
         // A reference is asked for as one to any type.
         let asked = kind.number().min(REFERENCE);
-        let values = common::column(&file, big::TYPE, big::FIELD, asked).unwrap();
+        let values = common::values_of(&file, big::TYPE, big::FIELD, asked).unwrap();
         assert_eq!(values.len(), 65_535, "{name}");
     }
     let file = big::small_chunks(1);

@@ -8,7 +8,7 @@ use second::generate::random::Random;
 use second::generate::{self, LISTING_E};
 use second::Refusal;
 
-/// The five calls, each with tables of several lengths and random contents.
+/// The six calls, each with tables of several lengths and random contents.
 type Call<'a> = &'a dyn Fn(&mut [u32]) -> Result<usize, Refusal>;
 
 fn table(random: &mut Random, length: usize) -> Vec<u32> {
@@ -46,7 +46,8 @@ fn tables_of_every_call() {
     for file in files {
         tables(&|work| second::check(&file, work).map(|()| 0));
         tables(&|work| second::objects(&file, b"date", work));
-        tables(&|work| second::column(&file, b"date", b"date", 11, work, &mut [0; 9]));
+        tables(&|work| second::count_values(&file, b"date", b"date", 11, work));
+        tables(&|work| second::fill_values(&file, b"date", b"date", 11, work, &mut [0; 9]));
         tables(&|work| second::listing(&file, work, &mut [0; 900]));
         tables(&|work| second::listing(&file, work, &mut []));
         tables(&|work| second::build(&file, work, &mut [0; 90]));
@@ -94,21 +95,23 @@ fn rooms_of_listing_and_build() {
     }
 }
 
-#[test]
-fn rooms_of_columns() {
-    let e = bytes("E");
-    rooms(&[1, -1, 256], 77, &|out| {
-        second::column(&e, b"date", b"date", 11, &mut vec![1; TABLE], out)
+/// As many as are counted are filled in, in any room that has them.
+fn rooms_of_field(file: &[u8], name: &[u8], kind: u64, whole: &[i64]) {
+    let counted = common::count_values(file, name, name, kind);
+    assert_eq!(counted, Ok(whole.len()));
+    rooms(whole, 77, &|out| {
+        second::fill_values(file, name, name, kind, &mut vec![1; TABLE], out)
     });
+}
+
+#[test]
+fn rooms_of_values() {
+    rooms_of_field(&bytes("E"), b"date", 11, &[1, -1, 256]);
     // No objects: no room is enough.
     let none = bytes("P 01 01 00 00 00 01 00 0B 01 00");
-    rooms(&[], 77, &|out| {
-        second::column(&none, b"a", b"a", 11, &mut vec![1; TABLE], out)
-    });
+    rooms_of_field(&none, b"a", 11, &[]);
     let constant = bytes("P 01 01 00 03 00 01 00 00 FF 01 00");
-    rooms(&[-1, -1, -1], 77, &|out| {
-        second::column(&constant, b"a", b"a", 0, &mut vec![1; TABLE], out)
-    });
+    rooms_of_field(&constant, b"a", 0, &[-1, -1, -1]);
 }
 
 #[test]
@@ -122,7 +125,7 @@ fn refusals_leave_the_output_alone() {
         assert!(second::listing(&case.bytes, &mut work(), &mut text).is_err());
         assert_eq!(text, [0xA5; 600]);
         let mut values = [5; 20];
-        let answer = second::column(&case.bytes, b"a", b"a", 11, &mut work(), &mut values);
+        let answer = second::fill_values(&case.bytes, b"a", b"a", 11, &mut work(), &mut values);
         let expected = case.expected.expect("small files have an answer");
         assert_eq!(answer.unwrap_err().number, expected, "{}", case.label);
         assert_eq!(values, [5; 20]);
@@ -144,7 +147,7 @@ fn refusals_leave_the_output_alone() {
 fn eighteen_comes_before_nineteen() {
     let e = bytes("E");
     let asked = |kind, out: &mut [i64]| {
-        let answer = second::column(&e, b"date", b"date", kind, &mut vec![1; TABLE], out);
+        let answer = second::fill_values(&e, b"date", b"date", kind, &mut vec![1; TABLE], out);
         answer.map_err(|refusal| refusal.number)
     };
     assert_eq!(asked(10, &mut []), Err(18));

@@ -3,7 +3,7 @@
 
 mod common;
 
-use common::{build, bytes, check, column, listing, number, objects};
+use common::{build, bytes, check, listing, number, objects, values_of};
 use second::bounds::{FILE, TABLE};
 use second::generate::spelling::{padded, Parts};
 use second::generate::{self, Case, SEED};
@@ -74,8 +74,8 @@ fn same_columns(file: &[u8], other: &[u8], label: &str) -> usize {
         for &field in &owner.fields {
             let name = ledger.names.bytes(ledger.fields[field].name);
             let kind = ledger.fields[field].kind.number().min(REFERENCE);
-            let values = column(file, type_name, name, kind);
-            assert_eq!(values, column(other, type_name, name, kind), "{label}");
+            let values = values_of(file, type_name, name, kind);
+            assert_eq!(values, values_of(other, type_name, name, kind), "{label}");
             compared += usize::from(values.is_ok());
         }
     }
@@ -97,7 +97,7 @@ fn chance_has_padded_files_too() {
     assert!(all - accepted > 50, "{accepted} of {all}");
 }
 
-/// All that the five calls say of a file or a text.
+/// All that the six calls say of a file or a text.
 fn all_answers(input: &[u8]) -> Vec<Result<usize, Refusal>> {
     let mut table = vec![0; TABLE];
     let mut text = [0; 64];
@@ -111,8 +111,12 @@ fn all_answers(input: &[u8]) -> Vec<Result<usize, Refusal>> {
     for name in [&b"a"[..], b"date"] {
         answers.push(second::objects(input, name, &mut table));
         for kind in [4, 11, REFERENCE] {
+            let counted = second::count_values(input, name, name, kind, &mut table);
+            answers.push(counted);
             let out = &mut numbers[..];
-            answers.push(second::column(input, name, name, kind, &mut table, out));
+            answers.push(second::fill_values(
+                input, name, name, kind, &mut table, out,
+            ));
         }
     }
     answers

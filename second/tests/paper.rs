@@ -2,7 +2,7 @@
 
 mod common;
 
-use common::{build, bytes, check, column, listing, number, objects};
+use common::{build, bytes, check, count_values, listing, number, objects, values_of};
 use second::generate::spelling::padded;
 use second::generate::LISTING_E;
 use second::v64::{self, Cut};
@@ -74,7 +74,7 @@ fn every_length_of_a_coding_comes_back() {
 #[test]
 fn i8_takes_the_sign_from_its_top_bit() {
     let file = bytes("P 01 01 00 02 00 01 00 07 01 02 7F 80");
-    assert_eq!(column(&file, b"a", b"a", 7), Ok(vec![127, -128]));
+    assert_eq!(values_of(&file, b"a", b"a", 7), Ok(vec![127, -128]));
 }
 
 #[test]
@@ -86,8 +86,8 @@ fn files_d_and_e() {
     assert_eq!(check(&e), Ok(()));
     assert_eq!(objects(&d, b"date"), Ok(2));
     assert_eq!(objects(&e, b"date"), Ok(3));
-    assert_eq!(column(&d, b"date", b"date", 11), Ok(vec![1, -1]));
-    assert_eq!(column(&e, b"date", b"date", 11), Ok(vec![1, -1, 256]));
+    assert_eq!(values_of(&d, b"date", b"date", 11), Ok(vec![1, -1]));
+    assert_eq!(values_of(&e, b"date", b"date", 11), Ok(vec![1, -1, 256]));
 }
 
 #[test]
@@ -150,7 +150,7 @@ fn columns_of_every_kind() {
     let one = |kind: &str, asked: u64, end: &str, values: &str| {
         let file = bytes(&format!("P 01 01 00 02 00 01 00 {kind} 02 {end} {values}"));
         assert_eq!(objects(&file, b"a"), Ok(2));
-        column(&file, b"a", b"b", asked)
+        values_of(&file, b"a", b"b", asked)
     };
     assert_eq!(one("00 80", 0, "00", ""), Ok(vec![-128, -128]));
     assert_eq!(one("01 8000", 1, "00", ""), Ok(vec![-32_768, -32_768]));
@@ -192,15 +192,15 @@ fn other_kinds_are_refused() {
     let annotation = bytes("P 01 01 00 01 00 01 00 05 02 02 01 01");
     let map = bytes("P 01 01 00 01 00 01 00 14 02 0B 0B 02 01 00");
     let reference = bytes("P 02 01 00 01 00 00 02 00 01 00 01 00 21 02 01 00");
-    assert_eq!(column(&constant, b"a", b"b", 11), Err(18));
+    assert_eq!(values_of(&constant, b"a", b"b", 11), Err(18));
     for kind in (0..64).chain([65_535, 1 << 32, u64::MAX]) {
-        let asked = column(&constant, b"a", b"b", kind);
+        let asked = values_of(&constant, b"a", b"b", kind);
         assert_eq!(asked.is_ok(), kind == 4, "{kind}");
-        assert_eq!(column(&array, b"a", b"b", kind), Err(18));
-        assert_eq!(column(&fixed, b"a", b"b", kind), Err(18));
-        assert_eq!(column(&annotation, b"a", b"b", kind), Err(18));
-        assert_eq!(column(&map, b"a", b"b", kind), Err(18));
-        let asked = column(&reference, b"b", b"b", kind);
+        assert_eq!(values_of(&array, b"a", b"b", kind), Err(18));
+        assert_eq!(values_of(&fixed, b"a", b"b", kind), Err(18));
+        assert_eq!(values_of(&annotation, b"a", b"b", kind), Err(18));
+        assert_eq!(values_of(&map, b"a", b"b", kind), Err(18));
+        let asked = values_of(&reference, b"b", b"b", kind);
         assert_eq!(asked.is_ok(), kind == 32, "{kind}");
     }
 }
@@ -208,27 +208,48 @@ fn other_kinds_are_refused() {
 #[test]
 fn sixteen_to_eighteen_in_their_order() {
     let e = bytes("E");
-    assert_eq!(column(&e, b"datum", b"x", 99), Err(16));
-    assert_eq!(column(&e, b"date", b"x", 99), Err(17));
-    assert_eq!(column(&e, b"date", b"date", 99), Err(18));
+    assert_eq!(values_of(&e, b"datum", b"x", 99), Err(16));
+    assert_eq!(values_of(&e, b"date", b"x", 99), Err(17));
+    assert_eq!(values_of(&e, b"date", b"date", 99), Err(18));
     for kind in [5, 20] {
-        assert_eq!(column(&e, b"datum", b"x", kind), Err(16));
-        assert_eq!(column(&e, b"date", b"x", kind), Err(17));
-        assert_eq!(column(&e, b"date", b"date", kind), Err(18));
+        assert_eq!(values_of(&e, b"datum", b"x", kind), Err(16));
+        assert_eq!(values_of(&e, b"date", b"x", kind), Err(17));
+        assert_eq!(values_of(&e, b"date", b"date", kind), Err(18));
     }
-    assert_eq!(column(&e[..36], b"datum", b"x", 99), Err(1));
+    assert_eq!(values_of(&e[..36], b"datum", b"x", 99), Err(1));
     assert_eq!(objects(&e[..36], b"datum"), Err(1));
     // A string of that name is not a type of that name.
     assert_eq!(objects(&bytes("P 01 01 00 01 00 00"), b"b"), Err(16));
     // A super type's field is not the type's own.
     let tree = bytes("P 02 01 00 01 00 01 00 0B 03 01 02 01 00 01 00 00 05");
-    assert_eq!(column(&tree, b"a", b"c", 11), Ok(vec![5]));
-    assert_eq!(column(&tree, b"b", b"c", 11), Err(17));
+    assert_eq!(values_of(&tree, b"a", b"c", 11), Ok(vec![5]));
+    assert_eq!(values_of(&tree, b"b", b"c", 11), Err(17));
+}
+
+/// How many values there are: one for each object of the field's own type, and
+/// a constant has as many.
+#[test]
+fn values_are_counted_by_objects() {
+    assert_eq!(count_values(&bytes("D"), b"date", b"date", 11), Ok(2));
+    assert_eq!(count_values(&bytes("E"), b"date", b"date", 11), Ok(3));
+    // A type of three objects, and one of them below it.
+    let entries = "01 00 03 00 01 00 0B 03 03 02 01 01 01 00 02 00 07 02 04 00 00 FF 03 04";
+    let tree = bytes(&format!("P 02 {entries} 05 06 07 08"));
+    assert_eq!(count_values(&tree, b"a", b"c", 11), Ok(3));
+    assert_eq!(count_values(&tree, b"b", b"b", 7), Ok(1));
+    assert_eq!(count_values(&tree, b"b", b"c", 0), Ok(1));
+    assert_eq!(count_values(&tree, b"b", b"c", 11), Err(18));
+    assert_eq!(count_values(&tree, b"a", b"b", 7), Err(17));
+    let none = bytes("P 01 01 00 00 00 02 00 0B 01 00 00 00 FF 02 00");
+    assert_eq!(count_values(&none, b"a", b"a", 11), Ok(0));
+    assert_eq!(count_values(&none, b"a", b"b", 0), Ok(0));
+    let many = bytes("P 01 01 00 FFFF03 00 01 00 00 FF 01 00");
+    assert_eq!(count_values(&many, b"a", b"a", 0), Ok(65_535));
 }
 
 #[test]
 fn late_fields_cover_all_objects_so_far() {
     let file = bytes("D 01 00000001 78 01 01 01 02 01 00 07 02 04 09 050607");
-    assert_eq!(column(&file, b"date", b"date", 11), Ok(vec![1, -1, 9]));
-    assert_eq!(column(&file, b"date", b"x", 7), Ok(vec![5, 6, 7]));
+    assert_eq!(values_of(&file, b"date", b"date", 11), Ok(vec![1, -1, 9]));
+    assert_eq!(values_of(&file, b"date", b"x", 7), Ok(vec![5, 6, 7]));
 }

@@ -128,8 +128,12 @@ fn commands() {
         run(&["objects", "-", "x"], &e),
         (1, b"refused\t16\t0\n".to_vec())
     );
-    let column = run(&["column", "-", "date", "date", "11"], &e);
-    assert_eq!(column, (0, b"1\n-1\n256\n".to_vec()));
+    let of_date = |command, kind| run(&[command, "-", "date", "date", kind], &e);
+    assert_eq!(of_date("count-values", "11"), (0, b"3\n".to_vec()));
+    assert_eq!(of_date("values", "11"), (0, b"1\n-1\n256\n".to_vec()));
+    for command in ["count-values", "values"] {
+        assert_eq!(of_date(command, "10"), (1, b"refused\t18\t0\n".to_vec()));
+    }
     assert_eq!(run(&["listing", "-"], &e), (0, LISTING_E.into()));
     assert_eq!(run(&["build", "-"], LISTING_E.as_bytes()), (0, e));
     assert_eq!(
@@ -144,7 +148,9 @@ fn wrong_use() {
         &[][..],
         &["unknown"],
         &["check"],
-        &["column", "-", "a", "b", "c"],
+        &["count-values", "-", "a", "b", "c"],
+        &["values", "-", "a", "b", "c"],
+        &["values", "-", "a", "b"],
         &["counts", "--seed"],
         &["counts", "--sand", "1"],
         &["program-print", "x"],

@@ -4,7 +4,7 @@ mod common;
 
 use std::collections::BTreeMap;
 
-use common::{build, check, column, listing, objects};
+use common::{build, check, listing, objects, values_of};
 use second::generate;
 use second::reader;
 
@@ -50,7 +50,7 @@ fn columns(file: &[u8]) -> Columns {
         for &field in &owner.fields {
             let name = ledger.names.bytes(ledger.fields[field].name);
             let kind = ledger.fields[field].kind.number().min(32);
-            if let Ok(values) = column(file, type_name, name, kind) {
+            if let Ok(values) = values_of(file, type_name, name, kind) {
                 assert_eq!(objects(file, type_name), Ok(values.len()));
                 all.insert((type_name.to_vec(), name.to_vec()), (kind, values));
             }

@@ -3,7 +3,7 @@
 
 mod common;
 
-use common::{build, check, column, listing};
+use common::{build, check, listing, values_of};
 use second::draft::{self, kind_bytes, EntryDraft, FieldDraft, PairDraft};
 use second::generate::random::Random;
 use second::generate::{spelling, SEED};
@@ -63,7 +63,7 @@ fn numbers_of_every_length_stand_side_by_side() {
         let file = file(single(Element::V64), all.len() as u64, chunk);
         assert_eq!(check(&file), Ok(()));
         let signed: Vec<i64> = all.iter().map(|&number| number as i64).collect();
-        assert_eq!(column(&file, b"t", b"f", 11), Ok(signed.clone()));
+        assert_eq!(values_of(&file, b"t", b"f", 11), Ok(signed.clone()));
         let printed: Vec<String> = signed.iter().map(i64::to_string).collect();
         assert_eq!(lines(&file), printed);
     }

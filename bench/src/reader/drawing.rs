@@ -61,7 +61,9 @@ fn groups(all: &[Measured]) -> Vec<(&'static str, Vec<&Measured>)> {
             Call::Check => "check of a file",
             Call::Listing => "listing of a file",
             Call::Build => "build from a listing",
-            Call::Column(_) => "column of a field",
+            Call::CountValues(_) => "count_values of a field",
+            Call::FillValues(_) => "fill_values of a field",
+            Call::CountAndFill(_) => "count and fill of a field",
         };
         match groups.last_mut() {
             Some((last, members)) if *last == name => members.push(measured),

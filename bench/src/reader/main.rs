@@ -1,8 +1,9 @@
 //! The proved reader against the second program: the same files, one run, the median of several repetitions, each program
 //! in turn, so that both see the same machine, and in time of the processor, so that other work on it does not count.
 //! `rt staticlib capi` first. It prints a table; `--draw FILE` draws it as well, as an SVG, and `--figures FILE` puts its
-//! ratios into a page. Words on the command line choose the rows whose names begin with one of them, as `'check v64'` or
-//! `'column of'`, and REPETITIONS in the environment says how many there are at most, for a slow machine.
+//! ratios into a page. Words on the command line choose the rows whose names begin with one of them, as `'check v64'`,
+//! `fill_values` or `'count and fill'`, and REPETITIONS in the environment says how many there are at most, for a slow
+//! machine.
 //!
 //! What is compared: both are asked by the same calls, read the whole file, and leave the lent table cleared. The second
 //! program keeps what it reads in lists on the heap, which it makes anew for each call and drops at its end; the proved one
@@ -17,7 +18,12 @@
 //! the cost is that of an entry. Values of mixed lengths, one to nine bytes, stand in their shortest coding and, in a file
 //! of its own, in nine bytes each, as a controller writes them that fills its numbers in afterwards.
 //!
-//! The limit is a plain copy: of the file where a call only reads, of what is written where it writes. A column can be
+//! The values of a field are timed three ways. `count_values` says how many there are. `fill_values` is lent room for any
+//! field, and nothing is asked before. `count and fill` is both calls, the second with exactly as much room as the first has
+//! said; to make that room is not timed. A row of both has the fill alone timed in turn with it, and the last table divides
+//! by that: so much it costs to ask first.
+//!
+//! The limit is a plain copy: of the file where a call only reads, of what is written where it writes. A fill can be
 //! below it where its values take fewer bytes in the file than the eight that each has in memory: a copy reads as much as
 //! it writes.
 

@@ -1,4 +1,4 @@
-//! What is timed: each call on each file, and a column of each kind.
+//! What is timed: each call on each file, and on a field of each kind.
 
 use compare::reader::Second;
 use second::big::{self, Place};
@@ -65,8 +65,8 @@ const FILES: [(&str, Maker, Grows); 18] = [
     ("annotations, many pairs", big::few_annotations, Grows::Entries),
 ];
 
-/// The columns that are not of one pair and in shortest coding, and what each is asked for with.
-const OTHER_COLUMNS: [(&str, Maker, u64); 2] = [
+/// The files with a field that is not of one pair and in shortest coding, and what its values are asked for with.
+const OTHER_FIELDS: [(&str, Maker, u64); 2] = [
     ("padded v64", big::padded, 11),
     ("references over 32 pairs", big::references, REFERENCE),
 ];
@@ -82,19 +82,22 @@ pub fn all() -> Vec<Row> {
             grows,
         }));
     }
-    rows.extend(big::COLUMNS.map(|(name, kind)| Row {
-        // A reference is asked for as one to any type.
-        call: Call::Column(kind.number().min(REFERENCE)),
-        name,
-        make: Box::new(move |part| big::column_of(kind, part)),
-        grows: Grows::Bytes,
-    }));
-    rows.extend(OTHER_COLUMNS.map(|(name, make, kind)| Row {
-        call: Call::Column(kind),
-        name,
-        make: Box::new(make),
-        grows: Grows::Bytes,
-    }));
+    let of_field: [fn(u64) -> Call; 3] = [Call::CountValues, Call::FillValues, Call::CountAndFill];
+    for call in of_field {
+        rows.extend(big::COLUMNS.map(|(name, kind)| Row {
+            // A reference is asked for as one to any type.
+            call: call(kind.number().min(REFERENCE)),
+            name,
+            make: Box::new(move |part| big::column_of(kind, part)),
+            grows: Grows::Bytes,
+        }));
+        rows.extend(OTHER_FIELDS.map(|(name, make, kind)| Row {
+            call: call(kind),
+            name,
+            make: Box::new(make),
+            grows: Grows::Bytes,
+        }));
+    }
     rows
 }
 
@@ -114,7 +117,7 @@ impl Row {
         };
         let (count, written) = answer(self.call, &input);
         let limit = match self.call {
-            Call::Check => input.clone(),
+            Call::Check | Call::CountValues(_) => input.clone(),
             _ => written,
         };
         let (units, unit) = match (self.grows, self.call) {
@@ -122,7 +125,9 @@ impl Row {
             (_, Call::Check) => (length, "a byte"),
             (_, Call::Listing) => (count, "a byte of text"),
             (_, Call::Build) => (input.len(), "a byte of text"),
-            (_, Call::Column(_)) => (count, "a value"),
+            (_, Call::CountValues(_) | Call::FillValues(_) | Call::CountAndFill(_)) => {
+                (count, "a value")
+            }
         };
         Task {
             call: self.call,

@@ -1,6 +1,5 @@
 //! The table in words: a line for each size of a row, and the ratios of all rows side by side.
 
-use crate::calls::Call;
 use crate::machine;
 use crate::rows::{Row, Task, PARTS};
 use crate::timing::Times;
@@ -76,58 +75,78 @@ pub fn ratio(ratio: f64) -> String {
     }
 }
 
-/// The calls that files have, and what they are called.
-const CALLS: [(Call, &str); 3] = [
-    (Call::Check, "check"),
-    (Call::Listing, "listing"),
-    (Call::Build, "build"),
-];
+/// The calls of files, and those of fields, as they stand side by side.
+const OF_FILES: [&str; 3] = ["check", "listing", "build"];
+const OF_FIELDS: [&str; 3] = ["count_values", "fill_values", "count and fill"];
 
-/// Proved / second for all rows: files with their calls side by side, then columns.
+/// Proved / second for all rows, files first and then fields, with their calls side by side. Behind them what it costs
+/// to ask how many values there are before they are asked for.
 pub fn ratios(all: &[Measured]) -> String {
-    let is_column = |one: &&Measured| matches!(one.row.call, Call::Column(_));
-    let (columns, files): (Vec<&Measured>, Vec<&Measured>) = all.iter().partition(is_column);
-    let mut lines = Vec::new();
-    if !files.is_empty() {
-        lines.extend(heads(&CALLS.map(|(_, name)| name)));
-        lines.extend(names(&files).into_iter().map(|name| of_file(&files, name)));
-    }
-    if !files.is_empty() && !columns.is_empty() {
-        lines.push(String::new());
-    }
-    if !columns.is_empty() {
-        lines.extend(heads(&["column"]));
-        lines.extend(columns.iter().map(|one| words(one.row.name, &[cell(one)])));
-    }
-    lines.join("\n")
+    let is_of_file = |one: &&Measured| one.row.call.is_of_file();
+    let (files, fields): (Vec<&Measured>, Vec<&Measured>) = all.iter().partition(is_of_file);
+    let blocks = [
+        side_by_side(&files, OF_FILES),
+        side_by_side(&fields, OF_FIELDS),
+        asked_first(&fields),
+    ];
+    let blocks = blocks.into_iter().filter(|lines| !lines.is_empty());
+    let blocks: Vec<String> = blocks.map(|lines| lines.join("\n")).collect();
+    blocks.join("\n\n")
 }
 
-/// The names of the files, each once.
-fn names<'a>(files: &[&'a Measured]) -> Vec<&'a str> {
+/// A line for each file or field; a call that was not asked for has no figures.
+fn side_by_side(rows: &[&Measured], calls: [&str; 3]) -> Vec<String> {
+    let lines = names(rows).into_iter().map(|name| {
+        let found = calls.map(|call| found(rows, call, name));
+        let cells = found.map(|one| one.map_or(String::new(), cell));
+        words(name, &cells)
+    });
+    headed(heads("proved / second", &calls), lines.collect())
+}
+
+/// A line for each field: the time of both calls, by that of `fill_values` alone, for either program.
+fn asked_first(fields: &[&Measured]) -> Vec<String> {
+    let lines = fields.iter().filter_map(|one| {
+        let [small, middle, whole] = one.sizes.map(Times::by_fill_alone);
+        let ratios = [small?, middle?, whole?];
+        let cells = [0, 1].map(|program| sizes(ratios.map(|of| ratio(of[program]))));
+        Some(words(one.row.name, &cells))
+    });
+    let heads = heads("count and fill / fill", &["proved", "second"]);
+    headed(heads, lines.collect())
+}
+
+/// Heads before lines, if there are any.
+fn headed(heads: [String; 2], lines: Vec<String>) -> Vec<String> {
+    match lines.is_empty() {
+        true => lines,
+        false => heads.into_iter().chain(lines).collect(),
+    }
+}
+
+/// The names of the rows, each once.
+fn names<'a>(rows: &[&'a Measured]) -> Vec<&'a str> {
     let mut names = Vec::new();
-    for file in files {
-        if !names.contains(&file.row.name) {
-            names.push(file.row.name);
+    for one in rows {
+        if !names.contains(&one.row.name) {
+            names.push(one.row.name);
         }
     }
     names
 }
 
-/// A file's calls; one that was not asked for has no figures.
-fn of_file(files: &[&Measured], name: &str) -> String {
-    let cells = CALLS.map(|(call, _)| {
-        let mut found = files.iter();
-        let found = found.find(|one| one.row.call == call && one.row.name == name);
-        found.map_or(String::new(), |one| cell(one))
-    });
-    words(name, &cells)
+/// The row of a call and a name, if it was asked for.
+fn found<'a>(rows: &[&'a Measured], call: &str, name: &str) -> Option<&'a Measured> {
+    let mut rows = rows.iter();
+    let found = rows.find(|one| one.row.call.name() == call && one.row.name == name);
+    found.copied()
 }
 
-/// Two lines: the calls, and the sizes below each of them.
-fn heads(calls: &[&str]) -> [String; 2] {
-    let calls: Vec<String> = calls.iter().map(|call| call.to_string()).collect();
-    let sizes = vec![sizes(PARTS.map(part)); calls.len()];
-    [words("proved / second", &calls), words("", &sizes)]
+/// Two lines: the calls or the programs, and the sizes below each of them.
+fn heads(what: &str, names: &[&str]) -> [String; 2] {
+    let names: Vec<String> = names.iter().map(|name| name.to_string()).collect();
+    let sizes = vec![sizes(PARTS.map(part)); names.len()];
+    [words(what, &names), words("", &sizes)]
 }
 
 /// A name, and cells of one width.

@@ -1,4 +1,4 @@
-//! Medians of times, with both programs and the copy in turn.
+//! Medians of times, with both programs and the copy in turn, and with the fill alone where the row is of both calls.
 
 use std::env;
 use std::hint::black_box;
@@ -6,7 +6,7 @@ use std::time::Duration;
 
 use compare::reader::{Reader, Second};
 
-use crate::calls::Memory;
+use crate::calls::{Call, Memory};
 use crate::clock;
 use crate::proved::Proved;
 use crate::rows::Task;
@@ -27,6 +27,8 @@ pub struct Times {
     pub proved: f64,
     pub second: f64,
     pub copy: f64,
+    /// Of the fill alone, proved and second, where the call is both.
+    alone: Option<[f64; 2]>,
 }
 
 impl Times {
@@ -38,23 +40,34 @@ impl Times {
     pub fn limit(self) -> f64 {
         self.copy / self.second
     }
+
+    /// Both calls by the fill alone, proved and second, where the call is both.
+    pub fn by_fill_alone(self) -> Option<[f64; 2]> {
+        let [proved, second] = self.alone?;
+        Some([self.proved / proved, self.second / second])
+    }
 }
 
 /// What is timed in turn.
 #[derive(Clone, Copy)]
 enum Work {
-    Ask(&'static dyn Reader),
+    Ask(Call, &'static dyn Reader),
     Copy,
 }
 
-const WORKS: [Work; 3] = [Work::Ask(&Proved), Work::Ask(&Second), Work::Copy];
+/// A call by both programs, then its fill alone where it is both, and the copy.
+fn works(call: Call) -> Vec<Work> {
+    let calls = [Some(call), call.fill_alone()].into_iter().flatten();
+    let asks = calls.flat_map(|call| [Work::Ask(call, &Proved), Work::Ask(call, &Second)]);
+    asks.chain([Work::Copy]).collect()
+}
 
 impl Work {
     fn once(self, task: &Task, memory: &mut Memory) {
         match self {
-            Work::Ask(reader) => {
+            Work::Ask(call, reader) => {
                 let input = black_box(&task.input[..]);
-                black_box(task.call.ask(reader, input, memory));
+                black_box(call.ask(reader, input, memory));
             }
             Work::Copy => {
                 let limit = black_box(&task.limit[..]);
@@ -104,23 +117,25 @@ impl Timer {
     pub fn times(&mut self, task: &Task) -> Times {
         self.agree(task);
         let memory = &mut self.memory;
-        let often = WORKS.map(|work| work.often(task, memory));
-        let mut lists: [Vec<f64>; 3] = Default::default();
+        let works = works(task.call);
+        let often: Vec<u32> = works.iter().map(|work| work.often(task, memory)).collect();
+        let mut lists: Vec<Vec<f64>> = vec![Vec::new(); works.len()];
         let start = clock::now();
         for round in 0..self.repetitions {
             if round >= LEAST && clock::now() - start > ENOUGH {
                 break;
             }
-            for work in order(round) {
-                let time = WORKS[work].many(often[work], task, memory);
+            for work in order(round, works.len() - 1) {
+                let time = works[work].many(often[work], task, memory);
                 lists[work].push(time.as_nanos() as f64 / f64::from(often[work]));
             }
         }
-        let [proved, second, copy] = lists.map(median);
+        let medians: Vec<f64> = lists.into_iter().map(median).collect();
         Times {
-            proved,
-            second,
-            copy,
+            proved: medians[0],
+            second: medians[1],
+            copy: medians[works.len() - 1],
+            alone: task.call.fill_alone().map(|_| [medians[2], medians[3]]),
         }
     }
 
@@ -135,12 +150,11 @@ impl Timer {
     }
 }
 
-/// Each program comes first as often as the other, so that neither always finds what the copy has left in the cache.
-fn order(round: usize) -> [usize; 3] {
-    match round % 2 {
-        0 => [0, 1, 2],
-        _ => [1, 0, 2],
-    }
+/// So many calls and then the copy. Each call comes first as often as the others, so that none always finds what the copy
+/// has left in the cache.
+fn order(round: usize, calls: usize) -> impl Iterator<Item = usize> {
+    let turned = (0..calls).map(move |call| (call + round) % calls);
+    turned.chain([calls])
 }
 
 fn median(mut times: Vec<f64>) -> f64 {

@@ -7,14 +7,14 @@ use lib.ListN.{length}
 use Rattle.paper.specs.Reader.{no}
 use Rattle.paper.specs.Ledger.{State}
 use Rattle.paper.specs.File.{file}
-use Rattle.paper.specs.Calls.{Answer, check, objects, column}
+use Rattle.paper.specs.Calls.{Answer, check, objects, countValues, fillValues}
 use Rattle.table.specs.View.{view}
 use Rattle.numbers.specs.declared.Cursor.{Cursor}
 use Rattle.numbers.specs.declared.Refusal.{Refusal}
 use Rattle.walk.specs.FileLaws.{FileRead, toldFile}
 use Rattle.numbers.specs.declared.Step.{Step}
 use Rattle.numbers.specs.declared.Step.the-variants.{Got, No}
-use Rattle.calls.specs.Told.{answerOf, Wrote, wrote-none, countOf, check-got, objects-got, column-got, check-no, objects-no, column-no}
+use Rattle.calls.specs.Told.{answerOf, Wrote, wrote-none, countOf, valuesOf, check-got, objects-got, count-got, fill-got, check-no, objects-no, count-no, fill-no}
 use Rattle.calls.specs.Column.{Known, sees, ColumnTold}
 use Rattle.calls.specs.declared.replies.Reply.{Reply}
 use Rattle.calls.specs.declared.replies.Reply.the-variants.{Done, Refused}
@@ -32,9 +32,13 @@ module _ {f l : List ℕ} {a : Step} (F : FileRead f l a) where
     objects-accepted name {r} h =
         subst (λ (u : State). r ≡ countOf u name) (sees table-known) h ∙ sym (objects-got f (table-known .accepted .read) name)
 
-    pub column-accepted :
-        {owner name : List ℕ} {k : ℕ} {out : List ℤ} {r : Reply} {out′ : List ℤ} → ColumnTold f l owner name k out r out′ → Wrote (column owner name k (length out) 16384 f) out r out′
-    column-accepted {owner} {name} {k} {out} h = rw (column-got f (table-known .accepted .read) owner name k (length out)) (h .told table-known)
+    module _ (owner name : List ℕ) (k : ℕ) where
+      pub count-accepted : {r : Answer ℕ} → r ≡ valuesOf (view f l) owner name k → r ≡ countValues owner name k 16384 f
+      count-accepted {r} h =
+          subst (λ (u : State). r ≡ valuesOf u owner name k) (sees table-known) h ∙ sym (count-got f (table-known .accepted .read) owner name k)
+
+      pub fill-accepted : {out : List ℤ} {r : Reply} {out′ : List ℤ} → ColumnTold f l owner name k out r out′ → Wrote (fillValues owner name k (length out) 16384 f) out r out′
+      fill-accepted {out} h = rw (fill-got f (table-known .accepted .read) owner name k (length out)) (h .told table-known)
 
   module _ {e : Refusal} (is : a ≡ No e) where
     pub refused-file : file f ≡ no (e .number) (e .place)
@@ -48,5 +52,10 @@ module _ {f l : List ℕ} {a : Step} (F : FileRead f l a) where
     unfolding answerOf
     objects-refused name = sym (objects-no f refused-file name)
 
-    pub column-refused : (owner name : List ℕ) (k : ℕ) {out : List ℤ} → Wrote (column owner name k (length out) 16384 f) out (Refused (e .number)) out
-    column-refused owner name k {out} = wrote-none (column-no f refused-file owner name k (length out))
+    module _ (owner name : List ℕ) (k : ℕ) where
+      pub count-refused : answerOf (Refused (e .number)) ≡ countValues owner name k 16384 f
+      unfolding answerOf
+      count-refused = sym (count-no f refused-file owner name k)
+
+      pub fill-refused : {out : List ℤ} → Wrote (fillValues owner name k (length out) 16384 f) out (Refused (e .number)) out
+      fill-refused {out} = wrote-none (fill-no f refused-file owner name k (length out))

@@ -1,43 +1,36 @@
 -- A column of a file that was read into a table. Assumes nothing.
 use mathlib.Core.Path.{_≡_, refl, sym, ap, _∙_, subst}
-use mathlib.Core.Bool.{Bool, true, false, _&&_, _||_}
-use mathlib.Core.List.{List, [], _∷_, _++_}
-use mathlib.Core.Option.{Option, none, some}
-use Prim.Native.Nat.{ℕ, zero, suc, _+_, _-_, _*_, _^_, _≤_, _<_}
+use mathlib.Core.Bool.{true}
+use mathlib.Core.List.{List}
+use Prim.Native.Nat.{ℕ, _≤_, _<_}
 use native.Mathlib.Omega.{arith}
-use lib.Dec.{leb, ltb, eqb}
+use lib.Dec.{leb}
 use lib.IntN.{ℤ}
-use lib.ListN.{length, getD, replicate, length-append}
-use borrow.Author.Tests.{lt-ltb, leb-true, eqb-true}
-use Rattle.paper.specs.Reader.{got}
-use Rattle.paper.specs.Lists.{any, all, total, same, place, placeNamed}
-use Rattle.paper.specs.Ledger.{Kind, constant, plain, array, many, Field, Range, Ledger, State, nothing, typeNamed, fieldNamed, fieldAt, noField, called?, of?, size, objectsOf, holds?, object?}
-use Rattle.paper.specs.File.{file}
-use Rattle.paper.specs.Places.{Spot, spots}
+use lib.ListN.{length, getD, replicate}
+use Rattle.paper.specs.Ledger.{Kind, constant, plain, Field, Ledger, State, nothing, fieldAt, noField, objectsOf}
+use Rattle.paper.specs.Places.{spots}
 use Rattle.paper.specs.Rules.{singleKind?}
-use Rattle.paper.specs.Calls.{done, known, objects, column, ask, asked, fieldValues, columnBy, columnOf, overFront}
-use Rattle.laws.specs.Bools.{and-split}
+use Rattle.paper.specs.Calls.{done, refused, need, _>>_, known, asked, sought, fieldValues, columnBy, columnOf, overFront}
 use Rattle.laws.specs.Says.{Bytes}
-use Rattle.laws.specs.Columns.{Grows, named-found}
+use Rattle.laws.specs.Columns.{Grows}
+use Rattle.laws.specs.Asked.{Asks, Taken}
 use Rattle.laws.specs.Lengths.{column-length}
-use Rattle.laws.specs.Refill.{Fills, file-fills}
-use Rattle.table.specs.View.{kindFrom, namesOf, titlesOf, fldsOf, logOf, chunksOf, view, said, Said, Holds}
+use Rattle.laws.specs.Refill.{file-fills}
+use Rattle.table.specs.View.{kindFrom, fldsOf, chunksOf, view, said, Said, Holds}
 use Rattle.table.specs.Answers.{fieldIn}
-use Rattle.table.specs.Asks.{found}
-use Rattle.table.specs.declared.rows.FieldRow.{FieldRow}
-use Rattle.table.specs.declared.names.Found.{Found}
-use Rattle.table.specs.declared.names.Found.the-variants.{At, Nothing}
-use Rattle.walk.specs.Few.{linkable-below}
 use Rattle.values.specs.Listed.{other-single}
+use Rattle.walk.specs.Few.{linkable-below}
 use Rattle.walk.specs.Listed.{with-element, row-kinds}
-use Rattle.calls.specs.Kinds.{asked-map, asked-annotation}
 use Rattle.walk.specs.FileLaws.{Accepted}
+use Rattle.calls.specs.Kinds.{asked-map, asked-annotation}
 use Rattle.calls.specs.Fill.{ColumnReady, ColumnStored}
-use Rattle.calls.specs.Told.{Wrote, wrote-none, wrote-all, objects-got, column-got, countOf, count-some, ask-16, ask-17, ask-18, ask-19, ask-done}
+use Rattle.calls.specs.Told.{Wrote, wrote-none, wrote-all, columnIn, column-none, column-some, room-19, room-done}
+use Rattle.calls.specs.Sought.{Here, declared, has-column}
+use Rattle.calls.specs.declared.asks.Wanted.{Wanted}
 use Rattle.calls.specs.declared.replies.Reply.{Reply}
 use Rattle.calls.specs.declared.replies.Reply.the-variants.{Done, Refused}
 
--- ── what a call promises ──
+-- ── what is promised ──
 
 -- the table is that of an accepted file
 pub record Known (f l : List ℕ) : Type 0 where
@@ -47,22 +40,26 @@ pub record Known (f l : List ℕ) : Type 0 where
 abbrev ledgerOf : {f l : List ℕ} → Known f l → Ledger
 ledgerOf K = K .accepted .ledger
 
--- field i, whose row is given, has a column of n values, and there is room for them
-pub record StoreReady (f l : List ℕ) (i : ℕ) (row : FieldRow) (n : ℕ) (out : List ℤ) : Type 0 where
+-- what is wanted is a field with a column, of as many values as its type has objects
+pub record Ready (f l : List ℕ) (w : Wanted) : Type 0 where
   pub table : Known f l
   pub type : ℕ
-  pub there : i < length (fldsOf l)
-  pub row-is : fieldIn row ≡ getD (fldsOf l) i noField
-  pub columnar : asked (kindFrom (row .kind) (row .a) (row .e)) ≤ 32
-  pub objects-are : objectsOf (known (ledgerOf table)) type ≡ n
-  pub values-are : length (columnOf (ledgerOf table) type i) ≡ n
-  pub room : n ≤ length out
+  pub there : w .at < length (fldsOf l)
+  pub row-is : fieldIn (w .row) ≡ getD (fldsOf l) (w .at) noField
+  pub columnar : asked (kindFrom (w .row .kind) (w .row .a) (w .row .e)) ≤ 32
+  pub objects-are : objectsOf (known (ledgerOf table)) type ≡ w .objects
+  pub values-are : length (columnOf (ledgerOf table) type (w .at)) ≡ w .objects
 
-pub record Stored (f l : List ℕ) (i : ℕ) (row : FieldRow) (n : ℕ) (out out′ : List ℤ) : Type 0 where
-  pub stored : (R : StoreReady f l i row n out) → out′ ≡ overFront (columnOf (ledgerOf (R .table)) (R .type) i) out
+-- with room for them, they stand at the front
+pub record Stored (f l : List ℕ) (w : Wanted) (out out′ : List ℤ) : Type 0 where
+  pub stored : (R : Ready f l w) → w .objects ≤ length out → out′ ≡ overFront (columnOf (ledgerOf (R .table)) (R .type) (w .at)) out
+
+-- whatever room there is
+pub record WantedTold (f l : List ℕ) (w : Wanted) (out : List ℤ) (r : Reply) (out′ : List ℤ) : Type 0 where
+  pub told : (R : Ready f l w) → Wrote (need (leb (w .objects) (length out)) 19 >> done (columnOf (ledgerOf (R .table)) (R .type) (w .at))) out r out′
 
 pub record ColumnTold (f l type field : List ℕ) (k : ℕ) (out : List ℤ) (r : Reply) (out′ : List ℤ) : Type 0 where
-  pub told : (K : Known f l) → Wrote (ask type field k (length out) (known (ledgerOf K)) (columnOf (ledgerOf K))) out r out′
+  pub told : (K : Known f l) → Wrote (columnIn (ledgerOf K) type field k (length out)) out r out′
 
 -- ── what the table says is what is known of the ledger ──
 
@@ -78,166 +75,101 @@ module _ {f l : List ℕ} (K : Known f l) where
 
 -- ── storing ──
 
-module _ {f l : List ℕ} {i : ℕ} {row : FieldRow} {n : ℕ} {out : List ℤ} where
-  kind-is : (R : StoreReady f l i row n out) → fieldAt (known (ledgerOf (R .table))) i .kind ≡ kindFrom (row .kind) (row .a) (row .e)
+module _ {f l : List ℕ} {w : Wanted} where
+  kind-is : (R : Ready f l w) → fieldAt (known (ledgerOf (R .table))) (w .at) .kind ≡ kindFrom (w .row .kind) (w .row .a) (w .row .e)
   unfolding fieldAt
   kind-is R =
-      subst (λ (u : State). getD (u .fields) i noField .kind ≡ kindFrom (row .kind) (row .a) (row .e)) (sees (R .table)) (sym (ap (λ (d : Field). d .kind) (R .row-is)))
+      subst (λ (u : State). getD (u .fields) (w .at) noField .kind ≡ kindFrom (w .row .kind) (w .row .a) (w .row .e)) (sees (R .table)) (sym (ap (λ (d : Field). d .kind) (R .row-is)))
 
   -- the column, where the kind is known
-  column-is : (R : StoreReady f l i row n out) {x : Kind} → kindFrom (row .kind) (row .a) (row .e) ≡ x → columnOf (ledgerOf (R .table)) (R .type) i ≡ columnBy x (ledgerOf (R .table)) (R .type) i
+  column-is : (R : Ready f l w) {x : Kind} → kindFrom (w .row .kind) (w .row .a) (w .row .e) ≡ x → columnOf (ledgerOf (R .table)) (R .type) (w .at) ≡ columnBy x (ledgerOf (R .table)) (R .type) (w .at)
   unfolding columnOf
-  column-is R is = ap (λ (x : Kind). columnBy x (ledgerOf (R .table)) (R .type) i) (kind-is R ∙ is)
+  column-is R is = ap (λ (x : Kind). columnBy x (ledgerOf (R .table)) (R .type) (w .at)) (kind-is R ∙ is)
 
   pub stored-constant :
-      {y z : ℤ} {out′ : List ℤ} → ((e : ℕ) → kindFrom (row .kind) (row .a) e ≡ constant (row .kind) z) → y ≡ z → out′ ≡ overFront (replicate n y) out
-      → Stored f l i row n out out′
+      {y z : ℤ} {out out′ : List ℤ} → ((e : ℕ) → kindFrom (w .row .kind) (w .row .a) e ≡ constant (w .row .kind) z) → y ≡ z → out′ ≡ overFront (replicate (w .objects) y) out
+      → Stored f l w out out′
   unfolding columnBy
-  stored-constant is same stands = record { stored = λ R. rw (column-is R (is (row .e)), R .objects-are, ← same) stands }
+  stored-constant is same stands = record { stored = λ R fits. rw (column-is R (is (w .row .e)), R .objects-are, ← same) stands }
 
-  module _ (h : 4 < row .kind) where
-    is-plain : StoreReady f l i row n out → kindFrom (row .kind) (row .a) (row .e) ≡ plain (row .e)
+  module _ (h : 4 < w .row .kind) where
+    is-plain : Ready f l w → kindFrom (w .row .kind) (w .row .a) (w .row .e) ≡ plain (w .row .e)
     unfolding asked
     is-plain R =
-        with-element (λ x. asked x ≤ 32 → x ≡ plain (row .e)) (row .kind) (row .a) (row .e) h (λ q. absurd (omega arith)) (λ q. absurd (omega arith)) (λ is q. absurd (omega arith)) (λ q. refl)
+        with-element (λ x. asked x ≤ 32 → x ≡ plain (w .row .e)) (w .row .kind) (w .row .a) (w .row .e) h (λ q. absurd (omega arith)) (λ q. absurd (omega arith)) (λ is q. absurd (omega arith)) (λ q. refl)
         (R .columnar)
 
     -- what has a column is neither a map nor an annotation
-    is-single : StoreReady f l i row n out → singleKind? (row .e) ≡ true
+    is-single : Ready f l w → singleKind? (w .row .e) ≡ true
     is-single R =
-        let kinds = row-kinds (fldsOf l) i (row .owner) (row .kind) (row .a) (row .e) (R .table .accepted .steady .listed) (R .there) (R .row-is) in
-        let none : asked (plain (row .e)) ≤ 32 = rw (is-plain R) at (R .columnar) in
-        other-single (row .e) (kinds .element h (λ is. omega (arith, asked-map (row .kind) (row .e) is (row .a), R .columnar))) (λ is. omega (arith, asked-annotation (row .e) is))
+        let kinds = row-kinds (fldsOf l) (w .at) (w .row .owner) (w .row .kind) (w .row .a) (w .row .e) (R .table .accepted .steady .listed) (R .there) (R .row-is) in
+        let none : asked (plain (w .row .e)) ≤ 32 = rw (is-plain R) at (R .columnar) in
+        other-single (w .row .e) (kinds .element h (λ is. omega (arith, asked-map (w .row .kind) (w .row .e) is (w .row .a), R .columnar))) (λ is. omega (arith, asked-annotation (w .row .e) is))
 
-    values-of : (R : StoreReady f l i row n out) → columnOf (ledgerOf (R .table)) (R .type) i ≡ fieldValues i nothing (ledgerOf (R .table))
+    values-of : (R : Ready f l w) → columnOf (ledgerOf (R .table)) (R .type) (w .at) ≡ fieldValues (w .at) nothing (ledgerOf (R .table))
     unfolding columnBy
     values-of R = column-is R (is-plain R)
 
-    pub column-ready : StoreReady f l i row n out → ColumnReady f l i (row .e) out
-    column-ready R =
+    pub column-ready : {out : List ℤ} → Ready f l w × (w .objects ≤ length out) → ColumnReady f l (w .at) (w .row .e) out
+    column-ready (R, fits) =
         let K = R .table in
-        let all = file-fills f (ledgerOf K) (K .at) i (K .accepted .read) in
+        let all = file-fills f (ledgerOf K) (K .at) (w .at) (K .accepted .read) in
         record {
           holds = still-holds K;
           listed = is-single R;
           state = known (ledgerOf K);
-          values = fieldValues i nothing (ledgerOf K);
+          values = fieldValues (w .at) nothing (ledgerOf K);
           fills = rw (kind-is R ∙ is-plain R, chunks-are K) at all;
-          linkable = λ s g. linkable-below (still-holds K) (K .accepted .steady .low) (row .e) s (subst (λ (u : State). Grows s u) (sym (sees K)) g);
-          room = omega (arith, R .values-are, ap length (values-of R), R .room);
+          linkable = λ s g. linkable-below (still-holds K) (K .accepted .steady .low) (w .row .e) s (subst (λ (u : State). Grows s u) (sym (sees K)) g);
+          room = omega (arith, R .values-are, ap length (values-of R));
         }
 
-    pub stored-column : {out′ : List ℤ} → ColumnStored f l i (row .e) out out′ → Stored f l i row n out out′
+    pub stored-column : {out out′ : List ℤ} → ColumnStored f l (w .at) (w .row .e) out out′ → Stored f l w out out′
     unfolding column-ready
-    stored-column S = record { stored = λ R. rw (values-of R) (S .stored (column-ready R)) }
+    stored-column S = record { stored = λ R fits. rw (values-of R) (S .stored (column-ready (R, fits))) }
 
--- ── what the table's lookups find ──
+-- ── the ways out ──
 
-module _ (f l : List ℕ) (type : List ℕ) (a : Found) (A : found a ≡ place (same type) 0 (namesOf f l)) where
-  pub no-type : a ≡ Nothing → typeNamed (view f l) type ≡ none
-  unfolding typeNamed
-  no-type is = sym A ∙ ap found is
+module _ (f l : List ℕ) (w : Wanted) (out : List ℤ) where
+  pub no-room : length out < w .objects → WantedTold f l w out (Refused 19) out
+  no-room lt = record { told = λ R. wrote-none (room-19 (w .objects) (length out) _ lt) }
 
-  pub a-type : {t : ℕ} → a ≡ At t → typeNamed (view f l) type ≡ some t
-  unfolding typeNamed
-  a-type is = sym A ∙ ap found is
+  pub room-enough : {out′ : List ℤ} → w .objects ≤ length out → Stored f l w out out′ → WantedTold f l w out (Done (w .objects)) out′
+  room-enough fits S = record { told = λ R. wrote-all (room-done (w .objects) (length out) _ fits) (R .values-are) (S .stored R fits) }
 
-module _ (f l : List ℕ) (t : ℕ) (field : List ℕ) (b : Found) (B : found b ≡ placeNamed (called? t field) 0 (fldsOf l) (titlesOf f l)) where
-  pub no-field : b ≡ Nothing → fieldNamed (view f l) t field ≡ none
-  unfolding fieldNamed
-  no-field is = sym B ∙ ap found is
-
-  pub a-field : {i : ℕ} → b ≡ At i → fieldNamed (view f l) t field ≡ some i
-  unfolding fieldNamed
-  a-field is = sym B ∙ ap found is
-
--- a field that is found is declared
-pub declared : (f l : List ℕ) (t : ℕ) (field : List ℕ) {i : ℕ} → fieldNamed (view f l) t field ≡ some i → i < length (fldsOf l)
-unfolding fieldNamed
-declared f l t field {i} h =
-    let (j, at, lt, _) = named-found (called? t field) noField 0 i (fldsOf l) (titlesOf f l) h in
-    omega arith
-
--- ── the ways out of a column ──
-
--- what is asked for is there: field i of type t, with this row, and n objects
-pub record Asked (f l type field : List ℕ) (t i : ℕ) (row : FieldRow) (n : ℕ) : Type 0 where
-  pub type-is : typeNamed (view f l) type ≡ some t
-  pub field-is : fieldNamed (view f l) t field ≡ some i
-  pub row-is : fieldIn row ≡ getD (fldsOf l) i noField
-  pub count-is : n ≡ total (of? t) size (logOf l)
-
-pub asked-of :
-    (f l type field : List ℕ) (row : FieldRow) {t i n : ℕ} → typeNamed (view f l) type ≡ some t → fieldNamed (view f l) t field ≡ some i → fieldIn row ≡ getD (fldsOf l) i noField
-    → n ≡ total (of? t) size (logOf l) → Asked f l type field t i row n
-asked-of f l type field row a b c d = record { type-is = a; field-is = b; row-is = c; count-is = d }
-
--- whether a column of the row's kind is asked for
-abbrev pub asksFor : ℕ → FieldRow → Bool
-asksFor k row = eqb k (asked (kindFrom (row .kind) (row .a) (row .e))) && leb k 32
-
-module _ (f l type field : List ℕ) (k : ℕ) (out : List ℤ) where
+module _ {f l : List ℕ} (K : Known f l) where
   -- it is enough to look at the table
-  told : {r : Reply} {out′ : List ℤ} → ((K : Known f l) → Wrote (ask type field k (length out) (view f l) (columnOf (ledgerOf K))) out r out′) → ColumnTold f l type field k out r out′
-  told {r} {out′} h = record { told = λ K. subst (λ (u : State). Wrote (ask type field k (length out) u (columnOf (ledgerOf K))) out r out′) (sees K) (h K) }
+  known-asks : {type field : List ℕ} {k t i : ℕ} → Asks (view f l) type field k t i → Asks (known (ledgerOf K)) type field k t i
+  known-asks {type} {field} {k} {t} {i} Q = subst (λ (s : State). Asks s type field k t i) (sees K) Q
 
-  pub told-16 : typeNamed (view f l) type ≡ none → ColumnTold f l type field k out (Refused 16) out
-  told-16 h = told (λ K. wrote-none (ask-16 (view f l) type field k (length out) (columnOf (ledgerOf K)) h))
+  known-objects : (t : ℕ) {n : ℕ} → objectsOf (view f l) t ≡ n → objectsOf (known (ledgerOf K)) t ≡ n
+  known-objects t {n} h = subst (λ (s : State). objectsOf s t ≡ n) (sees K) h
 
-  pub told-17 : {t : ℕ} → typeNamed (view f l) type ≡ some t → fieldNamed (view f l) t field ≡ none → ColumnTold f l type field k out (Refused 17) out
-  told-17 h h₁ = told (λ K. wrote-none (ask-17 (view f l) type field k (length out) (columnOf (ledgerOf K)) h h₁))
+  module _ {type field : List ℕ} {k : ℕ} {w : Wanted} (H : Here f l type field k w) (bytes : Bytes f) where
+    -- as many values as there are objects
+    values-count : length (columnOf (ledgerOf K) (H .t) (w .at)) ≡ w .objects
+    values-count =
+        let T : Taken type field k f = record { ledger = ledgerOf K; end = K .at; t = H .t; i = w .at; read = K .accepted .read; asks = known-asks (H .asks) } in
+        column-length bytes T ∙ known-objects (H .t) (H .count-is)
 
-  module _ {t i : ℕ} {row : FieldRow} {n : ℕ} (Q : Asked f l type field t i row n) where
-    asks-is : (x : Bool) → asksFor k row ≡ x → (eqb k (asked (fieldAt (view f l) i .kind)) && leb k 32) ≡ x
-    unfolding fieldAt
-    asks-is x h = subst (λ (d : Field). (eqb k (asked (d .kind)) && leb k 32) ≡ x) (Q .row-is) h
+    pub wanted-ready : Ready f l w
+    wanted-ready =
+        record {
+          table = K;
+          type = H .t;
+          there = declared f l (H .t) field (H .asks .fielded);
+          row-is = H .row-is;
+          columnar = has-column H;
+          objects-are = known-objects (H .t) (H .count-is);
+          values-are = values-count;
+        }
 
-    count-here : objectsOf (view f l) t ≡ n
-    unfolding objectsOf
-    count-here = sym (Q .count-is)
+module _ {f l type field : List ℕ} {k : ℕ} {out : List ℤ} where
+  pub told-none : {n : ℕ} → sought type field k (view f l) ≡ refused n → ColumnTold f l type field k out (Refused n) out
+  told-none {n} h =
+      record { told = λ K. wrote-none (column-none (ledgerOf K) type field k (length out) (subst (λ (s : State). sought type field k s ≡ refused n) (sees K) h)) }
 
-    pub told-18 : asksFor k row ≡ false → ColumnTold f l type field k out (Refused 18) out
-    told-18 h = told (λ K. wrote-none (ask-18 (view f l) type field k (length out) (columnOf (ledgerOf K)) (Q .type-is) (Q .field-is) (asks-is false h)))
-
-    module _ (is-asked : asksFor k row ≡ true) where
-      pub told-19 : length out < n → ColumnTold f l type field k out (Refused 19) out
-      told-19 lt =
-          told
-          (λ K. wrote-none
-          (ask-19 (view f l) type field k (length out) (columnOf (ledgerOf K)) (Q .type-is) (Q .field-is) (asks-is true is-asked) (omega (arith, count-here))))
-
-      module _ (room : n ≤ length out) (bytes : Bytes f) where
-        all-asked : (K : Known f l) → ask type field k (length out) (view f l) (columnOf (ledgerOf K)) ≡ done (columnOf (ledgerOf K) t i)
-        all-asked K =
-            ask-done (view f l) type field k (length out) (columnOf (ledgerOf K)) (Q .type-is) (Q .field-is) (asks-is true is-asked) (omega (arith, count-here))
-
-        -- as many values as there are objects
-        values-count : (K : Known f l) → length (columnOf (ledgerOf K) t i) ≡ n
-        values-count K =
-            let is = K .accepted .read in
-            let all : ask type field k (length out) (known (ledgerOf K)) (columnOf (ledgerOf K)) ≡ done (columnOf (ledgerOf K) t i) =
-            subst (λ (u : State). ask type field k (length out) u (columnOf (ledgerOf K)) ≡ done (columnOf (ledgerOf K) t i)) (sees K) (all-asked K) in
-            let (have, _) = column-length type field k (length out) 16384 f (columnOf (ledgerOf K) t i) bytes (column-got f is type field k (length out) ∙ all) in
-            let here : done n ≡ countOf (view f l) type = count-some (view f l) type (Q .type-is) (sym count-here) in
-            let there : done n ≡ countOf (known (ledgerOf K)) type = subst (λ (u : State). done n ≡ countOf u type) (sees K) here in
-            let two : done n ≡ done (length (columnOf (ledgerOf K) t i)) = there ∙ sym (objects-got f is type) ∙ have in
-            sym (cc two)
-
-        pub store-ready : Known f l → StoreReady f l i row n out
-        store-ready K =
-            record {
-              table = K;
-              type = t;
-              there = declared f l t field (Q .field-is);
-              row-is = Q .row-is;
-              columnar =
-                  (let (a₁, a₂) = and-split (eqb k (asked (kindFrom (row .kind) (row .a) (row .e)))) (leb k 32) is-asked in
-                  omega (arith, eqb-true k (asked (kindFrom (row .kind) (row .a) (row .e))) a₁, leb-true k 32 a₂));
-              objects-are = subst (λ (u : State). objectsOf u t ≡ n) (sees K) count-here;
-              values-are = values-count K;
-              room = room;
-            }
-
-        pub told-column : {out′ : List ℤ} → Stored f l i row n out out′ → ColumnTold f l type field k out (Done n) out′
-        unfolding store-ready
-        told-column S = told (λ K. wrote-all (all-asked K) (values-count K) (S .stored (store-ready K)))
+  pub told-wanted :
+      {w : Wanted} {r : Reply} {out′ : List ℤ} → Bytes f → Here f l type field k w → WantedTold f l w out r out′ → ColumnTold f l type field k out r out′
+  unfolding wanted-ready
+  told-wanted bytes H W = record { told = λ K. rw (column-some (ledgerOf K) type field k (length out) (known-asks K (H .asks)), known-objects K (H .t) (H .count-is)) (W .told (wanted-ready K H bytes)) }

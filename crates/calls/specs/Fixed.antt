@@ -4,13 +4,13 @@ use mathlib.Core.List.{List, []}
 use Prim.Native.Nat.{ℕ}
 use native.Mathlib.Omega.{arith}
 use lib.IntN.{ℤ}
-use Rattle.paper.specs.Calls.{Answer, done, refused, Left, afterCheck, afterObjects, afterColumn}
+use Rattle.paper.specs.Calls.{Answer, done, refused, Left, afterCheck, afterObjects, afterCount, afterFill}
 use Rattle.calls.specs.Told.{answerOf, after}
 use Rattle.calls.specs.declared.replies.Reply.{Reply}
 use Rattle.calls.specs.declared.replies.Reply.the-variants.{Done, Refused}
 
 -- two replies that say the same are the same
-same-reply : (r q : Reply) → answerOf r ≡ answerOf q → r ≡ q
+pub same-reply : (r q : Reply) → answerOf r ≡ answerOf q → r ≡ q
 unfolding answerOf
 same-reply (Done n) (Done m) h = let z : n ≡ m = cc h in ap (λ (x : ℕ). Done x) z
 same-reply (Done n) (Refused m) h = let z : _≡_ {A = ℕ} 0 1 = cc h in absurd (omega arith)
@@ -30,7 +30,10 @@ module _ (file work : List ℕ) {r q : Reply} {w v : List ℕ} where
   pub objects-fixed : (name : List ℕ) → after r w [] ≡ afterObjects file name work → after q v [] ≡ afterObjects file name work → (r ≡ q) × (w ≡ v)
   objects-fixed name a b = let (x, y, _) = one-way a b in (x, y)
 
-  pub column-fixed :
-      (owner name : List ℕ) (k : ℕ) (out : List ℤ) {o p : List ℤ} → after r w o ≡ afterColumn file owner name k work out
-      → after q v p ≡ afterColumn file owner name k work out → (r ≡ q) × (w ≡ v) × (o ≡ p)
-  column-fixed owner name k out a b = one-way a b
+  module _ (owner name : List ℕ) (k : ℕ) where
+    pub count-fixed : after r w [] ≡ afterCount file owner name k work → after q v [] ≡ afterCount file owner name k work → (r ≡ q) × (w ≡ v)
+    count-fixed a b = let (x, y, _) = one-way a b in (x, y)
+
+    pub fill-fixed :
+        (out : List ℤ) {o p : List ℤ} → after r w o ≡ afterFill file owner name k work out → after q v p ≡ afterFill file owner name k work out → (r ≡ q) × (w ≡ v) × (o ≡ p)
+    fill-fixed out a b = one-way a b

@@ -1,4 +1,4 @@
--- The three calls, by the length of the lent work table. Assumes nothing.
+-- The four calls, by the length of the lent work table. Assumes nothing.
 use mathlib.Core.Path.{_≡_, refl, sym, ap, _∙_}
 use mathlib.Core.List.{List, [], _∷_, _++_}
 use Prim.Native.Nat.{ℕ, _≤_, _<_}
@@ -18,7 +18,8 @@ use Rattle.paper.specs.Calls.{
   read,
   check,
   objects,
-  column,
+  countValues,
+  fillValues,
   cleared,
   leftIn,
   howMany,
@@ -27,7 +28,8 @@ use Rattle.paper.specs.Calls.{
   writes,
   afterCheck,
   afterObjects,
-  afterColumn,
+  afterCount,
+  afterFill,
 }
 use Rattle.table.specs.Counts.{noughts}
 use Rattle.calls.specs.Told.{answerOf, after, Wrote}
@@ -53,9 +55,14 @@ module _ (f w : List ℕ) (lt : length w < 16384) where
   unfolding afterObjects tells objects _>>=_ answerOf
   objects-short name = rw (read-short, untouched)
 
-  pub column-short : (owner name : List ℕ) (k : ℕ) (out : List ℤ) → after (Refused 15) w out ≡ afterColumn f owner name k w out
-  unfolding afterColumn writes column _>>=_ answerOf howMany leftIn
-  column-short owner name k out = rw (read-short, untouched)
+  module _ (owner name : List ℕ) (k : ℕ) where
+    pub count-short : after (Refused 15) w [] ≡ afterCount f owner name k w
+    unfolding afterCount tells countValues _>>=_ answerOf
+    count-short = rw (read-short, untouched)
+
+    pub fill-short : (out : List ℤ) → after (Refused 15) w out ≡ afterFill f owner name k w out
+    unfolding afterFill writes fillValues _>>=_ answerOf howMany leftIn
+    fill-short out = rw (read-short, untouched)
 
 -- ── a table that is long enough ──
 
@@ -81,7 +88,11 @@ module _ (f w : List ℕ) (le : 16384 ≤ length w) where
     unfolding afterObjects tells objects
     objects-long name h = rw (read-long, noughts-first, left, h)
 
-    pub column-long :
-        (owner name : List ℕ) (k : ℕ) {out out′ : List ℤ} → Wrote (column owner name k (length out) 16384 f) out r out′ → after r (t ++ drop 16384 w) out′ ≡ afterColumn f owner name k w out
-    unfolding afterColumn writes column
-    column-long owner name k h = rw (read-long, noughts-first, left, h .says, h .left)
+    module _ (owner name : List ℕ) (k : ℕ) where
+      pub count-long : answerOf r ≡ countValues owner name k 16384 f → after r (t ++ drop 16384 w) [] ≡ afterCount f owner name k w
+      unfolding afterCount tells countValues
+      count-long h = rw (read-long, noughts-first, left, h)
+
+      pub fill-long : {out out′ : List ℤ} → Wrote (fillValues owner name k (length out) 16384 f) out r out′ → after r (t ++ drop 16384 w) out′ ≡ afterFill f owner name k w out
+      unfolding afterFill writes fillValues
+      fill-long h = rw (read-long, noughts-first, left, h .says, h .left)

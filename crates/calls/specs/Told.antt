@@ -28,13 +28,15 @@ use Rattle.paper.specs.Calls.{
   objects,
   columnOf,
   asked,
-  ask,
-  column,
+  sought,
+  countValues,
+  fillValues,
   overFront,
   Left,
   leftIn,
   howMany,
 }
+use Rattle.laws.specs.Asked.{Asks, asks-sought}
 use Rattle.calls.specs.declared.replies.Reply.{Reply}
 use Rattle.calls.specs.declared.replies.Reply.the-variants.{Done, Refused}
 
@@ -74,6 +76,19 @@ countOf s type = do
   t ← found (typeNamed s type) 16
   done (objectsOf s t)
 
+-- how many values the field has that is asked for
+unfoldable pub valuesOf : State → List ℕ → List ℕ → ℕ → Answer ℕ
+valuesOf s type field k = do
+  (t, i) ← sought type field k s
+  done (objectsOf s t)
+
+-- and these values
+unfoldable pub columnIn : Ledger → List ℕ → List ℕ → ℕ → ℕ → Answer (List ℤ)
+columnIn l type field k room = do
+  (t, i) ← sought type field k (known l)
+  need (leb (objectsOf (known l) t) room) 19
+  done (columnOf l t i)
+
 module _ (f : List ℕ) where
   module _ {l : Ledger} {at : ℕ} (is : file f ≡ got l at) where
     pub read-got : read 16384 f ≡ done l
@@ -88,9 +103,14 @@ module _ (f : List ℕ) where
     unfolding objects countOf _>>=_
     objects-got type = rw read-got
 
-    pub column-got : (type field : List ℕ) (k room : ℕ) → column type field k room 16384 f ≡ ask type field k room (known l) (columnOf l)
-    unfolding column _>>=_
-    column-got type field k room = rw read-got
+    module _ (type field : List ℕ) (k : ℕ) where
+      pub count-got : countValues type field k 16384 f ≡ valuesOf (known l) type field k
+      unfolding countValues valuesOf _>>=_
+      count-got = rw read-got
+
+      pub fill-got : (room : ℕ) → fillValues type field k room 16384 f ≡ columnIn l type field k room
+      unfolding fillValues columnIn _>>=_
+      fill-got room = rw read-got
 
   module _ {n p : ℕ} (is : file f ≡ no n p) where
     pub read-no : read 16384 f ≡ refused n
@@ -105,9 +125,14 @@ module _ (f : List ℕ) where
     unfolding objects _>>=_
     objects-no type = rw read-no
 
-    pub column-no : (type field : List ℕ) (k room : ℕ) → column type field k room 16384 f ≡ refused n
-    unfolding column _>>=_
-    column-no type field k room = rw read-no
+    module _ (type field : List ℕ) (k : ℕ) where
+      pub count-no : countValues type field k 16384 f ≡ refused n
+      unfolding countValues _>>=_
+      count-no = rw read-no
+
+      pub fill-no : (room : ℕ) → fillValues type field k room 16384 f ≡ refused n
+      unfolding fillValues _>>=_
+      fill-no room = rw read-no
 
 -- ── 16, 17, 18, 19 ──
 
@@ -120,26 +145,42 @@ module _ (s : State) (type : List ℕ) where
   unfolding countOf found _>>=_
   count-some h e = rw (h, e)
 
-  module _ (field : List ℕ) (k room : ℕ) (values : ℕ → ℕ → List ℤ) where
-    pub ask-16 : typeNamed s type ≡ none → ask type field k room s values ≡ refused 16
-    unfolding ask found _>>=_
-    ask-16 h = rw h
+  module _ (field : List ℕ) (k : ℕ) where
+    pub sought-16 : typeNamed s type ≡ none → sought type field k s ≡ refused 16
+    unfolding sought found _>>=_
+    sought-16 h = rw h
 
     module _ {t : ℕ} (h : typeNamed s type ≡ some t) where
-      pub ask-17 : fieldNamed s t field ≡ none → ask type field k room s values ≡ refused 17
-      unfolding ask found _>>=_
-      ask-17 h₁ = rw (h, h₁)
+      pub sought-17 : fieldNamed s t field ≡ none → sought type field k s ≡ refused 17
+      unfolding sought found _>>=_
+      sought-17 h₁ = rw (h, h₁)
 
-      module _ {i : ℕ} (h₁ : fieldNamed s t field ≡ some i) where
-        pub ask-18 : (eqb k (asked (fieldAt s i .kind)) && leb k 32) ≡ false → ask type field k room s values ≡ refused 18
-        unfolding ask found _>>=_ _>>_ need
-        ask-18 h₂ = rw (h, h₁, h₂)
+      pub sought-18 : {i : ℕ} → fieldNamed s t field ≡ some i → (eqb k (asked (fieldAt s i .kind)) && leb k 32) ≡ false → sought type field k s ≡ refused 18
+      unfolding sought found _>>=_ _>>_ need
+      sought-18 h₁ h₂ = rw (h, h₁, h₂)
 
-        module _ (h₂ : (eqb k (asked (fieldAt s i .kind)) && leb k 32) ≡ true) where
-          pub ask-19 : room < objectsOf s t → ask type field k room s values ≡ refused 19
-          unfolding ask found _>>=_ _>>_ need
-          ask-19 h₃ = rw (h, h₁, h₂, lt-leb (objectsOf s t) room h₃)
+    pub values-none : {n : ℕ} → sought type field k s ≡ refused n → refused n ≡ valuesOf s type field k
+    unfolding valuesOf _>>=_
+    values-none h = rw h
 
-          pub ask-done : objectsOf s t ≤ room → ask type field k room s values ≡ done (values t i)
-          unfolding ask found _>>=_ _>>_ need
-          ask-done h₃ = rw (h, h₁, h₂, le-leb (objectsOf s t) room h₃)
+    pub values-some : {t i n : ℕ} → Asks s type field k t i → n ≡ objectsOf s t → done n ≡ valuesOf s type field k
+    unfolding valuesOf _>>=_
+    values-some Q e = rw (asks-sought Q, e)
+
+module _ (l : Ledger) (type field : List ℕ) (k room : ℕ) where
+  pub column-none : {n : ℕ} → sought type field k (known l) ≡ refused n → columnIn l type field k room ≡ refused n
+  unfolding columnIn _>>=_
+  column-none h = rw h
+
+  pub column-some : {t i : ℕ} → Asks (known l) type field k t i → columnIn l type field k room ≡ (need (leb (objectsOf (known l) t) room) 19 >> done (columnOf l t i))
+  unfolding columnIn _>>=_
+  column-some Q = rw (asks-sought Q)
+
+module _ (n room : ℕ) (vs : List ℤ) where
+  pub room-19 : room < n → (need (leb n room) 19 >> done vs) ≡ refused 19
+  unfolding need _>>_ _>>=_
+  room-19 h = rw (lt-leb n room h)
+
+  pub room-done : n ≤ room → (need (leb n room) 19 >> done vs) ≡ done vs
+  unfolding need _>>_ _>>=_
+  room-done h = rw (le-leb n room h)

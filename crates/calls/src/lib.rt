@@ -7,12 +7,13 @@ ghost use mathlib.Core.Path.{_≡_};
 ghost use mathlib.Core.List.{[]};
 ghost use lib.ListN.{length};
 ghost use Rattle.paper.specs.Bounds.{tableLength};
-ghost use Rattle.paper.specs.Calls.{check, objects, column, afterCheck, afterObjects, afterColumn};
+ghost use Rattle.paper.specs.Calls.{check, objects, countValues, fillValues, afterCheck, afterObjects, afterCount, afterFill};
 ghost use Rattle.table.specs.Counts.{noughts};
 ghost use Rattle.walk.specs.FileLaws.{FileRead};
 ghost use Rattle.calls.specs.Told.{answerOf, Wrote, after};
 use asks::count_objects;
-use asks::write_column;
+use asks::tell_count;
+use asks::write_values;
 use numbers::Step;
 use paper::Ledger;
 use replies::Reply;
@@ -30,7 +31,17 @@ fn objects_read(a: Step, file: &[u8], work: &[u32], name: &[u8]) -> Reply
     }
 }
 
-fn column_read(
+fn count_read(a: Step, file: &[u8], work: &[u32], owner: &[u8], name: &[u8], k: u64) -> Reply
+    requires { ⌜ FileRead (now file) (now work) a ⌝ }
+    ensures { λ r. ⌜ answerOf r ≡ countValues (now (owner .entry)) (now (name .entry)) k tableLength (now (file .entry)) ⌝ }
+{
+    match a {
+        Step::Got(_) => tell_count(file, work, owner, name, k),
+        Step::No(e) => Reply::Refused(e.number),
+    }
+}
+
+fn fill_read(
     a: Step,
     file: &[u8],
     work: &[u32],
@@ -40,15 +51,15 @@ fn column_read(
     out: &mut [i64],
 ) -> Reply
     requires { ⌜ FileRead (now file) (now work) a ⌝ }
-    ensures { λ r. ⌜ Wrote (column (now (owner .entry)) (now (name .entry)) k (length (now (out .entry))) tableLength (now (file .entry))) (now (out .entry)) r (now (out .exit)) ⌝ }
+    ensures { λ r. ⌜ Wrote (fillValues (now (owner .entry)) (now (name .entry)) k (length (now (out .entry))) tableLength (now (file .entry))) (now (out .entry)) r (now (out .exit)) ⌝ }
 {
     match a {
-        Step::Got(_) => write_column(file, work, owner, name, k, out),
+        Step::Got(_) => write_values(file, work, owner, name, k, out),
         Step::No(e) => Reply::Refused(e.number),
     }
 }
 
-// The three calls over a table of just the length that reading needs: whatever stood in it, noughts are left.
+// The four calls over a table of just the length that reading needs: whatever stood in it, noughts are left.
 
 fn check_in(file: &[u8], table: &mut [u32]) -> Reply
     requires { ⌜ length (now table) ≡ tableLength ⌝ }
@@ -72,7 +83,17 @@ fn objects_in(file: &[u8], name: &[u8], table: &mut [u32]) -> Reply
     r
 }
 
-fn column_in(
+fn count_in(file: &[u8], owner: &[u8], name: &[u8], k: u64, table: &mut [u32]) -> Reply
+    requires { ⌜ length (now table) ≡ tableLength ⌝ }
+    ensures { λ r. ⌜ (answerOf r ≡ countValues (now (owner .entry)) (now (name .entry)) k tableLength (now (file .entry))) × (now (table .exit) ≡ noughts) ⌝ }
+{
+    let a = read(file, table);
+    let r = count_read(a, file, table, owner, name, k);
+    clear(table);
+    r
+}
+
+fn fill_in(
     file: &[u8],
     owner: &[u8],
     name: &[u8],
@@ -81,10 +102,10 @@ fn column_in(
     out: &mut [i64],
 ) -> Reply
     requires { ⌜ length (now table) ≡ tableLength ⌝ }
-    ensures { λ r. ⌜ Wrote (column (now (owner .entry)) (now (name .entry)) k (length (now (out .entry))) tableLength (now (file .entry))) (now (out .entry)) r (now (out .exit)) × (now (table .exit) ≡ noughts) ⌝ }
+    ensures { λ r. ⌜ Wrote (fillValues (now (owner .entry)) (now (name .entry)) k (length (now (out .entry))) tableLength (now (file .entry))) (now (out .entry)) r (now (out .exit)) × (now (table .exit) ≡ noughts) ⌝ }
 {
     let a = read(file, table);
-    let r = column_read(a, file, table, owner, name, k, out);
+    let r = fill_read(a, file, table, owner, name, k, out);
     clear(table);
     r
 }
@@ -111,8 +132,19 @@ pub fn objects(file: &[u8], name: &[u8], work: &mut [u32]) -> Reply
     objects_in(file, name, &mut work[..needed])
 }
 
-// The column of a field, by the names of its type and its own and by its kind: its values are the first numbers of `out`.
-pub fn column(
+// How many values a field has, by the names of its type and its own and by its kind.
+pub fn count_values(file: &[u8], owner: &[u8], name: &[u8], k: u64, work: &mut [u32]) -> Reply
+    ensures { λ r. ⌜ after r (now (work .exit)) [] ≡ afterCount (now (file .entry)) (now (owner .entry)) (now (name .entry)) k (now (work .entry)) ⌝ }
+{
+    let needed = Ledger::TABLE as usize;
+    if work.len() < needed {
+        return Reply::Refused(15);
+    }
+    count_in(file, owner, name, k, &mut work[..needed])
+}
+
+// These values themselves, which become the first numbers of `out`.
+pub fn fill_values(
     file: &[u8],
     owner: &[u8],
     name: &[u8],
@@ -120,11 +152,11 @@ pub fn column(
     work: &mut [u32],
     out: &mut [i64],
 ) -> Reply
-    ensures { λ r. ⌜ after r (now (work .exit)) (now (out .exit)) ≡ afterColumn (now (file .entry)) (now (owner .entry)) (now (name .entry)) k (now (work .entry)) (now (out .entry)) ⌝ }
+    ensures { λ r. ⌜ after r (now (work .exit)) (now (out .exit)) ≡ afterFill (now (file .entry)) (now (owner .entry)) (now (name .entry)) k (now (work .entry)) (now (out .entry)) ⌝ }
 {
     let needed = Ledger::TABLE as usize;
     if work.len() < needed {
         return Reply::Refused(15);
     }
-    column_in(file, owner, name, k, &mut work[..needed], out)
+    fill_in(file, owner, name, k, &mut work[..needed], out)
 }

@@ -8,12 +8,12 @@ use lib.IntN.{ℤ, pos, negsuc, negℤ}
 use lib.ListN.{length}
 use borrow.Author.Tests.{le-leb}
 use Rattle.paper.specs.Reader.{if_then_else_}
-use Rattle.paper.specs.Calls.{Answer, done, refused, check, objects, column, listing, build, howMany, Left, tells, writes, afterCheck, afterObjects, afterColumn, afterListing, afterBuild}
+use Rattle.paper.specs.Calls.{Answer, done, refused, check, objects, countValues, fillValues, listing, build, howMany, Left, tells, writes, afterCheck, afterObjects, afterCount, afterFill, afterListing, afterBuild}
 use Rattle.laws.specs.Says.{Bytes}
 use Rattle.paper.specs.Listing.{print}
 use Rattle.laws.specs.Columns.{bind-done}
 use Rattle.laws.specs.Promises.{fitted-inv}
-use Rattle.laws.specs.Answers.{Refusal, check-refusals, objects-refusals, column-refusals, listing-refusals, build-refusals, objects-most, column-most, build-most}
+use Rattle.laws.specs.Answers.{Refusal, check-refusals, objects-refusals, count-refusals, fill-refusals, listing-refusals, build-refusals, objects-most, count-most, fill-most, build-most}
 use Rattle.calls.specs.Told.{answerOf, after}
 use Rattle.calls.specs.declared.replies.Reply.{Reply}
 
@@ -117,13 +117,22 @@ module _ (f w : List ℕ) where
       go (done n) is = plain-done n (omega (arith, objects-most type (length w) f n bytes is))
       go (refused n) is = plain-refusal n (objects-refusals type (length w) f n is)
 
-  pub column-plain : Bytes f → (type field : List ℕ) (k : ℕ) (out : List ℤ) → Plain (afterColumn f type field k w out .answer)
-  unfolding afterColumn writes howMany
-  column-plain bytes type field k out = go (column type field k (length out) (length w) f) refl
-    where
-      go : (a : Answer (List ℤ)) → column type field k (length out) (length w) f ≡ a → Plain (howMany a)
-      go (done c) is = plain-done (length c) (omega (arith, column-most type field k (length out) (length w) f c bytes is))
-      go (refused n) is = plain-refusal n (column-refusals type field k (length out) (length w) f n is)
+  module _ (bytes : Bytes f) (type field : List ℕ) (k : ℕ) where
+    pub count-plain : Plain (afterCount f type field k w .answer)
+    unfolding afterCount tells
+    count-plain = go (countValues type field k (length w) f) refl
+      where
+        go : (a : Answer ℕ) → countValues type field k (length w) f ≡ a → Plain a
+        go (done n) is = plain-done n (omega (arith, count-most type field k (length w) f n bytes is))
+        go (refused n) is = plain-refusal n (count-refusals type field k (length w) f n is .0)
+
+    pub fill-plain : (out : List ℤ) → Plain (afterFill f type field k w out .answer)
+    unfolding afterFill writes howMany
+    fill-plain out = go (fillValues type field k (length out) (length w) f) refl
+      where
+        go : (a : Answer (List ℤ)) → fillValues type field k (length out) (length w) f ≡ a → Plain (howMany a)
+        go (done c) is = plain-done (length c) (omega (arith, fill-most type field k (length out) (length w) f c bytes is))
+        go (refused n) is = plain-refusal n (fill-refusals type field k (length out) (length w) f n is)
 
   pub listing-plain : (out : List ℕ) → length out < 9223372036854775808 → Plain (afterListing f w out .answer)
   unfolding afterListing writes howMany listing

@@ -2,12 +2,13 @@
 ghost use mathlib.Core.Path.{_≡_};
 ghost use mathlib.Core.List.{[]};
 ghost use lib.IntN.{pos};
-ghost use Rattle.paper.specs.Calls.{afterCheck, afterObjects, afterColumn, afterListing, afterBuild};
+ghost use Rattle.paper.specs.Calls.{afterCheck, afterObjects, afterCount, afterFill, afterListing, afterBuild};
 ghost use Rattle.calls.specs.Told.{answerOf};
 ghost use Rattle.capi.specs.Coded.{upToTop, codedUpTo, Coded};
 use build::build;
 use calls::check;
-use calls::column;
+use calls::count_values;
+use calls::fill_values;
 use calls::objects;
 use calls::replies::Reply;
 use listing::listing;
@@ -47,9 +48,23 @@ pub extern "C" fn th_objects(file: &[u8], name: &[u8], work: &mut [u32]) -> i64
     one_number(objects(file, name, work))
 }
 
-// The column of a field, by the names of its type and its own and by its kind: its values are the first numbers of `out`.
+// How many values a field has, by the names of its type and its own and by its kind.
 #[no_mangle]
-pub extern "C" fn th_column(
+pub extern "C" fn th_count_values(
+    file: &[u8],
+    owner: &[u8],
+    name: &[u8],
+    k: u64,
+    work: &mut [u32],
+) -> i64
+    ensures { λ z. ⌜ Coded z (now (work .exit)) [] (afterCount (now (file .entry)) (now (owner .entry)) (now (name .entry)) k (now (work .entry))) ⌝ }
+{
+    one_number(count_values(file, owner, name, k, work))
+}
+
+// These values themselves, which become the first numbers of `out`.
+#[no_mangle]
+pub extern "C" fn th_fill_values(
     file: &[u8],
     owner: &[u8],
     name: &[u8],
@@ -57,9 +72,9 @@ pub extern "C" fn th_column(
     work: &mut [u32],
     out: &mut [i64],
 ) -> i64
-    ensures { λ z. ⌜ Coded z (now (work .exit)) (now (out .exit)) (afterColumn (now (file .entry)) (now (owner .entry)) (now (name .entry)) k (now (work .entry)) (now (out .entry))) ⌝ }
+    ensures { λ z. ⌜ Coded z (now (work .exit)) (now (out .exit)) (afterFill (now (file .entry)) (now (owner .entry)) (now (name .entry)) k (now (work .entry)) (now (out .entry))) ⌝ }
 {
-    one_number(column(file, owner, name, k, work, out))
+    one_number(fill_values(file, owner, name, k, work, out))
 }
 
 // The listing of a file: its bytes are the first of `out`.

@@ -9,8 +9,8 @@ use lib.ListN.{length, drop, replicate, length-append, length-replicate}
 use borrow.Author.Tests.{le-leb, lt-leb}
 use Rattle.paper.specs.Reader.{if_then_else_}
 use Rattle.paper.specs.Bounds.{tableLength}
-use Rattle.paper.specs.Calls.{Answer, done, refused, Left, cleared, writes, tells, afterCheck, afterObjects, afterColumn, afterListing, afterBuild}
-use Rattle.laws.specs.Answers.{Refusal, check-refusals, objects-refusals, column-refusals, listing-refusals, build-refusals}
+use Rattle.paper.specs.Calls.{Answer, done, refused, Left, cleared, writes, tells, afterCheck, afterObjects, afterCount, afterFill, afterListing, afterBuild}
+use Rattle.laws.specs.Answers.{Refusal, check-refusals, objects-refusals, count-refusals, fill-refusals, listing-refusals, build-refusals}
 use Rattle.calls.specs.Told.{answerOf, after}
 use Rattle.calls.specs.Fixed.{one-way}
 use Rattle.calls.specs.declared.replies.Reply.{Reply}
@@ -36,10 +36,12 @@ module _ {r q : Reply} {w v : List ℕ} where
   pub one-objects : (f type work : List ℕ) → after r w [] ≡ afterObjects f type work → after q v [] ≡ afterObjects f type work → (r ≡ q) × (w ≡ v)
   one-objects f type work a b = let (x, y, _) = one-way a b in (x, y)
 
-  pub one-column :
-      (f type field : List ℕ) (k : ℕ) (work : List ℕ) (out : List ℤ) {o p : List ℤ} → after r w o ≡ afterColumn f type field k work out
-      → after q v p ≡ afterColumn f type field k work out → (r ≡ q) × (w ≡ v) × (o ≡ p)
-  one-column f type field k work out a b = one-way a b
+  module _ (f type field : List ℕ) (k : ℕ) (work : List ℕ) where
+    pub one-count : after r w [] ≡ afterCount f type field k work → after q v [] ≡ afterCount f type field k work → (r ≡ q) × (w ≡ v)
+    one-count a b = let (x, y, _) = one-way a b in (x, y)
+
+    pub one-fill : (out : List ℤ) {o p : List ℤ} → after r w o ≡ afterFill f type field k work out → after q v p ≡ afterFill f type field k work out → (r ≡ q) × (w ≡ v) × (o ≡ p)
+    one-fill out a b = one-way a b
 
   pub one-listing : (f work out : List ℕ) {o p : List ℕ} → after r w o ≡ afterListing f work out → after q v p ≡ afterListing f work out → (r ≡ q) × (w ≡ v) × (o ≡ p)
   one-listing f work out a b = one-way a b
@@ -58,10 +60,15 @@ module _ (n : ℕ) {w : List ℕ} where
   unfolding afterObjects answerOf
   objects-refusal f type work c = objects-refusals type (length work) f n (sym (tells-answer _ work (Refused n) c))
 
-  pub column-refusal :
-      (f type field : List ℕ) (k : ℕ) (work : List ℕ) (out : List ℤ) {o : List ℤ} → after (Refused n) w o ≡ afterColumn f type field k work out → Refusal n
-  unfolding afterColumn
-  column-refusal f type field k work out c = column-refusals type field k (length out) (length work) f n (was-refused _ work out (Refused n) c n refl .0)
+  module _ (f type field : List ℕ) (k : ℕ) (work : List ℕ) where
+    -- the first of the pair never gives 19
+    pub count-refusal : after (Refused n) w [] ≡ afterCount f type field k work → Refusal n × (n ≡ 19 → ⊥)
+    unfolding afterCount answerOf
+    count-refusal c = count-refusals type field k (length work) f n (sym (tells-answer _ work (Refused n) c))
+
+    pub fill-refusal : (out : List ℤ) {o : List ℤ} → after (Refused n) w o ≡ afterFill f type field k work out → Refusal n
+    unfolding afterFill
+    fill-refusal out c = fill-refusals type field k (length out) (length work) f n (was-refused _ work out (Refused n) c n refl .0)
 
   pub listing-refusal : (f work out : List ℕ) {o : List ℕ} → after (Refused n) w o ≡ afterListing f work out → Refusal n
   unfolding afterListing
@@ -92,11 +99,12 @@ pub work-after :
     (f t type field work out : List ℕ) (k : ℕ) (numbers : List ℤ)
     → (afterCheck f work .table ≡ cleared work) ×
     (afterObjects f type work .table ≡ cleared work) ×
-    (afterColumn f type field k work numbers .table ≡ cleared work) ×
+    (afterCount f type field k work .table ≡ cleared work) ×
+    (afterFill f type field k work numbers .table ≡ cleared work) ×
     (afterListing f work out .table ≡ cleared work) ×
     (afterBuild t work out .table ≡ cleared work)
-unfolding afterCheck afterObjects afterColumn afterListing afterBuild writes tells
-work-after f t type field work out k numbers = (refl, refl, refl, refl, refl)
+unfolding afterCheck afterObjects afterCount afterFill afterListing afterBuild writes tells
+work-after f t type field work out k numbers = (refl, refl, refl, refl, refl, refl)
 
 -- a refusal leaves the output untouched; else what stands behind the first n is untouched
 pub record OutputKept {A : Type 0} (out : List A) (left : Left A) : Type 0 where
@@ -113,9 +121,9 @@ writes-kept a work out =
       done-rest = λ n h. let (vs, _, count, is) = was-done a work out (Done n) h n refl in rest-kept n vs _ out count is;
     }
 
-pub column-kept : (f type field : List ℕ) (k : ℕ) (work : List ℕ) (out : List ℤ) → OutputKept out (afterColumn f type field k work out)
-unfolding afterColumn
-column-kept f type field k work out = writes-kept _ work out
+pub fill-kept : (f type field : List ℕ) (k : ℕ) (work : List ℕ) (out : List ℤ) → OutputKept out (afterFill f type field k work out)
+unfolding afterFill
+fill-kept f type field k work out = writes-kept _ work out
 
 pub listing-kept : (f work out : List ℕ) → OutputKept out (afterListing f work out)
 unfolding afterListing
@@ -124,10 +132,3 @@ listing-kept f work out = writes-kept _ work out
 pub build-kept : (t work out : List ℕ) → OutputKept out (afterBuild t work out)
 unfolding afterBuild
 build-kept t work out = writes-kept _ work out
-
--- after a question for a column a work table that was long enough is so again
-pub column-work :
-    (f type field : List ℕ) (k : ℕ) (work : List ℕ) (out : List ℤ) (r : Reply) (w : List ℕ) (o : List ℤ) → after r w o ≡ afterColumn f type field k work out
-    → tableLength ≤ length work → tableLength ≤ length w
-unfolding afterColumn writes
-column-work f type field k work out r w o c h = let z : w ≡ cleared work = ap (λ (x : Left ℤ). x .table) c in rw z (cleared-length work h)

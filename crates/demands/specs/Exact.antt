@@ -16,16 +16,16 @@ use Rattle.paper.specs.Ledger.{Ledger, typeNamed, fieldNamed, fieldAt, objectsO
 use Rattle.paper.specs.Encode.{encode}
 use Rattle.paper.specs.Spell.{Spells}
 use Rattle.paper.specs.Keeps.{keeps?}
-use Rattle.paper.specs.Calls.{Answer, done, refused, need, found, answered, read, check, known, objects, columnOf, asked, ask, column, afterCheck, afterObjects, afterColumn, _>>=_, _>>_}
+use Rattle.paper.specs.Calls.{Answer, done, refused, need, found, answered, read, check, known, objects, columnOf, sought, countValues, fillValues, afterCheck, afterObjects, afterCount, afterFill, _>>=_, _>>_}
 use Rattle.laws.specs.Says.{Bytes}
 use Rattle.laws.specs.Bools.{and-split, and-join}
 use Rattle.laws.specs.Longer.{file-length}
 use Rattle.laws.specs.Shortest.{encode-short}
 use Rattle.laws.specs.Exact.{file-kept}
-use Rattle.laws.specs.Columns.{bind-done, then-done, found-done, answered-done}
+use Rattle.laws.specs.Asked.{Asks, asks-sought, Taken, count-done, fill-done}
 use Rattle.laws.specs.Lengths.{column-length}
-use Rattle.laws.specs.Promises.{Accepted, accepted-exactly, encode-accepted, says-one, check-exactly, need-inv}
-use Rattle.calls.specs.Told.{answerOf, after, ask-done}
+use Rattle.laws.specs.Promises.{Accepted, accepted-exactly, encode-accepted, says-one, check-exactly}
+use Rattle.calls.specs.Told.{answerOf, after}
 use Rattle.calls.specs.declared.replies.Reply.{Reply}
 use Rattle.calls.specs.declared.replies.Reply.the-variants.{Done, Refused}
 use Rattle.demands.specs.Replies.{said-done, says-done, tells-answer, written, was-done}
@@ -69,14 +69,7 @@ accepts-exactly f work {r} b h c =
       (λ x. said-done r 0 (A ∙ E .1 (x .0, x .1 .keeps, x .1 .spells, x .1 .short))),
     )
 
--- ── what is asked for ──
-
--- a type and a field of the ledger, by their names, of a kind that columns are given for, asked for by that kind
-pub record Asks (l : Ledger) (type field : List ℕ) (k t i : ℕ) : Type 0 where
-  pub typed : typeNamed (known l) type ≡ some t
-  pub fielded : fieldNamed (known l) t field ≡ some i
-  pub kind : k ≡ asked (fieldAt (known l) i .kind)
-  pub given : k ≤ 32
+-- ── what a file that follows the rules is answered ──
 
 module _ (f : List ℕ) (l : Ledger) (F : Follows f l) where
   pub follows-bytes : Bytes f
@@ -95,43 +88,26 @@ module _ (f : List ℕ) (l : Ledger) (F : Follows f l) where
   unfolding objects found _>>=_
   objects-done type t table h q = rw (follows-read table h, q)
 
-  module _ (type field : List ℕ) (k t i : ℕ) (Q : Asks l type field k t i) where
-    pub column-done : (room table : ℕ) → tableLength ≤ table → objectsOf (known l) t ≤ room → column type field k room table f ≡ done (columnOf l t i)
-    unfolding column _>>=_
-    column-done room table h fits =
-        let c : (eqb k (asked (fieldAt (known l) i .kind)) && leb k 32) ≡ true = and-join (eq-eqb k _ (Q .kind)) (le-leb k 32 (Q .given)) in
-        rw (follows-read table h) (ask-done (known l) type field k room (columnOf l) (Q .typed) (Q .fielded) c fits)
+  module _ (type field : List ℕ) (k t i : ℕ) (Q : Asks (known l) type field k t i) where
+    pub counts : (table : ℕ) → tableLength ≤ table → countValues type field k table f ≡ done (objectsOf (known l) t)
+    unfolding countValues _>>=_
+    counts table h = rw (follows-read table h, asks-sought Q)
+
+    pub fills : (room table : ℕ) → tableLength ≤ table → objectsOf (known l) t ≤ room → fillValues type field k room table f ≡ done (columnOf l t i)
+    unfolding fillValues need _>>=_ _>>_
+    fills room table h fits = rw (follows-read table h, asks-sought Q, le-leb (objectsOf (known l) t) room fits)
 
     -- a column has as many values as its type has objects
     pub column-objects : length (columnOf l t i) ≡ objectsOf (known l) t
     column-objects =
-        let c = column-done (objectsOf (known l) t) 16384 (omega arith) (omega arith) in
-        let n = column-length type field k _ 16384 f _ follows-bytes c .0 in
-        let z : done (objectsOf (known l) t) ≡ done (length (columnOf l t i)) = sym (objects-done type t 16384 (omega arith) (Q .typed)) ∙ n in
-        let y : objectsOf (known l) t ≡ length (columnOf l t i) = cc z in
-        sym y
+        let T : Taken type field k f = record { ledger = l; end = length f; t = t; i = i; read = follows-accepted F .reads; asks = Q } in
+        column-length follows-bytes T
 
--- a column that is answered was asked for so
-column-inv :
-    (f type field : List ℕ) (k room table : ℕ) (c : List ℤ) → Bytes f → column type field k room table f ≡ done c
-    → (l : Ledger) × (t : ℕ) × (i : ℕ) × Follows f l × Asks l type field k t i × (objectsOf (known l) t ≤ room)
-unfolding column ask read
-column-inv f type field k room table c b q =
-    let (l, x, q₁) = bind-done _ _ c q in
-    let (e, x′) = answered-done _ l (then-done _ _ l x) in
-    let (t, y, q₂) = bind-done _ _ c q₁ in
-    let (i, z, q₃) = bind-done _ _ c q₂ in
-    let (n₁, q₄) = need-inv _ 18 (List ℤ) _ c q₃ in
-    let (n₂, _) = need-inv _ 19 (List ℤ) _ c q₄ in
-    let (a₁, a₂) = and-split (eqb k (asked (fieldAt (known l) i .kind))) (leb k 32) n₁ in
-    let K = file-kept f l e b x′ in (
-      l,
-      t,
-      i,
-      record { keeps = K .1; spells = K .0; short = file-length f l e x′ },
-      record { typed = found-done _ 16 t y; fielded = found-done _ 17 i z; kind = eqb-true k _ a₁; given = leb-true k 32 a₂ },
-      leb-true (objectsOf (known l) t) room n₂,
-    )
+-- what an answer was taken from is what the file says
+pub taken-follows : {type field : List ℕ} {k : ℕ} {f : List ℕ} → Bytes f → (T : Taken type field k f) → Follows f (T .ledger)
+taken-follows {f = f} b T =
+    let K = file-kept f (T .ledger) (T .end) b (T .read) in
+    record { keeps = K .1; spells = K .0; short = file-length f (T .ledger) (T .end) (T .read) }
 
 -- ── the calls ──
 
@@ -142,23 +118,59 @@ pub objects-exactly :
 unfolding afterObjects
 objects-exactly f l type work t {r} h c F q = said-done r _ (tells-answer _ work r c ∙ objects-done f l F type t (length work) h q)
 
--- a reply to a question for a column, and the output afterwards: the reply is the type's number of objects, as many numbers of
--- the output are the ledger's values, and the rest is as it was lent
-abbrev pub ColumnExactly : List ℕ → List ℕ → List ℕ → ℕ → List ℤ → Reply → List ℤ → Type 0
-ColumnExactly f type field k out r o =
-    (l : Ledger) (t i : ℕ) → Follows f l → Asks l type field k t i → objectsOf (known l) t ≤ length out
+-- ── the pair of calls ──
+
+-- replies of the two calls, with a work table that is long enough
+pub record Counted (f type field : List ℕ) (k : ℕ) (r : Reply) : Type 0 where
+  pub work : List ℕ
+  pub left : List ℕ
+  pub long : tableLength ≤ length work
+  pub replied : after r left [] ≡ afterCount f type field k work
+
+pub record Filled (f type field : List ℕ) (k : ℕ) (out : List ℤ) (r : Reply) (o : List ℤ) : Type 0 where
+  pub work : List ℕ
+  pub left : List ℕ
+  pub long : tableLength ≤ length work
+  pub replied : after r left o ≡ afterFill f type field k work out
+
+-- a reply to the question how many values a field has: as many as its type has objects
+abbrev pub CountsExactly : List ℕ → List ℕ → List ℕ → ℕ → Reply → Type 0
+CountsExactly f type field k r = (l : Ledger) (t i : ℕ) → Follows f l → Asks (known l) type field k t i → r ≡ Done (objectsOf (known l) t)
+
+-- a reply to the question for these values, and the output afterwards: the reply is the type's number of objects, as many numbers
+-- of the output are the ledger's values, and the rest is as it was lent
+abbrev pub FillsExactly : List ℕ → List ℕ → List ℕ → ℕ → List ℤ → Reply → List ℤ → Type 0
+FillsExactly f type field k out r o =
+    (l : Ledger) (t i : ℕ) → Follows f l → Asks (known l) type field k t i → objectsOf (known l) t ≤ length out
     → (r ≡ Done (objectsOf (known l) t)) × (length (columnOf l t i) ≡ objectsOf (known l) t) × (o ≡ columnOf l t i ++ drop (objectsOf (known l) t) out)
 
-module _ (f type field : List ℕ) (k : ℕ) (work : List ℕ) (out : List ℤ) {r : Reply} {w : List ℕ} {o : List ℤ} (c : after r w o ≡ afterColumn f type field k work out) where
-  pub column-exactly : tableLength ≤ length work → ColumnExactly f type field k out r o
-  unfolding afterColumn
-  column-exactly h l t i F Q fits =
+module _ {f type field : List ℕ} {k : ℕ} {r : Reply} (C : Counted f type field k r) where
+  pub count-says : answerOf r ≡ countValues type field k (length (C .work)) f
+  unfolding afterCount
+  count-says = tells-answer _ (C .work) r (C .replied)
+
+  pub counts-exactly : CountsExactly f type field k r
+  counts-exactly l t i F Q = said-done r _ (count-says ∙ counts f l F type field k t i Q (length (C .work)) (C .long))
+
+  -- and no other question is answered
+  pub counts-only : (n : ℕ) → Bytes f → r ≡ Done n → (l : Ledger) × (t : ℕ) × (i : ℕ) × Follows f l × Asks (known l) type field k t i
+  counts-only n b is =
+      let (T, _, _) = count-done type field k (length (C .work)) f n (sym count-says ∙ says-done r n is) in
+      (T .ledger, T .t, T .i, taken-follows b T, T .asks)
+
+module _ {f type field : List ℕ} {k : ℕ} {out : List ℤ} {r : Reply} {o : List ℤ} (C : Filled f type field k out r o) where
+  pub fills-exactly : FillsExactly f type field k out r o
+  unfolding afterFill
+  fills-exactly l t i F Q fits =
       let many = column-objects f l F type field k t i Q in
-      let (a, b) = written _ work out r c (columnOf l t i) (column-done f l F type field k t i Q (length out) (length work) h fits) in
+      let (a, b) = written _ (C .work) out r (C .replied) (columnOf l t i) (fills f l F type field k t i Q (length out) (length (C .work)) (C .long) fits) in
       (a ∙ ap (λ (x : ℕ). Done x) many, many, b ∙ ap (λ (x : ℕ). columnOf l t i ++ drop x out) many)
 
   -- and no other question is answered
-  pub column-only :
-      (n : ℕ) → Bytes f → r ≡ Done n → (l : Ledger) × (t : ℕ) × (i : ℕ) × Follows f l × Asks l type field k t i × (objectsOf (known l) t ≤ length out)
-  unfolding afterColumn
-  column-only n b is = let (vs, x, _, _) = was-done _ work out r c n is in column-inv f type field k (length out) (length work) vs b x
+  pub fills-only :
+      (n : ℕ) → Bytes f → r ≡ Done n → (l : Ledger) × (t : ℕ) × (i : ℕ) × Follows f l × Asks (known l) type field k t i × (objectsOf (known l) t ≤ length out)
+  unfolding afterFill
+  fills-only n b is =
+      let (vs, x, _, _) = was-done _ (C .work) out r (C .replied) n is in
+      let (T, room, _) = fill-done type field k (length (C .work)) f (length out) vs x in
+      (T .ledger, T .t, T .i, taken-follows b T, T .asks, room)

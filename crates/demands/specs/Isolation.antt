@@ -8,7 +8,7 @@ use native.Mathlib.Omega.{arith}
 use lib.Dec.{leb, eqb}
 use lib.IntN.{ℤ}
 use lib.ListN.{length, getD, take}
-use borrow.Author.Tests.{eqb-true, leb-true, leb-false}
+use borrow.Author.Tests.{eqb-true}
 use Rattle.paper.specs.Reader.{if_then_else_}
 use Rattle.paper.specs.Bounds.{tableLength}
 use Rattle.paper.specs.Lists.{same, place, placeNamed}
@@ -16,15 +16,16 @@ use Rattle.paper.specs.Ledger.{Ledger, State, Field, noField, typeNamed, fieldN
 use Rattle.paper.specs.Places.{Spot, spotsFrom, pairSpots, spotsOf, spots, inside?}
 use Rattle.paper.specs.Table.{E, E-with}
 use Rattle.paper.specs.Whole.{whole as all-of-it}
-use Rattle.paper.specs.Calls.{Answer, done, refused, read, known, columnOf, asked, ask, column, writes, afterColumn, _>>=_}
+use Rattle.paper.specs.Calls.{Answer, done, read, known, columnOf, tells, writes, afterCount, afterFill}
 use Rattle.laws.specs.Bools.{not-so, and-split}
-use Rattle.laws.specs.Columns.{not-done}
-use Rattle.laws.specs.Damage.{column-alike}
-use Rattle.calls.specs.Told.{after, ask-16, ask-17, ask-18, ask-19, ask-done}
+use Rattle.laws.specs.Says.{Bytes}
+use Rattle.laws.specs.Damage.{count-alike, fill-alike}
+use Rattle.calls.specs.Fixed.{same-reply}
 use Rattle.calls.specs.declared.replies.Reply.{Reply}
-use Rattle.calls.specs.declared.replies.Reply.the-variants.{Done, Refused}
-use Rattle.demands.specs.Replies.{unwritten, was-refused, front-is}
-use Rattle.demands.specs.Exact.{Follows, follows-bytes, follows-read, follows-check, column-exactly, column-only}
+use Rattle.calls.specs.declared.replies.Reply.the-variants.{Done}
+use Rattle.demands.specs.Replies.{front-is}
+use Rattle.demands.specs.Exact.{Follows, follows-bytes, follows-read, follows-check, Counted, Filled, count-says, counts-exactly, counts-only, fills-exactly}
+use Rattle.demands.specs.Pair.{thenFill, same-count, pair-agrees}
 
 -- ── a name names one thing ──
 
@@ -88,93 +89,72 @@ names-once s type field type′ field′ t t′ i a b c d =
     let z : t′ ≡ t = sym o′ ∙ o in
     (type-name s type′ t′ c ∙ ap (λ (x : ℕ). getD (s .typeNames) x []) z ∙ sym (type-name s type t a), n′ ∙ sym n)
 
--- ── a refusal with another room ──
+-- ── the calls ──
 
--- 16, 17 and 18 are given with any room, 19 with any that is no larger
-module _ (s : State) (type field : List ℕ) (k room room′ : ℕ) (values : ℕ → ℕ → List ℤ) (n : ℕ) (q : ask type field k room s values ≡ refused n) (less : n ≡ 19 → room′ ≤ room) where
-  ask-refused : ask type field k room′ s values ≡ refused n
-  ask-refused = typed (typeNamed s type) refl
-    where
-      fits : {t i : ℕ} → typeNamed s type ≡ some t → fieldNamed s t field ≡ some i → (eqb k (asked (fieldAt s i .kind)) && leb k 32) ≡ true → (b : Bool) → leb (objectsOf s t) room ≡ b → ask type field k room′ s values ≡ refused n
-      fits {t} h h₁ h₂ true e = not-done (sym q ∙ ask-done s type field k room values h h₁ h₂ (leb-true (objectsOf s t) room e))
-      fits {t} h h₁ h₂ false e =
-          let more : room < objectsOf s t = leb-false (objectsOf s t) room e in
-          let z : refused 19 ≡ refused n = sym (ask-19 s type field k room values h h₁ h₂ more) ∙ q in
-          let is : n ≡ 19 = cc z in
-          ask-19 s type field k room′ values h h₁ h₂ (omega (arith, less is)) ∙ z
-
-      kinded : {t i : ℕ} → typeNamed s type ≡ some t → fieldNamed s t field ≡ some i → (b : Bool) → (eqb k (asked (fieldAt s i .kind)) && leb k 32) ≡ b → ask type field k room′ s values ≡ refused n
-      kinded {t} h h₁ true h₂ = fits h h₁ h₂ (leb (objectsOf s t) room) refl
-      kinded h h₁ false h₂ = ask-18 s type field k room′ values h h₁ h₂ ∙ sym (ask-18 s type field k room values h h₁ h₂) ∙ q
-
-      fielded : {t : ℕ} → typeNamed s type ≡ some t → (o : Option ℕ) → fieldNamed s t field ≡ o → ask type field k room′ s values ≡ refused n
-      fielded h none h₁ = ask-17 s type field k room′ values h h₁ ∙ sym (ask-17 s type field k room values h h₁) ∙ q
-      fielded h (some i) h₁ = kinded h h₁ _ refl
-
-      typed : (o : Option ℕ) → typeNamed s type ≡ o → ask type field k room′ s values ≡ refused n
-      typed none h = ask-16 s type field k room′ values h ∙ sym (ask-16 s type field k room values h) ∙ q
-      typed (some t) h = fielded h (fieldNamed s t field) refl
-
--- ── the call ──
-
--- a reply to a question for a column with its output, and another one with a buffer of any length: as many numbers where there is
--- room for them, and the same ones; and the same refusal, 19 where the other buffer is no longer
-abbrev pub Likewise : List ℤ → Reply → List ℤ → List ℤ → Reply → List ℤ → Type 0
-Likewise out r o out′ q p =
-    ((n : ℕ) → r ≡ Done n → n ≤ length out′ → (q ≡ Done n) × (take n o ≡ take n p)) ×
-    ((n : ℕ) → r ≡ Refused n → (n ≡ 19 → length out′ ≤ length out) → q ≡ Refused n)
-
--- so it is with one file
-likewise :
-    (f : List ℕ) (l : Ledger) (type field : List ℕ) (k : ℕ) (work work′ : List ℕ) (out out′ : List ℤ) {r q : Reply} {w v : List ℕ} {o p : List ℤ} → Follows f l
-    → tableLength ≤ length work → tableLength ≤ length work′ → after r w o ≡ afterColumn f type field k work out → after q v p ≡ afterColumn f type field k work′ out′
-    → Likewise out r o out′ q p
-unfolding afterColumn column _>>=_
-likewise f l type field k work work′ out out′ {r} {q} {w} {v} {o} {p} F h h′ c d = (answered, refused-too)
-  where
-    answered : (n : ℕ) → r ≡ Done n → n ≤ length out′ → (q ≡ Done n) × (take n o ≡ take n p)
-    answered n is fits =
-        let (m, t, i, M, Q, room) = column-only f type field k work out c n (follows-bytes f l F) is in
-        let (a, many, b) = column-exactly f type field k work out c h m t i M Q room in
-        let z : Done n ≡ Done (objectsOf (known m) t) = sym is ∙ a in
-        let e : n ≡ objectsOf (known m) t = cc z in
-        let (a′, _, b′) = column-exactly f type field k work′ out′ d h′ m t i M Q (omega arith) in
-        let count = e ∙ sym many in
-        (a′ ∙ sym z, front-is n (columnOf m t i) o _ count b ∙ sym (front-is n (columnOf m t i) p _ count b′))
-
-    refused-too : (n : ℕ) → r ≡ Refused n → (n ≡ 19 → length out′ ≤ length out) → q ≡ Refused n
-    refused-too n is less =
-        let a : ask type field k (length out) (known l) (columnOf l) ≡ refused n = rw (follows-read f l F (length work) h) at (was-refused _ work out r c n is .0) in
-        unwritten _ work′ out′ q d n (rw (follows-read f l F (length work′) h′) (ask-refused (known l) type field k (length out) (length out′) (columnOf l) n a less)) .0
-
--- replies to one question for a column, of two files that differ only in bytes inside the chunks of a field (at every other
--- place they have the same byte), and their outputs: of every other field each tells what the other does
-abbrev pub Isolated : List ℕ → List ℕ → List ℕ → List ℕ → List ℤ → List ℤ → Reply → Reply → List ℤ → List ℤ → Type 0
-Isolated f g type field out out′ r q o p =
+-- replies of the pair of calls, first to how many (a, b) and then to which (r, q), of two files that differ only in bytes inside the chunks of
+-- one field (at every other place they have the same byte), and their outputs: both have as many values of every field, be it this
+-- one, and the same values of every other field; the second call's reply is fixed by the first one's
+abbrev pub Isolated : List ℕ → List ℕ → List ℕ → List ℕ → List ℤ → List ℤ → Reply → Reply → Reply → Reply → List ℤ → List ℤ → Type 0
+Isolated f g type field out out′ a b r q o p =
     (l m : Ledger) (type′ field′ : List ℕ) (t i : ℕ) → Follows f l → Follows g m → typeNamed (known l) type′ ≡ some t → fieldNamed (known l) t field′ ≡ some i
-    → length f ≡ length g → ((at : ℕ) → inside? i at (spots f) ≡ false → getD f at 0 ≡ getD g at 0) → ((type ≡ type′) × (field ≡ field′) → ⊥)
-    → Likewise out r o out′ q p × Likewise out′ q p out r o
+    → length f ≡ length g → ((at : ℕ) → inside? i at (spots f) ≡ false → getD f at 0 ≡ getD g at 0)
+    → (a ≡ b) ×
+    (r ≡ thenFill a (length out)) ×
+    (q ≡ thenFill b (length out′)) ×
+    (((type ≡ type′) × (field ≡ field′) → ⊥) → (n : ℕ) → a ≡ Done n → n ≤ length out → n ≤ length out′ → take n o ≡ take n p)
+
+module _ (f g type field : List ℕ) (k : ℕ) (l m : Ledger) (i : ℕ) (F : Follows f l) (G : Follows g m) (long : length f ≡ length g) (off : (at : ℕ) → inside? i at (spots f) ≡ false → getD f at 0 ≡ getD g at 0) where
+  -- the file is as good as the other one
+  counted-alike : {b : Reply} → Counted g type field k b → Counted f type field k b
+  unfolding afterCount
+  counted-alike {b} B =
+      let table = length (B .work) in
+      let same = count-alike i table f g long (follows-check f l F table (B .long)) (follows-check g m G table (B .long)) (λ at _ x. off at x) type field k in
+      record { work = B .work; left = B .left; long = B .long; replied = B .replied ∙ ap (λ (x : Answer ℕ). tells x (B .work)) (sym same) }
+
+  filled-alike :
+      {out : List ℤ} {q : Reply} {p : List ℤ} → ((t : ℕ) → typeNamed (known l) type ≡ some t → fieldNamed (known l) t field ≡ some i → ⊥) → Filled g type field k out q p
+      → Filled f type field k out q p
+  unfolding afterFill
+  filled-alike {out} other D =
+      let table = length (D .work) in
+      let same = fill-alike i table f g long (follows-check f l F table (D .long)) (follows-check g m G table (D .long)) (λ at _ x. off at x) type field k (length out) not-it in
+      record { work = D .work; left = D .left; long = D .long; replied = D .replied ∙ ap (λ (x : Answer (List ℤ)). writes x (D .work) out) (sym same) }
+    where
+      not-it : (l′ : Ledger) (t : ℕ) → read (length (D .work)) f ≡ done l′ → typeNamed (known l′) type ≡ some t → fieldNamed (known l′) t field ≡ some i → ⊥
+      not-it l′ t x y z =
+          let e : done l′ ≡ done l = sym x ∙ follows-read f l F (length (D .work)) (D .long) in
+          let u : l′ ≡ l = cc e in
+          other t (rw u at y) (rw u at z)
+
+-- two replies to one question of one file
+one-counted : {f type field : List ℕ} {k : ℕ} {a b : Reply} → Counted f type field k a → Counted f type field k b → a ≡ b
+one-counted {f} {type} {field} {k} {a} {b} A B =
+    same-reply a b (count-says A ∙ same-count f type field k (length (A .work)) (length (B .work)) (A .long) (B .long) ∙ sym (count-says B))
+
+-- and its values, whatever room there is for them
+one-filled :
+    {f type field : List ℕ} {k : ℕ} {out out′ : List ℤ} {a r q : Reply} {o p : List ℤ} → Bytes f → Counted f type field k a → Filled f type field k out r o → Filled f type field k out′ q p → (n : ℕ)
+    → a ≡ Done n → n ≤ length out → n ≤ length out′ → take n o ≡ take n p
+one-filled {o = o} {p = p} bytes A C D n is fits fits′ =
+    let (l, t, i, F, Q) = counts-only A n bytes is in
+    let z : Done n ≡ Done (objectsOf (known l) t) = sym is ∙ counts-exactly A l t i F Q in
+    let e : n ≡ objectsOf (known l) t = cc z in
+    let (_, many, y) = fills-exactly C l t i F Q (omega arith) in
+    let (_, _, y′) = fills-exactly D l t i F Q (omega arith) in
+    let count = e ∙ sym many in
+    front-is n (columnOf l t i) o _ count y ∙ sym (front-is n (columnOf l t i) p _ count y′)
 
 pub isolated :
-    (f g type field : List ℕ) (k : ℕ) (work work′ : List ℕ) (out out′ : List ℤ) {r q : Reply} {w v : List ℕ} {o p : List ℤ} → tableLength ≤ length work
-    → tableLength ≤ length work′ → after r w o ≡ afterColumn f type field k work out → after q v p ≡ afterColumn g type field k work′ out′
-    → Isolated f g type field out out′ r q o p
-unfolding afterColumn
-isolated f g type field k work work′ out out′ {r} {q} {w} {v} {o} {p} h h′ c d l m type′ field′ t i F G typed fielded long off other =
-    let C = follows-check f l F (length work′) h′ in
-    let D = follows-check g m G (length work′) h′ in
-    let A : column type field k (length out′) (length work′) g ≡ column type field k (length out′) (length work′) f =
-    sym (column-alike i type field k (length out′) (length work′) f g long C D (λ at _ x. off at x) not-it) in
-    let d′ : after q v p ≡ afterColumn f type field k work′ out′ = d ∙ ap (λ (a : Answer (List ℤ)). writes a work′ out′) A in
-    (likewise f l type field k work work′ out out′ F h h′ c d′, likewise f l type field k work′ work out′ out F h′ h d′ c)
-  where
-    not-it : (l′ : Ledger) (t′ : ℕ) → read (length work′) f ≡ done l′ → typeNamed (known l′) type ≡ some t′ → fieldNamed (known l′) t′ field ≡ some i → ⊥
-    not-it l′ t′ x y z =
-        let e : done l′ ≡ done l = sym x ∙ follows-read f l F (length work′) h′ in
-        let u : l′ ≡ l = cc e in
-        let y′ : typeNamed (known l) type ≡ some t′ = rw u at y in
-        let z′ : fieldNamed (known l) t′ field ≡ some i = rw u at z in
-        other (names-once (known l) type′ field′ type field t t′ i typed fielded y′ z′)
+    (f g type field : List ℕ) (k : ℕ) (out out′ : List ℤ) {a b r q : Reply} {o p : List ℤ} → Counted f type field k a → Counted g type field k b → Filled f type field k out r o
+    → Filled g type field k out′ q p → Isolated f g type field out out′ a b r q o p
+isolated f g type field k out out′ A B C D l m type′ field′ t i F G typed fielded long off =
+    let bytes = follows-bytes f l F in (
+      one-counted A (counted-alike f g type field k l m i F G long off B),
+      pair-agrees bytes A C,
+      pair-agrees (follows-bytes g m G) B D,
+      (λ other. one-filled bytes A C (filled-alike f g type field k l m i F G long off (λ t′ y z. other (names-once (known l) type′ field′ type field t t′ i typed fielded y z)) D)),
+    )
 
 -- ── the places of the chunks, in E: ten bytes of the first pair, two of the second ──
 

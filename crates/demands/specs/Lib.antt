@@ -1,6 +1,7 @@
 pub mod Replies
 pub mod Answers
 pub mod Exact
+pub mod Pair
 pub mod Width
 pub mod Trips
 pub mod Room

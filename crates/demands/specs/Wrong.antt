@@ -12,7 +12,7 @@ use Rattle.paper.specs.Ledger.{Kind, plain, Element, whole, New, Head, Entry, P
 use Rattle.paper.specs.Bounds.{tableLength}
 use Rattle.paper.specs.Encode.{encode}
 use Rattle.paper.specs.Keeps.{keeps?}
-use Rattle.paper.specs.Calls.{Answer, done, refused, Left, check, known, columnOf, asked, afterColumn}
+use Rattle.paper.specs.Calls.{Answer, done, refused, Left, check, known, columnOf, tells, afterCount, afterFill}
 use Rattle.paper.specs.Table.{D, E, E-with, date}
 use Rattle.paper.specs.Whole.{whole as all-of-it}
 use Rattle.calls.specs.declared.replies.Reply.{Reply}
@@ -20,7 +20,8 @@ use Rattle.calls.specs.declared.replies.Reply.the-variants.{Done, Refused}
 use Rattle.laws.specs.Says.{Bytes}
 use Rattle.laws.specs.Heads.{bytes-back}
 use Rattle.demands.specs.Answers.{some-reply}
-use Rattle.demands.specs.Exact.{Follows, accepted-follows, shortest-follows, Asks, AcceptsExactly, ColumnExactly, column-exactly, follows-check, follows-bytes}
+use Rattle.laws.specs.Asked.{Asks}
+use Rattle.demands.specs.Exact.{Follows, accepted-follows, shortest-follows, AcceptsExactly, CountsExactly, FillsExactly, counts-exactly, fills-exactly, follows-check, follows-bytes}
 
 -- ── what D and E say: D the first pair, E the second one behind it ──
 
@@ -69,11 +70,11 @@ pub nines-follow : Follows nines (first ∷ [])
 unfolding all-of-it date first nine nines
 nines-follow = accepted-follows (record { bytes = bytes-back nines refl; reads = refl })
 
-D-asks : Asks (first ∷ []) date date 11 0 0
+D-asks : Asks (known (first ∷ [])) date date 11 0 0
 unfolding all-of-it date first
 D-asks = record { typed = refl; fielded = refl; kind = refl; given = omega arith }
 
-E-asks : Asks (first ∷ second ∷ []) date date 11 0 0
+E-asks : Asks (known (first ∷ second ∷ [])) date date 11 0 0
 unfolding all-of-it date first second
 E-asks = record { typed = refl; fielded = refl; kind = refl; given = omega arith }
 
@@ -101,7 +102,7 @@ other-follows : Follows (encode (first ∷ other ∷ [])) (first ∷ other ∷ [
 unfolding all-of-it date first second other
 other-follows = shortest-follows (first ∷ other ∷ []) refl
 
-other-asks : Asks (first ∷ other ∷ []) date date 11 0 0
+other-asks : Asks (known (first ∷ other ∷ [])) date date 11 0 0
 unfolding all-of-it date first second other
 other-asks = record { typed = refl; fielded = refl; kind = refl; given = omega arith }
 
@@ -113,22 +114,29 @@ other-column : columnOf (first ∷ other ∷ []) 0 0 ≡ pos 1 ∷ negsuc 0 ∷ 
 unfolding all-of-it date first second other
 other-column = refl
 
--- ── the question: D's or E's column, with room ──
+-- ── the questions: how many values D's or E's field has, and which, with room ──
+
+module _ (r : Reply) where
+  D-counted : CountsExactly D date date 11 r → r ≡ Done 2
+  D-counted h = h (first ∷ []) 0 0 D-follows D-asks ∙ ap (λ (n : ℕ). Done n) D-objects
+
+  E-counted : CountsExactly E date date 11 r → r ≡ Done 3
+  E-counted h = h (first ∷ second ∷ []) 0 0 E-follows E-asks ∙ ap (λ (n : ℕ). Done n) E-objects
 
 module _ (out : List ℤ) (r : Reply) (o : List ℤ) where
-  D-exactly : 2 ≤ length out → ColumnExactly D date date 11 out r o → (r ≡ Done 2) × (o ≡ pos 1 ∷ negsuc 0 ∷ drop 2 out)
+  D-exactly : 2 ≤ length out → FillsExactly D date date 11 out r o → (r ≡ Done 2) × (o ≡ pos 1 ∷ negsuc 0 ∷ drop 2 out)
   D-exactly fits h =
       let (a, _, b) = h (first ∷ []) 0 0 D-follows D-asks (rw D-objects fits) in
       (a ∙ ap (λ (n : ℕ). Done n) D-objects, b ∙ ap (λ (n : ℕ). columnOf (first ∷ []) 0 0 ++ drop n out) D-objects ∙ ap (λ (c : List ℤ). c ++ drop 2 out) D-column)
 
-  E-exactly : 3 ≤ length out → ColumnExactly E date date 11 out r o → (r ≡ Done 3) × (o ≡ pos 1 ∷ negsuc 0 ∷ pos 256 ∷ drop 3 out)
+  E-exactly : 3 ≤ length out → FillsExactly E date date 11 out r o → (r ≡ Done 3) × (o ≡ pos 1 ∷ negsuc 0 ∷ pos 256 ∷ drop 3 out)
   E-exactly fits h =
       let (a, _, b) = h (first ∷ second ∷ []) 0 0 E-follows E-asks (rw E-objects fits) in (
         a ∙ ap (λ (n : ℕ). Done n) E-objects,
         b ∙ ap (λ (n : ℕ). columnOf (first ∷ second ∷ []) 0 0 ++ drop n out) E-objects ∙ ap (λ (c : List ℤ). c ++ drop 3 out) E-column,
       )
 
-  other-exactly : 3 ≤ length out → ColumnExactly (encode (first ∷ other ∷ [])) date date 11 out r o → o ≡ pos 1 ∷ negsuc 0 ∷ pos 257 ∷ drop 3 out
+  other-exactly : 3 ≤ length out → FillsExactly (encode (first ∷ other ∷ [])) date date 11 out r o → o ≡ pos 1 ∷ negsuc 0 ∷ pos 257 ∷ drop 3 out
   other-exactly fits h =
       let (_, _, b) = h (first ∷ other ∷ []) 0 0 other-follows other-asks (rw other-objects fits) in
       b ∙ ap (λ (n : ℕ). columnOf (first ∷ other ∷ []) 0 0 ++ drop n out) other-objects ∙ ap (λ (c : List ℤ). c ++ drop 3 out) other-column
@@ -144,14 +152,23 @@ noughts = pos 0 ∷ pos 0 ∷ pos 0 ∷ []
 -- ── a reader that meets the contract breaks nothing ──
 
 -- what the definitions leave, with a work table of noughts
-unfoldable pub right : List ℕ → List ℤ → Left ℤ
-right f out = afterColumn f date date 11 (replicate tableLength 0) out
+unfoldable pub right-count : List ℕ → Left ℕ
+right-count f = afterCount f date date 11 (replicate tableLength 0)
 
-pub the-right-one : (f : List ℕ) (out : List ℤ) → ColumnExactly f date date 11 out (some-reply (right f out) .0) (right f out .output)
+unfoldable pub right : List ℕ → List ℤ → Left ℤ
+right f out = afterFill f date date 11 (replicate tableLength 0) out
+
+-- it is long enough
+noughts-long : tableLength ≤ length (replicate {A = ℕ} tableLength 0)
+noughts-long = rw (length-replicate {A = ℕ} tableLength 0) (omega arith)
+
+pub the-right-count : (f : List ℕ) → CountsExactly f date date 11 (some-reply (right-count f) .0)
+unfolding right-count afterCount tells
+the-right-count f = counts-exactly (record { work = _; left = right-count f .table; long = noughts-long; replied = some-reply (right-count f) .1 })
+
+pub the-right-one : (f : List ℕ) (out : List ℤ) → FillsExactly f date date 11 out (some-reply (right f out) .0) (right f out .output)
 unfolding right
-the-right-one f out =
-    column-exactly f date date 11 (replicate tableLength 0) out {w = right f out .table} (some-reply (right f out) .1)
-    (rw (length-replicate {A = ℕ} tableLength 0) (omega arith))
+the-right-one f out = fills-exactly (record { work = _; left = right f out .table; long = noughts-long; replied = some-reply (right f out) .1 })
 
 -- ── what a reader replies to a check of a file ──
 
@@ -192,12 +209,34 @@ module _ (reply : List ℕ → Reply) (exactly : (f : List ℕ) → Bytes f → 
       let y : _≡_ {A = ℕ} 0 1 = cc z in
       omega arith
 
--- ── what it replies to the question for the column of `date`, and what the lent output then holds ──
+-- ── what it replies to the question how many values the field `date` has ──
+
+module _ (reply : List ℕ → Reply) (exactly : (f : List ℕ) → CountsExactly f date date 11 (reply f)) where
+  -- one with a fixed answer, or one that returns an invented n, gives the same to D and E: whatever n is, it is not by the file
+  pub invented-count : (r : Reply) → ((f : List ℕ) → reply f ≡ r) → ⊥
+  invented-count r wrong = two-is-not-three (sym (wrong D) ∙ D-counted _ (exactly D)) (sym (wrong E) ∙ E-counted _ (exactly E))
+
+  -- one that reads the first pair and pretends for the later ones counts the values of E as it does those of D
+  pub first-pair-counted : ((p : Pair) (ps qs : Ledger) → reply (encode (p ∷ ps)) ≡ reply (encode (p ∷ qs))) → ⊥
+  first-pair-counted wrong =
+      two-is-not-three
+      (ap reply (sym D-encoded) ∙ D-counted _ (exactly D))
+      (wrong first [] (second ∷ []) ∙ ap reply (sym E-encoded) ∙ E-counted _ (exactly E))
+
+  -- one that refuses everything refuses this too
+  pub refuses-to-count : ((f : List ℕ) → (n : ℕ) × (reply f ≡ Refused n)) → ⊥
+  refuses-to-count wrong =
+      let (n, is) = wrong D in
+      let z : Done 2 ≡ Refused n = sym (D-counted _ (exactly D)) ∙ is in
+      let y : _≡_ {A = ℕ} 0 1 = cc z in
+      omega arith
+
+-- ── what it replies to the question for these values, and what the lent output then holds ──
 
 module _
     (reply : List ℕ → List ℤ → Reply)
     (left : List ℕ → List ℤ → List ℤ)
-    (exactly : (f : List ℕ) (out : List ℤ) → ColumnExactly f date date 11 out (reply f out) (left f out))
+    (exactly : (f : List ℕ) (out : List ℤ) → FillsExactly f date date 11 out (reply f out) (left f out))
   where
     D-replied : reply D noughts ≡ Done 2
     D-replied = D-exactly noughts _ _ (omega arith) (exactly D noughts) .0

@@ -10,19 +10,19 @@ use native.Mathlib.Omega.{arith}
 use lib.Dec.{leb, eqb}
 use lib.IntN.{ℤ}
 use lib.ListN.{length}
-use borrow.Author.Tests.{leb-true, le-leb, eqb-true}
+use borrow.Author.Tests.{leb-true, le-leb, eqb-true, ne-eqb}
 use Rattle.paper.specs.Reader.{if_then_else_, Out, got, no}
 use Rattle.paper.specs.Bounds.{mostBytes, mostObjects, tableLength}
 use Rattle.paper.specs.Ledger.{Ledger, objectsOf}
 use Rattle.paper.specs.File.{file}
 use Rattle.paper.specs.Encode.{encode}
 use Rattle.paper.specs.Scan.{short, fileOf}
-use Rattle.paper.specs.Calls.{Answer, done, refused, _>>=_, _>>_, need, found, answered, read, known, check, objects, ask, column, fitted, listing, build}
+use Rattle.paper.specs.Calls.{Answer, done, refused, _>>=_, _>>_, need, found, answered, read, known, check, objects, sought, countValues, fillValues, fitted, listing, build}
 use Rattle.laws.specs.Says.{Bytes}
 use Rattle.laws.specs.Bools.{and-split, and-join, not-so}
 use Rattle.laws.specs.Exact.{file-kept}
 use Rattle.laws.specs.Columns.{bind-done, then-done, found-done, answered-done}
-use Rattle.laws.specs.Lengths.{column-length}
+use Rattle.laws.specs.Lengths.{count-objects, fill-counted}
 use Rattle.laws.specs.Objects.{ledger-objects}
 use Rattle.laws.specs.Promises.{fitted-inv}
 use Rattle.laws.specs.Refused.{fileRefusal?, file-refusals}
@@ -36,62 +36,80 @@ refusal? n = not (eqb n 2) && (leb 1 n && leb n 21)
 abbrev pub Refusal : ℕ → Type 0
 Refusal n = (1 ≤ n) × (n ≤ 21) × (n ≡ 2 → ⊥)
 
--- an answer's refusal is one of them
-record Numbered {A : Type 0} (a : Answer A) : Type 0 where
-  is : (n : ℕ) → a ≡ refused n → refusal? n ≡ true
+-- those of a call that has no output: 19 is not one of them
+abbrev unlent? : ℕ → Bool
+unlent? n = not (eqb n 19) && refusal? n
 
-done-numbered : {A : Type 0} (a : A) → Numbered (done a)
-done-numbered a = record { is = λ n q. let z : _≡_ {A = ℕ} 0 1 = cc q in absurd (omega arith) }
+-- an answer's refusal is one of some
+record Numbered (p : ℕ → Bool) {A : Type 0} (a : Answer A) : Type 0 where
+  is : (n : ℕ) → a ≡ refused n → p n ≡ true
 
-refused-numbered : {A : Type 0} (n : ℕ) → refusal? n ≡ true → Numbered {A = A} (refused n)
-refused-numbered n h = record { is = λ m q. let z : n ≡ m = cc q in rw z at h }
+module _ {p : ℕ → Bool} {A : Type 0} where
+  done-numbered : (a : A) → Numbered p (done a)
+  done-numbered a = record { is = λ n q. let z : _≡_ {A = ℕ} 0 1 = cc q in absurd (omega arith) }
 
-bind-numbered : {A B : Type 0} {a : Answer A} {k : A → Answer B} → Numbered a → ((x : A) → Numbered (k x)) → Numbered (a >>= k)
+  refused-numbered : (n : ℕ) → p n ≡ true → Numbered p {A = A} (refused n)
+  refused-numbered n h = record { is = λ m q. let z : n ≡ m = cc q in rw z at h }
+
+  found-numbered : (o : Option A) (n : ℕ) → p n ≡ true → Numbered p (found o n)
+  unfolding found
+  found-numbered none n h = refused-numbered n h
+  found-numbered (some a) n h = done-numbered a
+
+bind-numbered : {p : ℕ → Bool} {A B : Type 0} {a : Answer A} {k : A → Answer B} → Numbered p a → ((x : A) → Numbered p (k x)) → Numbered p (a >>= k)
 unfolding _>>=_
 bind-numbered {a = done x} h K = K x
 bind-numbered {a = refused n} h K = refused-numbered n (h .is n refl)
 
-then-numbered : {A B : Type 0} {a : Answer A} {b : Answer B} → Numbered a → Numbered b → Numbered (a >> b)
+then-numbered : {p : ℕ → Bool} {A B : Type 0} {a : Answer A} {b : Answer B} → Numbered p a → Numbered p b → Numbered p (a >> b)
 unfolding _>>_
 then-numbered h k = bind-numbered h λ x. k
 
-need-numbered : (c : Bool) (n : ℕ) → refusal? n ≡ true → Numbered (need c n)
+need-numbered : {p : ℕ → Bool} (c : Bool) (n : ℕ) → p n ≡ true → Numbered p (need c n)
 unfolding need
 need-numbered true n h = done-numbered tt
 need-numbered false n h = refused-numbered n h
 
-found-numbered : {A : Type 0} (o : Option A) (n : ℕ) → refusal? n ≡ true → Numbered (found o n)
-unfolding found
-found-numbered none n h = refused-numbered n h
-found-numbered (some a) n h = done-numbered a
-
-file-refusal : (n : ℕ) → fileRefusal? n ≡ true → refusal? n ≡ true
+-- the file's own are below 19 or 21
+file-unlent : (n : ℕ) → fileRefusal? n ≡ true → unlent? n ≡ true
 unfolding fileRefusal?
-file-refusal n h = go (not (eqb n 2) && (leb 1 n && leb n 14)) refl h
+file-unlent n h = go (not (eqb n 2) && (leb 1 n && leb n 14)) refl h
   where
-    go : (b : Bool) → (not (eqb n 2) && (leb 1 n && leb n 14)) ≡ b → (b || eqb n 21) ≡ true → refusal? n ≡ true
+    go : (b : Bool) → (not (eqb n 2) && (leb 1 n && leb n 14)) ≡ b → (b || eqb n 21) ≡ true → unlent? n ≡ true
     go true e h =
         let (z, w) = and-split (not (eqb n 2)) _ e in
         let (x, y) = and-split (leb 1 n) _ w in
-        and-join z (and-join x (le-leb n 21 (omega (arith, leb-true n 14 y))))
+        let most = leb-true n 14 y in
+        let below : not (eqb n 19) ≡ true = rw (ne-eqb n 19 (λ q. omega arith)) in
+        and-join below (and-join z (and-join x (le-leb n 21 (omega arith))))
     go false e h = rw (eqb-true n 21 h)
 
-read-numbered : (table : ℕ) (f : List ℕ) → Numbered (read table f)
+read-unlent : (table : ℕ) (f : List ℕ) → Numbered unlent? (read table f)
 unfolding read answered
-read-numbered table f = then-numbered (need-numbered _ 15 refl) (go (file f) refl)
+read-unlent table f = then-numbered (need-numbered _ 15 refl) (go (file f) refl)
   where
-    go : (o : Out Ledger) → file f ≡ o → Numbered (answered o)
+    go : (o : Out Ledger) → file f ≡ o → Numbered unlent? (answered o)
     go (got l e) q = done-numbered l
-    go (no n p) q = refused-numbered n (file-refusal n (file-refusals f n p q))
+    go (no n p) q = refused-numbered n (file-unlent n (file-refusals f n p q))
 
-ruleset numbered = (bind-numbered, then-numbered, done-numbered, need-numbered, found-numbered, read-numbered)
+read-numbered : (table : ℕ) (f : List ℕ) → Numbered refusal? (read table f)
+read-numbered table f = record { is = λ n q. and-split (not (eqb n 19)) _ (read-unlent table f .is n q) .1 }
 
-module _ {A : Type 0} {a : Answer A} (N : Numbered a) where
-  one-of : (n : ℕ) → a ≡ refused n → Refusal n
-  one-of n q =
+ruleset numbered = (bind-numbered, then-numbered, done-numbered, need-numbered, found-numbered, read-numbered, read-unlent)
+
+module _ {A : Type 0} {a : Answer A} where
+  one-of : Numbered refusal? a → (n : ℕ) → a ≡ refused n → Refusal n
+  one-of N n q =
       let (z, w) = and-split (not (eqb n 2)) _ (N .is n q) in
       let (x, y) = and-split (leb 1 n) _ w in
       (leb-true 1 n x, leb-true n 21 y, λ e. let u : false ≡ true = rw e at z in not-so u)
+
+  -- and it is not 19
+  one-unlent : Numbered unlent? a → (n : ℕ) → a ≡ refused n → Refusal n × (n ≡ 19 → ⊥)
+  one-unlent N n q =
+      let (z, _) = and-split (not (eqb n 19)) _ (N .is n q) in
+      let all : Numbered refusal? a = record { is = λ m x. and-split (not (eqb m 19)) _ (N .is m x) .1 } in
+      (one-of all n q, λ e. let u : false ≡ true = rw e at z in not-so u)
 
 pub check-refusals : (table : ℕ) (f : List ℕ) (n : ℕ) → check table f ≡ refused n → Refusal n
 unfolding check
@@ -101,9 +119,13 @@ pub objects-refusals : (type : List ℕ) (table : ℕ) (f : List ℕ) (n : ℕ) 
 unfolding objects
 objects-refusals type table f = one-of (search numbered)
 
-pub column-refusals : (type field : List ℕ) (k room table : ℕ) (f : List ℕ) (n : ℕ) → column type field k room table f ≡ refused n → Refusal n
-unfolding column ask
-column-refusals type field k room table f = one-of (search numbered depth 9)
+pub count-refusals : (type field : List ℕ) (k table : ℕ) (f : List ℕ) (n : ℕ) → countValues type field k table f ≡ refused n → Refusal n × (n ≡ 19 → ⊥)
+unfolding countValues sought
+count-refusals type field k table f = one-unlent (search numbered depth 9)
+
+pub fill-refusals : (type field : List ℕ) (k room table : ℕ) (f : List ℕ) (n : ℕ) → fillValues type field k room table f ≡ refused n → Refusal n
+unfolding fillValues sought
+fill-refusals type field k room table f = one-of (search numbered depth 9)
 
 pub listing-refusals : (room table : ℕ) (f : List ℕ) (n : ℕ) → listing room table f ≡ refused n → Refusal n
 unfolding listing fitted
@@ -142,8 +164,11 @@ objects-most type table f m b q =
     let z : objectsOf (known l) t ≡ m = cc q₂ in
     omega (arith, ledger-objects l t (file-kept f l e b y .1))
 
-pub column-most : (type field : List ℕ) (k room table : ℕ) (f : List ℕ) (c : List ℤ) → Bytes f → column type field k room table f ≡ done c → length c ≤ mostObjects
-column-most type field k room table f c b q = objects-most type table f (length c) b (column-length type field k room table f c b q .0)
+pub count-most : (type field : List ℕ) (k table : ℕ) (f : List ℕ) (n : ℕ) → Bytes f → countValues type field k table f ≡ done n → n ≤ mostObjects
+count-most type field k table f n b q = objects-most type table f n b (count-objects type field k table f n q)
+
+pub fill-most : (type field : List ℕ) (k room table : ℕ) (f : List ℕ) (c : List ℤ) → Bytes f → fillValues type field k room table f ≡ done c → length c ≤ mostObjects
+fill-most type field k room table f c b q = count-most type field k table f (length c) b (fill-counted type field k table f b room c q .0)
 
 -- ── what is built is a file, and has no more bytes than one may have ──
 

@@ -1,6 +1,7 @@
 -- The columns of a longer file begin with those of the shorter one. Assumes nothing.
 use mathlib.Core.Path.{_≡_, refl, sym, _∙_, ap, subst}
 use mathlib.Core.Bool.{Bool, true, false, _&&_, not}
+use mathlib.Core.Logic.{_⊎_, inl, inr}
 use mathlib.Core.List.{List, [], _∷_, _++_, append-assoc, append-nil}
 use mathlib.Core.Option.{Option, none, some}
 use Prim.Native.Nat.{ℕ, zero, suc, _+_, _-_, _*_, _≤_, _<_}
@@ -14,7 +15,7 @@ use Rattle.paper.specs.Ledger.{mapping, Kind, constant, plain, array, many, New
 use Rattle.paper.specs.Lists.{same, place, total, fold, placeNamed}
 use Rattle.paper.specs.Rules.{withStrings, newType, newRange, afterHead, afterNew, afterEntry, dues, closed, afterFront, afterPair, newName}
 use Rattle.paper.specs.File.{file}
-use Rattle.paper.specs.Calls.{Answer, done, refused, _>>=_, _>>_, need, found, answered, read, known, chunkValues, fieldValues, columnBy, columnOf, asked, ask, column}
+use Rattle.paper.specs.Calls.{Answer, done, refused, _>>=_, _>>_, need, found, answered, read, known, chunkValues, fieldValues, columnBy, columnOf}
 use Rattle.laws.specs.Laws.{Agree}
 use Rattle.laws.specs.Longer.{Begins, file-longer}
 
@@ -198,22 +199,11 @@ by-longer (array n k) l m t i = begins-refl []
 by-longer (many c k) l m t i = begins-refl []
 by-longer (mapping ks) l m t i = begins-refl []
 
-column-longer : (l m : Ledger) (t i : ℕ) → fieldAt (known (l ++ m)) i ≡ fieldAt (known l) i → Begins (columnOf l t i) (columnOf (l ++ m) t i)
+pub column-longer : (l m : Ledger) (t i : ℕ) → fieldAt (known (l ++ m)) i ≡ fieldAt (known l) i → Begins (columnOf l t i) (columnOf (l ++ m) t i)
 unfolding columnOf
 column-longer l m t i h = rw h (by-longer (fieldAt (known l) i .kind) l m t i)
 
--- ── the call ──
-
--- what an answered column was taken from
-pub record Taken (type field : List ℕ) (f : List ℕ) (c : List ℤ) : Type 0 where
-  pub ledger : Ledger
-  pub end : ℕ
-  pub t : ℕ
-  pub i : ℕ
-  pub read : file f ≡ got ledger end
-  pub typed : typeNamed (known ledger) type ≡ some t
-  pub fielded : fieldNamed (known ledger) t field ≡ some i
-  pub is : c ≡ columnOf ledger t i
+-- ── answers, and what they were made of ──
 
 -- a refusal is no answer
 pub not-done : {A X : Type 0} {n : ℕ} {a : A} → refused n ≡ done a → X
@@ -223,6 +213,12 @@ pub bind-done : {A B : Type 0} (a : Answer A) (k : A → Answer B) (b : B) → (
 unfolding _>>=_
 bind-done (done x) k b q = (x, refl, q)
 bind-done (refused n) k b q = not-done q
+
+pub bind-refused :
+    {A B : Type 0} (a : Answer A) (k : A → Answer B) (n : ℕ) → (a >>= k) ≡ refused n → (a ≡ refused n) ⊎ ((x : A) × (a ≡ done x) × (k x ≡ refused n))
+unfolding _>>=_
+bind-refused (done x) k n q = inr (x, refl, q)
+bind-refused (refused m) k n q = inl (cc q)
 
 pub then-done : {A B : Type 0} (a : Answer A) (c : Answer B) (b : B) → (a >> c) ≡ done b → c ≡ done b
 unfolding _>>_
@@ -238,30 +234,8 @@ unfolding answered
 answered-done (got x e) a q = (e, cc q)
 answered-done (no n p) a q = not-done q
 
-pub taken : (type field : List ℕ) (k room table : ℕ) (f : List ℕ) (c : List ℤ) → column type field k room table f ≡ done c → Taken type field f c
-unfolding column ask read
-taken type field k room table f c q =
-    let (l, x, q₁) = bind-done _ _ c q in
-    let (e, x′) = answered-done _ l (then-done _ _ l x) in
-    let (t, y, q₂) = bind-done _ _ c q₁ in
-    let (i, z, q₃) = bind-done _ _ c q₂ in
-    let q₄ : done (columnOf l t i) ≡ done c = then-done _ _ c (then-done _ _ c q₃) in
-    record { ledger = l; end = e; t = t; i = i; read = x′; typed = found-done _ 16 t y; fielded = found-done _ 17 i z; is = cc q₄ }
-
-some-same : {a b : ℕ} {o : Option ℕ} → o ≡ some a → o ≡ some b → a ≡ b
-some-same p q = cc
-
--- the column of a longer accepted file begins with the shorter one's
-pub columns-longer :
-    (type field : List ℕ) (k room room′ table table′ : ℕ) (f g : List ℕ) (c c′ : List ℤ) → column type field k room table f ≡ done c
-    → column type field k room′ table′ (f ++ g) ≡ done c′ → Begins c c′
-columns-longer type field k room room′ table table′ f g c c′ p q =
-    let T = taken type field k room table f c p in
-    let U = taken type field k room′ table′ (f ++ g) c′ q in
-    let B = file-longer f g (T .ledger) (U .ledger) (T .end) (U .end) (T .read) (U .read) in
-    let G : Grows (known (T .ledger)) (known (U .ledger)) = rw (B .is) (known-grows (T .ledger) (B .rest)) in
-    let same-type = some-same (type-stays _ _ type (T .t) G (T .typed)) (U .typed) in
-    let F = field-stays _ _ (T .t) field (T .i) G (T .fielded) in
-    let same-field : T .i ≡ U .i = some-same (F .0) (rw same-type (U .fielded)) in
-    let L = column-longer (T .ledger) (B .rest) (T .t) (T .i) (rw (← B .is) (F .1)) in
-    rw (T .is, U .is, ← same-type, ← same-field, B .is) L
+-- what was needed is so
+pub need-done : {A : Type 0} (c : Bool) (n : ℕ) (k : Answer A) (a : A) → (need c n >> k) ≡ done a → (c ≡ true) × (k ≡ done a)
+unfolding need _>>_ _>>=_
+need-done true n k a q = (refl, q)
+need-done false n k a q = not-done q

@@ -19,8 +19,9 @@ use Rattle.paper.specs.Bounds.{mostPairs}
 use Rattle.paper.specs.Rules.{withStrings, kindsStand?, anyType, dues, afterFront, closed, afterPair}
 use Rattle.paper.specs.File.{Front, chunk, sized, dataRegion, front, pairFrom, pair, pairs, file}
 use Rattle.paper.specs.Places.{Spot, spotsFrom, withFront, pairSpots, spotsOf, spots, inside?}
-use Rattle.paper.specs.Calls.{Answer, done, refused, need, found, read, check, known, valuesIn, chunkValues, fieldValues, columnBy, columnOf, asked, ask, column, _>>=_ as _then=_, _>>_ as _then_}
+use Rattle.paper.specs.Calls.{Answer, done, refused, need, found, read, check, known, valuesIn, chunkValues, fieldValues, columnBy, columnOf, sought, countValues, fillValues, _>>=_ as _then=_, _>>_ as _then_}
 use Rattle.laws.specs.Columns.{bind-done, then-done, answered-done}
+use Rattle.laws.specs.Asked.{sought-asks}
 use Rattle.laws.specs.Laws.{Agree, not-got, Stays, Faithful, Bound, bind-inv, part-faithful, First, each-inv, Filled, part-inv, within-inv}
 use Rattle.laws.specs.Faithful.{front-faithful, region-end, region, region-inv}
 use Rattle.laws.specs.Longer.{unlessEnd-inv, AtEnd, Before, file-inv}
@@ -425,17 +426,7 @@ module _ (i j : ℕ) (ne : j ≡ i → ⊥) where
   by-alike (many c k) l l′ t e a = refl
   by-alike (mapping ks) l l′ t e a = refl
 
-  -- two accepted files that differ only inside the chunks of field i have the same column of every other field
-  pub columns-alike :
-      (f g : List ℕ) (l l′ : Ledger) (e e′ t : ℕ) → length f ≡ length g → file f ≡ got l e → file g ≡ got l′ e′ → Off i f g 0 (spots f)
-      → columnOf l t j ≡ columnOf l′ t j
-  unfolding columnOf known AlikeAll spots
-  columns-alike f g l l′ e e′ t len p q o =
-      let A = alike-all i mostPairs nothing f g 0 l l′ e e′ len (omega arith) (file-inv f l e p) (file-inv g l′ e′ q) o in
-      let k = known-alike i nothing l l′ A in
-      by-alike (fieldAt (known l) j .kind) l l′ t k A ∙ ap (λ (s : State). columnBy (fieldAt s j .kind) l′ t j) k
-
--- ── the call ──
+-- ── the calls ──
 
 record Read (table : ℕ) (f : List ℕ) (l : Ledger) : Type 0 where
   answer : read table f ≡ done l
@@ -449,17 +440,10 @@ read-inv table f q =
     let (e, y) = answered-done _ l (then-done _ _ l x) in
     (l, record { answer = x; end = e; reads = y })
 
-bind-found : {A B : Type 0} (o : Option A) (n : ℕ) (k k′ : A → Answer B) → ((a : A) → o ≡ some a → k a ≡ k′ a) → _then=_ (found o n) k ≡ _then=_ (found o n) k′
-unfolding found _then=_
-bind-found none n k k′ h = refl
-bind-found (some a) n k k′ h = h a refl
-
-ask-same :
-    (type field : List ℕ) (k room : ℕ) (s : State) (c c′ : ℕ → ℕ → List ℤ) → ((t j : ℕ) → typeNamed s type ≡ some t → fieldNamed s t field ≡ some j → c t j ≡ c′ t j)
-    → ask type field k room s c ≡ ask type field k room s c′
-unfolding ask
-ask-same type field k room s c c′ h =
-    bind-found (typeNamed s type) 16 _ _ (λ t x. bind-found (fieldNamed s t field) 17 _ _ (λ j y. rw (h t j x y)))
+bind-same : {A B : Type 0} (a : Answer A) (k k′ : A → Answer B) → ((x : A) → a ≡ done x → k x ≡ k′ x) → _then=_ a k ≡ _then=_ a k′
+unfolding _then=_
+bind-same (done x) k k′ h = h x refl
+bind-same (refused n) k k′ h = refl
 
 known-same : (l l′ : Ledger) → fold afterPair nothing l ≡ fold afterPair nothing l′ → known l ≡ known l′
 unfolding known
@@ -469,17 +453,38 @@ column-of : (i j : ℕ) (ne : j ≡ i → ⊥) (l l′ : Ledger) (t : ℕ) → k
 unfolding columnOf
 column-of i j ne l l′ t k A = by-alike i j ne (fieldAt (known l) j .kind) l l′ t k A ∙ ap (λ (s : State). columnBy (fieldAt s j .kind) l′ t j) k
 
--- two accepted files that differ only inside the chunks of field i give the same answer to every question for another column
-pub column-alike :
-    (i : ℕ) (type field : List ℕ) (k room table : ℕ) (f g : List ℕ) → length f ≡ length g → check table f ≡ done 0 → check table g ≡ done 0 → Off i f g 0 (spots f)
-    → ((l : Ledger) (t : ℕ) → read table f ≡ done l → typeNamed (known l) type ≡ some t → fieldNamed (known l) t field ≡ some i → ⊥)
-    → column type field k room table f ≡ column type field k room table g
-unfolding column _then=_ AlikeAll spots
-column-alike i type field k room table f g len p q o other =
-    let (l, L) = read-inv table f p in
-    let (l′, M) = read-inv table g q in
-    let A = alike-all i mostPairs nothing f g 0 l l′ (L .end) (M .end) len (omega arith) (file-inv f l (L .end) (L .reads)) (file-inv g l′ (M .end) (M .reads)) o in
-    let K : known l ≡ known l′ = known-same l l′ (known-alike i nothing l l′ A) in
-    rw (L .answer, M .answer, ← K)
-    (ask-same type field k room (known l) (columnOf l) (columnOf l′)
-    (λ t j x y. column-of i j (λ e. other l t (L .answer) x (rw e at y)) l l′ t K A))
+-- what is read of two accepted files that differ only inside the chunks of field i
+record Both (i table : ℕ) (f g : List ℕ) : Type 0 where
+  one : Ledger
+  other : Ledger
+  reads : read table f ≡ done one
+  reads-other : read table g ≡ done other
+  same : known one ≡ known other
+  alike : Alike i nothing one other
+
+module _ (i table : ℕ) (f g : List ℕ) (long : length f ≡ length g) (c : check table f ≡ done 0) (d : check table g ≡ done 0) (off : Off i f g 0 (spots f)) where
+  both : Both i table f g
+  unfolding AlikeAll spots
+  both =
+      let (l, L) = read-inv table f c in
+      let (m, M) = read-inv table g d in
+      let A = alike-all i mostPairs nothing f g 0 l m (L .end) (M .end) long (omega arith) (file-inv f l (L .end) (L .reads)) (file-inv g m (M .end) (M .reads)) off in
+      record { one = l; other = m; reads = L .answer; reads-other = M .answer; same = known-same l m (known-alike i nothing l m A); alike = A }
+
+  module _ (type field : List ℕ) (k : ℕ) where
+    -- they give the same answer to the question how many values any field has
+    pub count-alike : countValues type field k table f ≡ countValues type field k table g
+    unfolding countValues _then=_
+    count-alike = let B = both in rw (B .reads, B .reads-other, B .same)
+
+    -- and to the question for the values of every other field
+    pub fill-alike :
+        (room : ℕ) → ((l : Ledger) (t : ℕ) → read table f ≡ done l → typeNamed (known l) type ≡ some t → fieldNamed (known l) t field ≡ some i → ⊥)
+        → fillValues type field k room table f ≡ fillValues type field k room table g
+    unfolding fillValues _then=_
+    fill-alike room other =
+        let B = both in
+        rw (B .reads, B .reads-other, ← B .same)
+        (bind-same (sought type field k (known (B .one))) _ _
+        (λ p x. let Q = sought-asks x in
+        rw (column-of i (p .1) (λ e. other (B .one) (p .0) (B .reads) (Q .typed) (rw e at (Q .fielded))) (B .one) (B .other) (p .0) (B .same) (B .alike))))

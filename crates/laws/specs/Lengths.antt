@@ -17,11 +17,12 @@ use Rattle.paper.specs.Lists.{same, all, fold, place, places}
 use Rattle.paper.specs.Rules.{typeOf, afterHead, knownDue, afterEntry, oldDue, newDues, entryDues, dues, withStrings, afterFront, closed, afterPair}
 use Rattle.paper.specs.File.{file}
 use Rattle.paper.specs.Keeps.{every, inTurn, value?, chunk?, chunks?, pair?, keeps?}
-use Rattle.paper.specs.Calls.{Answer, done, refused, need, found, answered, read, known, objects, stored, storedAll, valuesIn, chunkValues, fieldValues, columnBy, columnOf, asked, ask, column, _>>=_, _>>_}
+use Rattle.paper.specs.Calls.{Answer, done, refused, need, found, read, known, objects, stored, storedAll, valuesIn, chunkValues, fieldValues, columnBy, columnOf, asked, sought, countValues, fillValues, howMany, _>>=_, _>>_}
 use Rattle.laws.specs.Says.{Bytes}
 use Rattle.laws.specs.Bools.{not-so, and-split, every-split}
 use Rattle.laws.specs.Longer.{Begins}
-use Rattle.laws.specs.Columns.{Grows, fold-grows, pair-grows, entry-grows, named-found, Taken, taken, not-done, bind-done, then-done, found-done, answered-done}
+use Rattle.laws.specs.Columns.{Grows, fold-grows, pair-grows, entry-grows, named-found, bind-done, need-done}
+use Rattle.laws.specs.Asked.{Taken, sought-asks, count-done, count-refused}
 use Rattle.laws.specs.Count.{made, fold-fields, chunkCount, valueCount, movable, values-even}
 use Rattle.laws.specs.Exact.{file-kept}
 
@@ -166,32 +167,51 @@ by-length l t i (array n k) h lt o e a = absurd (omega arith)
 by-length l t i (many c k) h lt o e a = absurd (omega arith)
 by-length l t i (mapping ks) h lt o e a = absurd (omega arith)
 
-need-inv : (c : Bool) (n : ℕ) (A : Type 0) (k : Answer A) (a : A) → (need c n >> k) ≡ done a → (c ≡ true) × (k ≡ done a)
-unfolding need _>>_ _>>=_
-need-inv true n A k a q = (refl, q)
-need-inv false n A k a q = not-done q
+-- a column has as many values as its type has objects
+pub column-length : {type field : List ℕ} {k : ℕ} {f : List ℕ} → Bytes f → (T : Taken type field k f) → length (columnOf (T .ledger) (T .t) (T .i)) ≡ objectsOf (known (T .ledger)) (T .t)
+unfolding columnOf
+column-length {field = field} {f = f} bytes T =
+    let Q = T .asks in
+    let (w, o) = field-owner (known (T .ledger)) (T .t) field (T .i) (Q .fielded) in
+    by-length (T .ledger) (T .t) (T .i) _ (file-kept f (T .ledger) (T .end) bytes (T .read) .1) w o refl (rw (← Q .kind) (Q .given))
 
-found-objects :
-    (type : List ℕ) (table : ℕ) (f : List ℕ) (l : Ledger) (t : ℕ) → read table f ≡ done l → found (typeNamed (known l) type) 16 ≡ done t
-    → objects type table f ≡ done (objectsOf (known l) t)
-unfolding objects _>>=_
-found-objects type table f l t x y = rw (x, y)
+-- ── the pair of calls ──
 
--- an answered column has as many values as the type has objects, and there is room for them
-pub column-length :
-    (type field : List ℕ) (k room table : ℕ) (f : List ℕ) (c : List ℤ) → Bytes f → column type field k room table f ≡ done c
-    → (objects type table f ≡ done (length c)) × (length c ≤ room)
-unfolding column ask objects read columnOf
-column-length type field k room table f c b q =
-    let (l, x, q₁) = bind-done _ _ c q in
-    let (e, x′) = answered-done _ l (then-done _ _ l x) in
-    let (t, y, q₂) = bind-done _ _ c q₁ in
-    let (i, z, q₃) = bind-done _ _ c q₂ in
-    let (n₁, q₄) = need-inv _ 18 (List ℤ) _ c q₃ in
-    let (n₂, q₅) = need-inv _ 19 (List ℤ) _ c q₄ in
-    let same : columnBy (fieldAt (known l) i .kind) l t i ≡ c = cc q₅ in
-    let (w, o) = field-owner (known l) t field i (found-done _ 17 i z) in
-    let (a₁, a₂) = and-split (eqb k (asked (fieldAt (known l) i .kind))) (leb k 32) n₁ in
-    let le : asked (fieldAt (known l) i .kind) ≤ 32 = rw (← eqb-true k (asked (fieldAt (known l) i .kind)) a₁) (leb-true k 32 a₂) in
-    let len = ap length (sym same) ∙ by-length l t i (fieldAt (known l) i .kind) (file-kept f l e b x′ .1) w o refl le in
-    (rw len (found-objects type table f l t x y), omega (arith, leb-true (objectsOf (known l) t) room n₂))
+module _ (type field : List ℕ) (k table : ℕ) (f : List ℕ) where
+  typed-objects : (l : Ledger) (t : ℕ) → read table f ≡ done l → typeNamed (known l) type ≡ some t → objects type table f ≡ done (objectsOf (known l) t)
+  unfolding objects found _>>=_
+  typed-objects l t x y = rw (x, y)
+
+  -- what is counted is as many as the type has objects
+  pub count-objects : (n : ℕ) → countValues type field k table f ≡ done n → objects type table f ≡ done n
+  unfolding countValues
+  count-objects n q =
+      let (l, x, q₁) = bind-done _ _ n q in
+      let ((t, i), y, q₂) = bind-done _ _ n q₁ in
+      typed-objects l t x (sought-asks y .typed) ∙ q₂
+
+  module _ (bytes : Bytes f) (room : ℕ) where
+    by-room : (n : ℕ) (c : List ℤ) → length c ≡ n → (fits : Bool) → howMany (need fits 19 >> done c) ≡ (need fits 19 >> done n)
+    unfolding howMany need _>>_ _>>=_
+    by-room n c is true = ap done is
+    by-room n c is false = refl
+
+    by-count : (a : Answer ℕ) → countValues type field k table f ≡ a → howMany (fillValues type field k room table f) ≡ (a >>= λ n. need (leb n room) 19 >> done n)
+    unfolding howMany _>>=_
+    by-count (done n) q =
+        let (T, is, fills) = count-done type field k table f n q in
+        ap howMany (fills room) ∙ by-room n _ (column-length bytes T ∙ sym is) (leb n room)
+    by-count (refused n) q = ap howMany (count-refused type field k table f n q room)
+
+    -- the second call writes as many as the first one answers, in whatever room holds them; else it gives 19; and where the first one
+    -- refuses, the second does likewise
+    pub fill-by-count : howMany (fillValues type field k room table f) ≡ (countValues type field k table f >>= λ n. need (leb n room) 19 >> done n)
+    fill-by-count = by-count _ refl
+
+    pub fill-counted : (c : List ℤ) → fillValues type field k room table f ≡ done c → (countValues type field k table f ≡ done (length c)) × (length c ≤ room)
+    unfolding howMany
+    fill-counted c q =
+        let (n, x, y) = bind-done _ _ (length c) (sym fill-by-count ∙ ap howMany q) in
+        let (fits, z) = need-done _ 19 _ (length c) y in
+        let same : n ≡ length c = cc z in
+        (x ∙ ap done same, rw (← same) (leb-true n room fits))

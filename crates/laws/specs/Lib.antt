@@ -18,6 +18,7 @@ pub mod Heads
 pub mod Entries
 pub mod Exact
 pub mod Columns
+pub mod Asked
 pub mod Damage
 pub mod Count
 pub mod Lengths

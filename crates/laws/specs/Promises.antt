@@ -19,7 +19,7 @@ use Rattle.paper.specs.Spell.{Spells}
 use Rattle.paper.specs.Keeps.{every, inTurn, pair?, keeps?}
 use Rattle.paper.specs.Calls.{Answer, done, refused, need, found, answered, read, check, fitted, listing, _>>=_, _>>_, build}
 use Rattle.laws.specs.Says.{Bytes}
-use Rattle.laws.specs.Columns.{not-done, bind-done, then-done, found-done, answered-done}
+use Rattle.laws.specs.Columns.{not-done, bind-done, then-done, need-done, found-done, answered-done}
 use Rattle.laws.specs.Exact.{file-kept, file-taken, spells-bytes, encode-fits}
 use Rattle.laws.specs.Shortest.{encode-spells, encode-short}
 use Rattle.laws.specs.Longer.{file-length}
@@ -106,16 +106,11 @@ none-exactly t b = (there, λ h. here h (fileOf t) refl)
 
 -- ── the calls ──
 
-pub need-inv : (c : Bool) (n : ℕ) (A : Type 0) (k : Answer A) (a : A) → (need c n >> k) ≡ done a → (c ≡ true) × (k ≡ done a)
-unfolding need _>>_ _>>=_
-need-inv true n A k a q = (refl, q)
-need-inv false n A k a q = not-done q
-
 -- what is written fits, and is written whole
 pub fitted-inv : (room : ℕ) (t u : List ℕ) → fitted room t ≡ done u → (t ≡ u) × (length t ≤ room)
 unfolding fitted
 fitted-inv room t u q =
-    let (a, b) = need-inv (leb (length t) room) 19 (List ℕ) _ u q in
+    let (a, b) = need-done (leb (length t) room) 19 _ u q in
     (cc b, leb-true (length t) room a)
 
 pub fitted-done : (room : ℕ) (t : List ℕ) → length t ≤ room → fitted room t ≡ done t
@@ -151,7 +146,7 @@ pub listing-build :
     (room table room′ : ℕ) (t f : List ℕ) → Bytes t → build room table t ≡ done f → length t ≤ room′ → (listing room′ table f ≡ done t) × Bytes f × (length f ≤ room)
 unfolding build
 listing-build room table room′ t f b q r =
-    let (h, q₁) = need-inv (leb tableLength table) 15 (List ℕ) _ f q in
+    let (h, q₁) = need-done (leb tableLength table) 15 _ f q in
     let (g, x, q₂) = bind-done _ _ f q₁ in
     let (z, fits) = fitted-inv room g f q₂ in
     let (l, a, e, _) = forth t f b (found-done _ 20 g x ∙ ap {B = Option (List ℕ)} some z) in
@@ -164,7 +159,7 @@ pub built-back :
     → build room″ table″ u ≡ done f
 unfolding build
 built-back room table room′ table′ room″ table″ t f u b q p h r =
-    let (_, q₁) = need-inv (leb tableLength table) 15 (List ℕ) _ f q in
+    let (_, q₁) = need-done (leb tableLength table) 15 _ f q in
     let (g, x, q₂) = bind-done _ _ f q₁ in
     let (z, fits) = fitted-inv room g f q₂ in
     let (m, c, _, same) = forth t f b (found-done _ 20 g x ∙ ap {B = Option (List ℕ)} some z) in

@@ -1,4 +1,4 @@
--- The five calls: what each answers, 15 to 20 included, and what the lent memory holds afterwards. Assumes nothing.
+-- The six calls: what each answers, 15 to 20 included, and what the lent memory holds afterwards. Assumes nothing.
 use mathlib.Core.Bool.{Bool, true, false, _&&_, _||_, not}
 use mathlib.Core.List.{List, [], _∷_, _++_, map}
 use mathlib.Core.Option.{Option, none, some}
@@ -137,19 +137,28 @@ asked (array n k) = 33
 asked (many c k) = 33
 asked (mapping ks) = 33
 
--- 16, 17, 18, 19; `values` gives those of a type's field
-unfoldable pub ask : List ℕ → List ℕ → ℕ → ℕ → State → (ℕ → ℕ → List ℤ) → Answer (List ℤ)
-ask type field k room s values = do
+-- 16, 17, 18: the type and its field that are asked for
+unfoldable pub sought : List ℕ → List ℕ → ℕ → State → Answer (ℕ × ℕ)
+sought type field k s = do
   t ← found (typeNamed s type) 16
   i ← found (fieldNamed s t field) 17
   need (eqb k (asked (fieldAt s i .kind)) && leb k 32) 18
-  need (leb (objectsOf s t) room) 19
-  done (values t i)
+  done (t, i)
 
-unfoldable pub column : List ℕ → List ℕ → ℕ → ℕ → ℕ → List ℕ → Answer (List ℤ)
-column type field k room table f = do
+-- how many values there are: one for each object
+unfoldable pub countValues : List ℕ → List ℕ → ℕ → ℕ → List ℕ → Answer ℕ
+countValues type field k table f = do
   l ← read table f
-  ask type field k room (known l) (columnOf l)
+  (t, i) ← sought type field k (known l)
+  done (objectsOf (known l) t)
+
+-- the values themselves, if there is room for them
+unfoldable pub fillValues : List ℕ → List ℕ → ℕ → ℕ → ℕ → List ℕ → Answer (List ℤ)
+fillValues type field k room table f = do
+  l ← read table f
+  (t, i) ← sought type field k (known l)
+  need (leb (objectsOf (known l) t) room) 19
+  done (columnOf l t i)
 
 -- ── listing and build ──
 
@@ -211,8 +220,11 @@ afterCheck file table = tells (check (length table) file) table
 unfoldable pub afterObjects : List ℕ → List ℕ → List ℕ → Left ℕ
 afterObjects file type table = tells (objects type (length table) file) table
 
-unfoldable pub afterColumn : List ℕ → List ℕ → List ℕ → ℕ → List ℕ → List ℤ → Left ℤ
-afterColumn file type field k table out = writes (column type field k (length out) (length table) file) table out
+unfoldable pub afterCount : List ℕ → List ℕ → List ℕ → ℕ → List ℕ → Left ℕ
+afterCount file type field k table = tells (countValues type field k (length table) file) table
+
+unfoldable pub afterFill : List ℕ → List ℕ → List ℕ → ℕ → List ℕ → List ℤ → Left ℤ
+afterFill file type field k table out = writes (fillValues type field k (length out) (length table) file) table out
 
 unfoldable pub afterListing : List ℕ → List ℕ → List ℕ → Left ℕ
 afterListing file table out = writes (listing (length out) (length table) file) table out

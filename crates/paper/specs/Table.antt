@@ -9,7 +9,7 @@ use Rattle.paper.specs.Numbers.{v64, signed, put, unsigned}
 use Rattle.paper.specs.File.{file}
 use Rattle.paper.specs.Encode.{encode}
 use Rattle.paper.specs.Listing.{ascii}
-use Rattle.paper.specs.Calls.{Answer, done, refused, check, objects, column, listing, build}
+use Rattle.paper.specs.Calls.{Answer, done, refused, check, objects, countValues, fillValues, listing, build}
 use Rattle.paper.specs.Whole.{whole}
 
 -- the bytes are read as this number, and the number is written as these bytes
@@ -52,9 +52,11 @@ pub table :
     (signed 1 0x80 ≡ negsuc 127) ×
     (length D ≡ 29) ×
     (check 16384 D ≡ done 0) ×
-    (column date date 11 2 16384 D ≡ done (pos 1 ∷ negsuc 0 ∷ [])) ×
+    (countValues date date 11 16384 D ≡ done 2) ×
+    (fillValues date date 11 2 16384 D ≡ done (pos 1 ∷ negsuc 0 ∷ [])) ×
     (check 16384 E ≡ done 0) ×
-    (column date date 11 3 16384 E ≡ done (pos 1 ∷ negsuc 0 ∷ pos 256 ∷ [])) ×
+    (countValues date date 11 16384 E ≡ done 3) ×
+    (fillValues date date 11 3 16384 E ≡ done (pos 1 ∷ negsuc 0 ∷ pos 256 ∷ [])) ×
     (objects date 16384 E ≡ done 3) ×
     (listing 200 16384 E ≡ done E-listing) ×
     (build 37 16384 E-listing ≡ done E) ×
@@ -76,6 +78,8 @@ table = (
   (refl, refl, refl),
   (refl, refl, refl),
   (refl, refl, refl),
+  refl,
+  refl,
   refl,
   refl,
   refl,

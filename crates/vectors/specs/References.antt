@@ -8,7 +8,7 @@ use lib.IntN.{ℤ, pos, negsuc}
 use Rattle.paper.specs.Reader.{Out, got, no}
 use Rattle.paper.specs.File.{file}
 use Rattle.paper.specs.Listing.{ascii}
-use Rattle.paper.specs.Calls.{Answer, done, refused, objects, column, listing, build}
+use Rattle.paper.specs.Calls.{Answer, done, refused, objects, fillValues, listing, build}
 use Rattle.paper.specs.Whole.{whole}
 
 abbrev P : List ℕ

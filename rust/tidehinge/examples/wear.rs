@@ -9,7 +9,7 @@ use std::fs;
 use std::io::{self, Write};
 use std::process::ExitCode;
 
-use tidehinge::{column, Refusal, OBJECTS, WORK};
+use tidehinge::{count_values, fill_values, Refusal, WORK};
 
 /// A drive is replaced at this wear.
 const REPLACED_AT: i64 = 300;
@@ -17,12 +17,13 @@ const REPLACED_AT: i64 = 300;
 /// The kind of the field: v64.
 const V64: u64 = 11;
 
-/// The wear of every drive, in the order in which they were entered.
+/// The wear of every drive, in the order in which they were entered: how many
+/// there are is asked first, and so many numbers are lent.
 fn wear_of_drives(file: &[u8]) -> Result<Vec<i64>, Refusal> {
     let mut work = vec![0; WORK];
-    let mut wear = vec![0; OBJECTS];
-    let count = column(file, b"drive", b"wear", V64, &mut work, &mut wear)?;
-    wear.truncate(count);
+    let count = count_values(file, b"drive", b"wear", V64, &mut work)?;
+    let mut wear = vec![0; count];
+    fill_values(file, b"drive", b"wear", V64, &mut work, &mut wear)?;
     Ok(wear)
 }
 

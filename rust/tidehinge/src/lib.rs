@@ -33,8 +33,8 @@ pub const WORK: usize = 16_384;
 /// The most bytes that a file has.
 pub const FILE: usize = 1_048_576;
 
-/// The most objects that all types of a file have together. A column of this
-/// length has room for any field.
+/// The most objects that all types of a file have together. So many numbers are
+/// room for the values of any field.
 pub const OBJECTS: usize = 65_535;
 
 /// Checks that a file follows every rule of the format.
@@ -49,17 +49,16 @@ pub fn objects(file: &[u8], type_name: &[u8], work: &mut [u32]) -> Result<usize,
     refusal::of_answer(library::objects(file, type_name, work))
 }
 
-/// Writes one field's values to the front of `out`, one for each object of the
-/// type, in the order of the file; gives their number, which [`objects`] gives
-/// too.
+/// The number of values that one field has: one for each object of the type,
+/// so the number that [`objects`] gives too.
 ///
-/// The rest of `out` is untouched, and a refusal leaves all of it as it was.
-/// The field is one of the type itself, not of its super types.
+/// Ask first, lend [`fill_values`] so many numbers, or more, and it writes
+/// exactly so many. Both take the same names and kind.
 ///
-/// `kind` has to be the field's kind; any other number gives
-/// [`Refusal::OtherKind`].
+/// The field is one of the type itself, not of its super types. `kind` has to
+/// be the field's kind; any other number gives [`Refusal::OtherKind`].
 ///
-/// | kind | what is written |
+/// | kind | what is counted here, and written by [`fill_values`] |
 /// |---|---|
 /// | 0 to 4 | constant i8, i16, i32, i64, v64: its value, for every object |
 /// | 6 | bool: 0 or 1 |
@@ -68,10 +67,66 @@ pub fn objects(file: &[u8], type_name: &[u8], work: &mut [u32]) -> Result<usize,
 /// | 14 | string: its number in the file, from 1, or 0 for none |
 /// | 32 | reference to any type: the object's number, from 1, or 0 for none |
 ///
-/// An annotation (kind 5), an array, list or set (15, 17 to 19) and a map (20)
-/// have no column: every number asked of them gives [`Refusal::OtherKind`].
-/// [`listing`] shows them.
-pub fn column(
+/// A value of an annotation (kind 5), of an array, list or set (15, 17 to 19)
+/// or of a map (20) is not one number: whatever kind these are asked with gives
+/// [`Refusal::OtherKind`]. [`listing`] shows them.
+///
+/// The refusals are [`Refusal::Table`], those of the file,
+/// [`Refusal::NoType`], [`Refusal::NoField`] and [`Refusal::OtherKind`],
+/// looked for in this order. [`Refusal::Room`] is never given: no output is
+/// lent.
+///
+/// ```
+/// // The type `date` has two objects, and a field `date` of kind v64.
+/// let file = b"\x01\0\0\0\x04date\x01\x01\0\x02\0\x01\0\x0B\x01\x02\x01\x7F";
+/// let mut work = vec![0; tidehinge::WORK];
+/// let count = tidehinge::count_values(file, b"date", b"date", 11, &mut work)?;
+/// assert_eq!(count, 2);
+///
+/// let mut values = vec![0; count];
+/// tidehinge::fill_values(file, b"date", b"date", 11, &mut work, &mut values)?;
+/// assert_eq!(values, [1, 127]);
+/// # Ok::<(), tidehinge::Refusal>(())
+/// ```
+pub fn count_values(
+    file: &[u8],
+    type_name: &[u8],
+    field: &[u8],
+    kind: u64,
+    work: &mut [u32],
+) -> Result<usize, Refusal> {
+    refusal::of_answer(library::count_values(file, type_name, field, kind, work))
+}
+
+/// Writes the values that [`count_values`] counts to the front of `out`, in the
+/// order of the file; gives their number, which is the same.
+///
+/// The rest of `out` is untouched, and a refusal leaves all of it as it was.
+///
+/// The refusals are those of [`count_values`], in the same order, and behind
+/// them [`Refusal::Room`], if `out` has fewer places than there are values.
+///
+/// Each of the two reads the whole file anew, and knows nothing of the other.
+/// If it is another file by then, this one answers for the bytes that it gets,
+/// and with [`Refusal::Room`] where these have more values than `out` has
+/// places.
+///
+/// [`OBJECTS`] numbers are always enough. Whoever would rather make one call
+/// lends so many, and need not ask:
+///
+/// ```
+/// // The type `date` has two objects, and a field `date` of kind v64.
+/// let file = b"\x01\0\0\0\x04date\x01\x01\0\x02\0\x01\0\x0B\x01\x02\x01\x7F";
+/// let mut work = vec![0; tidehinge::WORK];
+/// let mut values = vec![0; tidehinge::OBJECTS];
+/// let count = tidehinge::fill_values(file, b"date", b"date", 11, &mut work, &mut values)?;
+/// assert_eq!(values[..count], [1, 127]);
+///
+/// let refusal = tidehinge::fill_values(file, b"date", b"date", 11, &mut work, &mut values[..1]);
+/// assert_eq!(refusal, Err(tidehinge::Refusal::Room));
+/// # Ok::<(), tidehinge::Refusal>(())
+/// ```
+pub fn fill_values(
     file: &[u8],
     type_name: &[u8],
     field: &[u8],
@@ -79,7 +134,8 @@ pub fn column(
     work: &mut [u32],
     out: &mut [i64],
 ) -> Result<usize, Refusal> {
-    refusal::of_answer(library::column(file, type_name, field, kind, work, out))
+    let answer = library::fill_values(file, type_name, field, kind, work, out);
+    refusal::of_answer(answer)
 }
 
 /// Writes the listing of a file, which is text in ASCII, to the front of

@@ -25,7 +25,19 @@ mod foreign {
             work_length: usize,
         ) -> i64;
 
-        pub fn th_column(
+        pub fn th_count_values(
+            file: *const u8,
+            file_length: usize,
+            type_name: *const u8,
+            type_length: usize,
+            field: *const u8,
+            field_length: usize,
+            kind: u64,
+            work: *mut u32,
+            work_length: usize,
+        ) -> i64;
+
+        pub fn th_fill_values(
             file: *const u8,
             file_length: usize,
             type_name: *const u8,
@@ -79,7 +91,30 @@ pub fn objects(file: &[u8], type_name: &[u8], work: &mut [u32]) -> i64 {
     }
 }
 
-pub fn column(
+pub fn count_values(
+    file: &[u8],
+    type_name: &[u8],
+    field: &[u8],
+    kind: u64,
+    work: &mut [u32],
+) -> i64 {
+    // SAFETY: as for `check`.
+    unsafe {
+        foreign::th_count_values(
+            file.as_ptr(),
+            file.len(),
+            type_name.as_ptr(),
+            type_name.len(),
+            field.as_ptr(),
+            field.len(),
+            kind,
+            work.as_mut_ptr(),
+            work.len(),
+        )
+    }
+}
+
+pub fn fill_values(
     file: &[u8],
     type_name: &[u8],
     field: &[u8],
@@ -90,7 +125,7 @@ pub fn column(
     // SAFETY: as for `check`; `out` is borrowed mutably too. Every i64 is a
     // value of `out`, so it may be written in part or not at all.
     unsafe {
-        foreign::th_column(
+        foreign::th_fill_values(
             file.as_ptr(),
             file.len(),
             type_name.as_ptr(),
@@ -107,7 +142,7 @@ pub fn column(
 }
 
 pub fn listing(file: &[u8], work: &mut [u32], out: &mut [u8]) -> i64 {
-    // SAFETY: as for `column`.
+    // SAFETY: as for `fill_values`.
     unsafe {
         foreign::th_listing(
             file.as_ptr(),
@@ -121,7 +156,7 @@ pub fn listing(file: &[u8], work: &mut [u32], out: &mut [u8]) -> i64 {
 }
 
 pub fn build(text: &[u8], work: &mut [u32], out: &mut [u8]) -> i64 {
-    // SAFETY: as for `column`.
+    // SAFETY: as for `fill_values`.
     unsafe {
         foreign::th_build(
             text.as_ptr(),

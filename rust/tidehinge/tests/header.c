@@ -22,6 +22,16 @@ int main(void) {
     static const uint8_t file[] = {0};
     static uint32_t work[TH_WORK];
     printf("%s\n", th_words(th_check(file, sizeof file, work, TH_WORK)));
+    /* Type `a` has two objects and a field `a`, the constant 5. */
+    static const uint8_t fives[] = {1, 0, 0, 0, 1, 'a', 1, 1, 0, 2, 0, 1, 0, 0, 5, 1, 0};
+    static const uint8_t a[] = {'a'};
+    static int64_t values[2];
+    int64_t count = th_count_values(fives, sizeof fives, a, 1, a, 1, 0, work, TH_WORK);
+    int64_t filled =
+        th_fill_values(fives, sizeof fives, a, 1, a, 1, 0, work, TH_WORK, values, (size_t)count);
+    printf("%d %d %d %d\n", (int)count, (int)filled, (int)values[0], (int)values[1]);
+    filled = th_fill_values(fives, sizeof fives, a, 1, a, 1, 0, work, TH_WORK, values, 1);
+    printf("%s\n", th_words(filled));
     /* The number of strings is in two bytes here, and in one when the pair comes back. */
     static const uint8_t pair[] = {0x80, 0, 0};
     static uint8_t text[9 * sizeof pair];

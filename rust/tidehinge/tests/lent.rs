@@ -31,8 +31,12 @@ fn assert_tables(call: Call<'_>, expected: Result<usize, Refusal>) {
     }
 }
 
-fn column_of(file: &[u8], kind: u64, work: &mut [u32], out: &mut [i64]) -> Result<usize, Refusal> {
-    tidehinge::column(file, b"date", b"date", kind, work, out)
+fn count_of(file: &[u8], kind: u64, work: &mut [u32]) -> Result<usize, Refusal> {
+    tidehinge::count_values(file, b"date", b"date", kind, work)
+}
+
+fn fill_of(file: &[u8], kind: u64, work: &mut [u32], out: &mut [i64]) -> Result<usize, Refusal> {
+    tidehinge::fill_values(file, b"date", b"date", kind, work, out)
 }
 
 fn listing_of(file: &[u8], work: &mut [u32]) -> Result<usize, Refusal> {
@@ -48,7 +52,8 @@ fn tables_after_an_answer() {
     let file = e();
     assert_tables(&|work| tidehinge::check(&file, work).map(|()| 0), Ok(0));
     assert_tables(&|work| tidehinge::objects(&file, b"date", work), Ok(3));
-    assert_tables(&|work| column_of(&file, 11, work, &mut [0; 9]), Ok(3));
+    assert_tables(&|work| count_of(&file, 11, work), Ok(3));
+    assert_tables(&|work| fill_of(&file, 11, work, &mut [0; 9]), Ok(3));
     assert_tables(&|work| listing_of(&file, work), Ok(LISTING.len()));
     assert_tables(&|work| build_of(LISTING, work, 400), Ok(file.len()));
 }
@@ -59,7 +64,8 @@ fn tables_after_a_fault_of_the_file() {
     let refused = Err(Refusal::Chunk);
     assert_tables(&|work| tidehinge::check(&file, work).map(|()| 0), refused);
     assert_tables(&|work| tidehinge::objects(&file, b"date", work), refused);
-    assert_tables(&|work| column_of(&file, 11, work, &mut [0; 9]), refused);
+    assert_tables(&|work| count_of(&file, 11, work), refused);
+    assert_tables(&|work| fill_of(&file, 11, work, &mut [0; 9]), refused);
     assert_tables(&|work| listing_of(&file, work), refused);
 }
 
@@ -69,7 +75,8 @@ fn tables_after_a_file_that_is_too_long() {
     let refused = Err(Refusal::Limit);
     assert_tables(&|work| tidehinge::check(&file, work).map(|()| 0), refused);
     assert_tables(&|work| tidehinge::objects(&file, b"date", work), refused);
-    assert_tables(&|work| column_of(&file, 11, work, &mut [0; 9]), refused);
+    assert_tables(&|work| count_of(&file, 11, work), refused);
+    assert_tables(&|work| fill_of(&file, 11, work, &mut [0; 9]), refused);
     assert_tables(&|work| listing_of(&file, work), refused);
 }
 
@@ -78,10 +85,15 @@ fn tables_after_a_question_without_an_answer() {
     let file = e();
     let no_type = Err(Refusal::NoType);
     assert_tables(&|work| tidehinge::objects(&file, b"day", work), no_type);
+    let of_no_type = |work: &mut [u32]| tidehinge::count_values(&file, b"day", b"date", 11, work);
+    assert_tables(&of_no_type, no_type);
+    let of_no_field = |work: &mut [u32]| tidehinge::count_values(&file, b"date", b"day", 11, work);
+    assert_tables(&of_no_field, Err(Refusal::NoField));
     let other_kind = Err(Refusal::OtherKind);
-    assert_tables(&|work| column_of(&file, 10, work, &mut [0; 9]), other_kind);
+    assert_tables(&|work| count_of(&file, 10, work), other_kind);
+    assert_tables(&|work| fill_of(&file, 10, work, &mut [0; 9]), other_kind);
     let room = Err(Refusal::Room);
-    assert_tables(&|work| column_of(&file, 11, work, &mut [0; 2]), room);
+    assert_tables(&|work| fill_of(&file, 11, work, &mut [0; 2]), room);
     let listing = |work: &mut [u32]| tidehinge::listing(&file, work, &mut [0; 94]);
     assert_tables(&listing, room);
     assert_tables(&|work| build_of(LISTING, work, 36), room);
@@ -101,53 +113,62 @@ fn tables_after_a_text_that_is_no_listing() {
 fn rooms() {
     for length in [0, 1, 2] {
         let mut out = vec![-5; length];
-        let answer = column_of(&e(), 11, &mut table(), &mut out);
+        let answer = fill_of(&e(), 11, &mut table(), &mut out);
         assert_eq!(answer, Err(Refusal::Room), "{length}");
         assert_eq!(out, vec![-5; length]);
     }
     for length in [3, 4, 900] {
         let mut out = vec![-5; length];
-        let answer = column_of(&e(), 11, &mut table(), &mut out);
+        let answer = fill_of(&e(), 11, &mut table(), &mut out);
         assert_eq!(answer, Ok(3), "{length}");
         assert_eq!(out[..3], [1, -1, 256]);
         assert!(out[3..].iter().all(|&number| number == -5));
     }
 }
 
-/// A type without objects needs no room.
-#[test]
-fn no_room_is_enough_for_nothing() {
-    let file = [
-        0x01, 0x00, 0x00, 0x00, 0x01, b'a', // one string
-        0x01, 0x01, 0x00, 0x00, 0x00, 0x01, // one type, no objects, one field
-        0x00, 0x0B, 0x01, 0x00, // v64, ends at 0
-    ];
-    let answer = tidehinge::column(&file, b"a", b"a", 11, &mut table(), &mut []);
-    assert_eq!(answer, Ok(0));
-}
-
-fn assert_column_left(file: &[u8], names: [&str; 2], kind: u64, refusal: Refusal) {
+fn assert_output_left(file: &[u8], names: [&str; 2], kind: u64, refusal: Refusal) {
     let [type_name, field] = names.map(str::as_bytes);
     let mut out = [-5; 9];
-    let answer = tidehinge::column(file, type_name, field, kind, &mut table(), &mut out);
+    let answer = tidehinge::fill_values(file, type_name, field, kind, &mut table(), &mut out);
     assert_eq!(answer, Err(refusal));
     assert_eq!(out, [-5; 9]);
 }
 
-/// A column of another type or field, of another kind, or of a damaged file
-/// writes nothing, also where the fault stands behind good values.
+/// Of another type or field, of another kind, or of a damaged file nothing is
+/// written, also where the fault stands behind good values.
 #[test]
-fn a_refusal_leaves_the_column() {
+fn a_refusal_leaves_the_output() {
     let good = e();
-    assert_column_left(&good, ["day", "date"], 11, Refusal::NoType);
-    assert_column_left(&good, ["date", "day"], 11, Refusal::NoField);
-    assert_column_left(&good, ["date", "date"], 10, Refusal::OtherKind);
-    assert_column_left(&good[..36], ["date", "date"], 11, Refusal::Short);
-    assert_column_left(&e_with(END, 1), ["date", "date"], 11, Refusal::Chunk);
+    assert_output_left(&good, ["day", "date"], 11, Refusal::NoType);
+    assert_output_left(&good, ["date", "day"], 11, Refusal::NoField);
+    assert_output_left(&good, ["date", "date"], 10, Refusal::OtherKind);
+    assert_output_left(&good[..36], ["date", "date"], 11, Refusal::Short);
+    assert_output_left(&e_with(END, 1), ["date", "date"], 11, Refusal::Chunk);
     let mut out = [-5; 9];
-    let answer = column_of(&good, 11, &mut [1; WORK - 1], &mut out);
+    let answer = fill_of(&good, 11, &mut [1; WORK - 1], &mut out);
     assert_eq!(answer, Err(Refusal::Table));
     assert_eq!(out, [-5; 9]);
+}
+
+/// The file and the names are only read, whatever is answered.
+#[test]
+fn what_is_read_is_left() {
+    let good = e();
+    for (file, name, kind, expected) in [
+        (&good[..], "date", 11, Ok(3)),
+        (&good, "date", 10, Err(Refusal::OtherKind)),
+        (&good, "day", 11, Err(Refusal::NoType)),
+        (&good[..36], "date", 11, Err(Refusal::Short)),
+    ] {
+        let lent = (file.to_vec(), name.to_string(), name.to_string());
+        let (bytes, names) = (&lent.0, [lent.1.as_bytes(), lent.2.as_bytes()]);
+        let counted = tidehinge::count_values(bytes, names[0], names[1], kind, &mut table());
+        assert_eq!(counted, expected);
+        let out = &mut [0; 3];
+        let filled = tidehinge::fill_values(bytes, names[0], names[1], kind, &mut table(), out);
+        assert_eq!(filled, expected);
+        assert_eq!((&bytes[..], names), (file, [name.as_bytes(); 2]));
+    }
 }
 
 #[test]
@@ -258,7 +279,8 @@ fn threads_with_tables_of_their_own() {
                 let mut work = table();
                 let mut out = [0; 3];
                 for _ in 0..50 {
-                    assert_eq!(column_of(&file, 11, &mut work, &mut out), Ok(3));
+                    assert_eq!(count_of(&file, 11, &mut work), Ok(3));
+                    assert_eq!(fill_of(&file, 11, &mut work, &mut out), Ok(3));
                     assert_eq!(out, [1, -1, 256]);
                     assert_eq!(listing_of(&file, &mut work), Ok(95));
                     assert_eq!(build_of(LISTING, &mut work, 37), Ok(37));

@@ -3,7 +3,7 @@
 
 mod common;
 
-use common::{build, check, column, e, e_with, listing, objects};
+use common::{build, check, e, e_with, listing, objects, values_of};
 use common::{END, LISTING};
 use tidehinge::{Refusal, FILE};
 
@@ -42,7 +42,7 @@ fn e_in_nines() -> Vec<u8> {
 fn assert_is_e(file: &[u8]) {
     assert_eq!(check(file), Ok(()));
     assert_eq!(objects(file, "date"), Ok(3));
-    assert_eq!(column(file, "date", "date", 11), Ok(vec![1, -1, 256]));
+    assert_eq!(values_of(file, "date", "date", 11), Ok(vec![1, -1, 256]));
     let text = listing(file).expect("the listing of an accepted file");
     assert_eq!(text, LISTING);
     assert_eq!(build(&text), Ok(e()));
@@ -114,7 +114,7 @@ fn across_the_end_of_a_chunk() {
     file[36] = 0;
     assert_eq!(check(&file), Err(Refusal::Chunk));
     file[34] = 2;
-    assert_eq!(column(&file, "date", "date", 11), Ok(vec![1, -1, 0]));
+    assert_eq!(values_of(&file, "date", "date", 11), Ok(vec![1, -1, 0]));
 }
 
 /// A cut between the pairs leaves the first file. Any other is seen.
@@ -158,7 +158,7 @@ fn the_ledger_in_nine_bytes() {
         assert_eq!(check(file), Ok(()));
         assert_eq!(objects(file, "drive"), Ok(10));
         assert_eq!(objects(file, "spare"), Ok(2));
-        assert_eq!(column(file, "drive", "wear", 11).as_ref(), Ok(&wear));
+        assert_eq!(values_of(file, "drive", "wear", 11).as_ref(), Ok(&wear));
         assert_eq!(listing(file).as_deref(), Ok(NINE_LISTING));
     }
     assert_eq!(build(NINE_LISTING).as_deref(), Ok(SHORT));

@@ -2,7 +2,7 @@
 
 mod common;
 
-use common::{build, check, column, e, e_with, listing, objects};
+use common::{build, check, e, e_with, listing, objects, values_of};
 use common::{COUNT, D, END, FIELDS, LISTING, SEVERAL};
 use tidehinge::Refusal;
 
@@ -10,10 +10,10 @@ use tidehinge::Refusal;
 fn the_two_files() {
     assert_eq!(check(&D), Ok(()));
     assert_eq!(objects(&D, "date"), Ok(2));
-    assert_eq!(column(&D, "date", "date", 11), Ok(vec![1, -1]));
+    assert_eq!(values_of(&D, "date", "date", 11), Ok(vec![1, -1]));
     assert_eq!(check(&e()), Ok(()));
     assert_eq!(objects(&e(), "date"), Ok(3));
-    assert_eq!(column(&e(), "date", "date", 11), Ok(vec![1, -1, 256]));
+    assert_eq!(values_of(&e(), "date", "date", 11), Ok(vec![1, -1, 256]));
 }
 
 #[test]
@@ -41,7 +41,7 @@ fn the_two_files_as_examples() {
 fn the_empty_file() {
     assert_eq!(check(&[]), Ok(()));
     assert_eq!(objects(&[], ""), Err(Refusal::NoType));
-    assert_eq!(column(&[], "", "", 11), Err(Refusal::NoType));
+    assert_eq!(values_of(&[], "", "", 11), Err(Refusal::NoType));
     assert_eq!(listing(&[]).as_deref(), Ok(""));
     assert_eq!(build(""), Ok(Vec::new()));
 }
@@ -52,7 +52,7 @@ fn assert_refused(file: &[u8], refusal: Refusal) {
     assert_eq!(listing(file), Err(refusal));
     for name in ["date", "no such name"] {
         assert_eq!(objects(file, name), Err(refusal));
-        assert_eq!(column(file, name, "date", 11), Err(refusal));
+        assert_eq!(values_of(file, name, "date", 11), Err(refusal));
     }
 }
 
@@ -90,8 +90,8 @@ fn too_long() {
 fn names_that_are_missing() {
     for name in ["dat", "dates", "Date", "", "date\0"] {
         assert_eq!(objects(&e(), name), Err(Refusal::NoType), "{name}");
-        assert_eq!(column(&e(), name, "date", 11), Err(Refusal::NoType));
-        assert_eq!(column(&e(), "date", name, 11), Err(Refusal::NoField));
+        assert_eq!(values_of(&e(), name, "date", 11), Err(Refusal::NoType));
+        assert_eq!(values_of(&e(), "date", name, 11), Err(Refusal::NoField));
     }
 }
 
@@ -99,10 +99,10 @@ fn names_that_are_missing() {
 fn assert_kind(type_name: &str, field: &str, kind: u64, values: &[i64]) {
     let others = (0..40).chain([64, 0x1_0000_0000 + kind, u64::MAX]);
     for asked in others.filter(|&asked| asked != kind) {
-        let answer = column(&SEVERAL, type_name, field, asked);
+        let answer = values_of(&SEVERAL, type_name, field, asked);
         assert_eq!(answer, Err(Refusal::OtherKind), "{field} as {asked}");
     }
-    let answer = column(&SEVERAL, type_name, field, kind);
+    let answer = values_of(&SEVERAL, type_name, field, kind);
     assert_eq!(answer.as_deref(), Ok(values));
 }
 
@@ -175,7 +175,7 @@ fn changed_listings() {
         assert_eq!(answer, Err(Refusal::Listing), "{to:?} for {from:?}");
     }
     let other = build(&LISTING.replace("256", "257")).unwrap();
-    assert_eq!(column(&other, "date", "date", 11), Ok(vec![1, -1, 257]));
+    assert_eq!(values_of(&other, "date", "date", 11), Ok(vec![1, -1, 257]));
 }
 
 /// The file's own bounds hold for what is built, not for the text.
@@ -197,13 +197,13 @@ fn a_subtype_has_its_own_objects_and_fields() {
     assert_eq!(objects(&SEVERAL, "a"), Ok(2));
     assert_eq!(objects(&SEVERAL, "b"), Ok(1));
     assert_eq!(objects(&SEVERAL, "c"), Err(Refusal::NoType));
-    assert_eq!(column(&SEVERAL, "b", "c", 6), Err(Refusal::NoField));
+    assert_eq!(values_of(&SEVERAL, "b", "c", 6), Err(Refusal::NoField));
 }
 
 /// Type first, then field, then kind.
 #[test]
 fn the_first_thing_wrong_is_told() {
-    assert_eq!(column(&D, "x", "x", 5), Err(Refusal::NoType));
-    assert_eq!(column(&D, "date", "x", 5), Err(Refusal::NoField));
-    assert_eq!(column(&D, "date", "date", 5), Err(Refusal::OtherKind));
+    assert_eq!(values_of(&D, "x", "x", 5), Err(Refusal::NoType));
+    assert_eq!(values_of(&D, "date", "x", 5), Err(Refusal::NoField));
+    assert_eq!(values_of(&D, "date", "date", 5), Err(Refusal::OtherKind));
 }

@@ -132,15 +132,42 @@ fn a_file_that_is_too_long() {
     assert_refused("too_long", &file, "3\ta bound is passed");
 }
 
+/// What stands in a ledger of drives before its values: their number, one field
+/// by the string of this number, its kind, and where it ends.
+fn drives(count: &[u8], field: u8, kind: u8, end: &[u8]) -> Vec<u8> {
+    let strings = [&[0x02, 0, 0, 0, 5, 0, 0, 0, 9], &b"drivewear"[..]].concat();
+    let entry = [&[0x01, 0x01, 0x00], count, &[0x00, 0x01]].concat();
+    [strings, entry, [&[0x00, kind, field], end].concat()].concat()
+}
+
 /// A ledger with as many drives as there may be, all with the wear -1.
 fn most_drives() -> Vec<u8> {
-    let mut file = vec![0x02, 0, 0, 0, 5, 0, 0, 0, 9];
-    file.extend_from_slice(b"drivewear");
-    file.extend_from_slice(&[0x01, 0x01, 0x00, 0xFF, 0xFF, 0x03, 0x00, 0x01]);
     // 65,535 values of nine bytes end at 589,815.
-    file.extend_from_slice(&[0x00, 0x0B, 0x02, 0xF7, 0xFF, 0x23]);
+    let mut file = drives(&[0xFF, 0xFF, 0x03], 2, 0x0B, &[0xF7, 0xFF, 0x23]);
     file.resize(file.len() + 9 * OBJECTS, 0xFF);
     file
+}
+
+/// A ledger of drives that have no wear, or a wear of another kind.
+#[test]
+fn drives_without_such_a_wear() {
+    let named_by_their_type = [drives(&[0x01], 1, 0x0B, &[0x01]), vec![0x05]].concat();
+    assert_refused(
+        "no_wear",
+        &named_by_their_type,
+        "17\tthe type has no such field",
+    );
+    let in_a_byte = [drives(&[0x01], 2, 0x07, &[0x01]), vec![0x05]].concat();
+    assert_refused("in_a_byte", &in_a_byte, "18\tthe field has another kind");
+}
+
+/// There is nothing to print, and nothing is wrong.
+#[test]
+fn no_drives_at_all() {
+    let path = made("none.skill");
+    fs::write(&path, drives(&[0x00], 2, 0x0B, &[0x00])).expect("the file can be written");
+    let printed = both("none", &path);
+    assert_eq!(printed, (String::new(), String::new(), Some(0)));
 }
 
 #[test]
@@ -174,7 +201,8 @@ fn assert_header(language: &Language, name: &str) {
         expected += &format!("{} {refusal}\n", refusal.number());
     }
     expected += "done\ndone\nno refusal of this format\nno refusal of this format\n";
-    expected += "the file ends too early\npair\t0\t0\n2 0 0\nno file has this listing\n";
+    expected += "the file ends too early\n2 2 5 5\nthe lent output is too short\n";
+    expected += "pair\t0\t0\n2 0 0\nno file has this listing\n";
     let printed = ran(&mut Command::new(language.compile(&source, name)));
     assert_eq!(printed, (expected, String::new(), Some(0)));
 }

@@ -3,7 +3,7 @@
 
 mod common;
 
-use common::{build, check, column, listing, objects};
+use common::{build, check, listing, objects, values_of};
 use tidehinge::Refusal;
 
 const SLOTS: &[u8] = include_bytes!("../../../examples/slots.skill");
@@ -12,20 +12,20 @@ const SLOTS: &[u8] = include_bytes!("../../../examples/slots.skill");
 const LISTING: &str = include_str!("../../../examples/slots.listing");
 
 #[test]
-fn objects_and_columns() {
+fn objects_and_values() {
     assert_eq!(check(SLOTS), Ok(()));
     assert_eq!(objects(SLOTS, "slot"), Ok(10));
     assert_eq!(objects(SLOTS, "drive"), Ok(6));
-    let wear = column(SLOTS, "drive", "wear", 11);
+    let wear = values_of(SLOTS, "drive", "wear", 11);
     assert_eq!(wear, Ok(vec![118, 127, 255, 402, 93, 0]));
 }
 
-/// Asked with any number, annotations and maps have none.
+/// Annotations and maps cannot be asked for, with whatever number.
 #[test]
-fn no_columns() {
+fn nothing_to_count_or_to_fill() {
     for (type_name, field) in [("slot", "holds"), ("slot", "ports"), ("tier", "ports")] {
         for kind in (0..40).chain([64, u64::MAX]) {
-            let answer = column(SLOTS, type_name, field, kind);
+            let answer = values_of(SLOTS, type_name, field, kind);
             assert_eq!(answer, Err(Refusal::OtherKind), "{field} as {kind}");
         }
     }

@@ -2,7 +2,7 @@
 
 mod common;
 
-use common::{build, check, column, listing, objects, table};
+use common::{build, check, listing, objects, table, values_of};
 use tidehinge::Refusal;
 
 const WEAR: &[u8] = include_bytes!("../../../examples/wear.skill");
@@ -37,18 +37,20 @@ const VALUES: [i64; 40] = [
 fn wear_of_all_drives() {
     assert_eq!(check(WEAR), Ok(()));
     assert_eq!(objects(WEAR, "drive"), Ok(40));
-    assert_eq!(column(WEAR, "drive", "wear", 11), Ok(VALUES.to_vec()));
+    assert_eq!(values_of(WEAR, "drive", "wear", 11), Ok(VALUES.to_vec()));
 }
 
 #[test]
 fn room_for_forty() {
+    let counted = tidehinge::count_values(WEAR, b"drive", b"wear", 11, &mut table());
+    assert_eq!(counted, Ok(40));
     let mut out = [-5; 40];
-    let mut ask = |length| {
+    let mut fill = |length| {
         let out = &mut out[..length];
-        tidehinge::column(WEAR, b"drive", b"wear", 11, &mut table(), out)
+        tidehinge::fill_values(WEAR, b"drive", b"wear", 11, &mut table(), out)
     };
-    assert_eq!(ask(39), Err(Refusal::Room));
-    assert_eq!(ask(40), Ok(40));
+    assert_eq!(fill(39), Err(Refusal::Room));
+    assert_eq!(fill(40), Ok(40));
     assert_eq!(out, VALUES);
 }
 
@@ -70,7 +72,7 @@ fn built_with_another_wear() {
         .expect("the wear of the last drive");
     let text = [&LISTING[..last], "val\t3\n", &LISTING[last + 6..]].concat();
     let file = build(&text).unwrap();
-    let wear = column(&file, "drive", "wear", 11).unwrap();
+    let wear = values_of(&file, "drive", "wear", 11).unwrap();
     assert_eq!(wear[..39], VALUES[..39]);
     assert_eq!(wear[39], 3);
 }
@@ -78,7 +80,7 @@ fn built_with_another_wear() {
 /// The hours come in week 9, for the drives before it too.
 #[test]
 fn the_late_field() {
-    let hours = column(WEAR, "drive", "hours", 9).unwrap();
+    let hours = values_of(WEAR, "drive", "hours", 9).unwrap();
     assert_eq!(hours.len(), 40);
     assert_eq!(hours[..4], [9_120, 9_876, 31_540, 7_411]);
     assert_eq!(hours[16..20], [23_897, 3_905, 18_724, 25_377]);
@@ -88,9 +90,9 @@ fn the_late_field() {
 /// Serial numbers are the first strings of a pair, after the name `drive`.
 #[test]
 fn the_other_fields() {
-    let serials = column(WEAR, "drive", "serial", 14).unwrap();
+    let serials = values_of(WEAR, "drive", "serial", 14).unwrap();
     assert_eq!(serials[..6], [2, 3, 4, 5, 9, 10]);
-    let shelves = column(WEAR, "drive", "shelf", 7).unwrap();
+    let shelves = values_of(WEAR, "drive", "shelf", 7).unwrap();
     assert_eq!((shelves[0], shelves[11], shelves[39]), (1, 2, 4));
 }
 
@@ -98,7 +100,7 @@ fn the_other_fields() {
 #[test]
 fn spares() {
     assert_eq!(objects(WEAR, "spare"), Ok(4));
-    assert_eq!(column(WEAR, "spare", "wear", 11), Err(Refusal::NoField));
+    assert_eq!(values_of(WEAR, "spare", "wear", 11), Err(Refusal::NoField));
 }
 
 /// A copy that lost its end is refused, or it is the ledger of some weeks ago:
@@ -108,7 +110,7 @@ fn cut_short() {
     let mut weeks = 0;
     for length in 0..WEAR.len() {
         let part = &WEAR[..length];
-        match column(part, "drive", "wear", 11) {
+        match values_of(part, "drive", "wear", 11) {
             Ok(wear) => {
                 assert_eq!(wear, VALUES[..wear.len()]);
                 assert!(LISTING.starts_with(&listing(part).unwrap()));

@@ -328,6 +328,7 @@ fn objects() -> Vec<Case> {
             &column("0B", &[0x80, 0x02]),
         ),
         case("65535 bools", 0, &column("06", &[0xFF])),
+        case("65535 constants", 0, &column("00 FD", &[])),
         case("65535 empty arrays", 0, &column("11 0B", &[0x00])),
         case(
             "65535 references to the first object",

@@ -1,7 +1,8 @@
 //! Columns and numbers of objects: kinds and names that are asked for rightly
-//! and wrongly, values at full width, several blocks, subtypes.
+//! and wrongly, values at full width, several blocks, subtypes. How many values
+//! there are is asked once of a field and a kind, and no room has a part in it.
 
-use super::sheet::{File, Sheet};
+use super::sheet::{Asked, File, Sheet};
 use crate::bounds::TABLE;
 
 /// Signed numbers of each width at their ends.
@@ -56,6 +57,9 @@ const TREE: &str = "pair 7 2/str 6162/str 6364/str 6566/str 7879/str 7a/str 76/s
 const UNNAMED: &str = "pair 4 2/str /str 6162/str 61/str 626364\
     /type 1 0 - 1 2/new 7 1/new 7 4/type 2 0 - 0 2/new 7 3/new 0,1 2/val 5/val 6";
 
+/// As many objects as there can be, with a constant for all of them.
+const MANY: &str = "pair 1 1/str 61/type 1 0 - 65535 1/new 0,-3 1";
+
 pub fn ask(sheet: &mut Sheet) {
     wholes(sheet);
     others(sheet);
@@ -65,15 +69,24 @@ pub fn ask(sheet: &mut Sheet) {
     references(sheet);
     tree(sheet);
     unnamed(sheet);
+    many(sheet);
+}
+
+/// How many values there are, asked rightly and wrongly.
+fn counts(sheet: &mut Sheet, label: &str, asked: &[Asked<'_>], file: &File) {
+    for &of in asked {
+        sheet.count(of, file);
+    }
+    sheet.state(&format!("count-{}", file.name), label);
 }
 
 fn wholes(sheet: &mut Sheet) {
     let label = "signed numbers of each width at their ends";
     let file = sheet.listed("wholes", label, WHOLES);
     for (field, kind) in [("b", 7), ("c", 8), ("d", 9), ("e", 10), ("f", 11)] {
-        sheet.values(("a", field, kind), 3, &file);
+        sheet.fill(("a", field, kind), 3, &file);
     }
-    sheet.state("column-wholes", label);
+    sheet.state("fill-wholes", label);
     for (field, kind) in [
         ("b", 6),
         ("b", 8),
@@ -90,18 +103,32 @@ fn wholes(sheet: &mut Sheet) {
         ("f", u64::MAX),
         ("f", (1 << 32) + 11),
     ] {
-        sheet.values(("a", field, kind), 3, &file);
+        sheet.fill(("a", field, kind), 3, &file);
     }
-    sheet.state("column-wholes-other", "and asked for as other kinds");
+    sheet.state("fill-wholes-other", "and asked for as other kinds");
+    counts(
+        sheet,
+        "how many of them there are",
+        &[
+            ("a", "b", 7),
+            ("a", "c", 8),
+            ("a", "d", 9),
+            ("a", "e", 10),
+            ("a", "f", 11),
+            ("a", "b", 0),
+            ("a", "f", (1 << 32) + 11),
+        ],
+        &file,
+    );
 }
 
 fn others(sheet: &mut Sheet) {
     let label = "flags, floats with the top bit, strings and references";
     let file = sheet.listed("others", label, OTHERS);
     for (field, kind) in [("b", 6), ("c", 12), ("d", 13), ("e", 14), ("f", 32)] {
-        sheet.values(("a", field, kind), 3, &file);
+        sheet.fill(("a", field, kind), 3, &file);
     }
-    sheet.state("column-others", label);
+    sheet.state("fill-others", label);
     for (field, kind) in [
         ("b", 5),
         ("b", 7),
@@ -120,9 +147,23 @@ fn others(sheet: &mut Sheet) {
         ("f", 11),
         ("f", u64::MAX),
     ] {
-        sheet.values(("a", field, kind), 3, &file);
+        sheet.fill(("a", field, kind), 3, &file);
     }
-    sheet.state("column-others-other", "and asked for as other kinds");
+    sheet.state("fill-others-other", "and asked for as other kinds");
+    counts(
+        sheet,
+        "how many of them there are",
+        &[
+            ("a", "b", 6),
+            ("a", "c", 12),
+            ("a", "d", 13),
+            ("a", "e", 14),
+            ("a", "f", 32),
+            ("a", "b", 5),
+            ("a", "f", 33),
+        ],
+        &file,
+    );
 }
 
 fn constants(sheet: &mut Sheet) {
@@ -130,11 +171,11 @@ fn constants(sheet: &mut Sheet) {
     let file = sheet.listed("constants", "constants over three blocks", CONSTANTS);
     sheet.shown(&file);
     for (field, kind) in [("b", 0), ("c", 1), ("d", 7), ("e", 2), ("f", 3), ("g", 4)] {
-        sheet.values(("a", field, kind), 3, &file);
+        sheet.fill(("a", field, kind), 3, &file);
     }
-    sheet.values(("a", "b", 0), 2, &file);
-    sheet.values(("a", "g", 4), 4, &file);
-    sheet.state("column-constants", label);
+    sheet.fill(("a", "b", 0), 2, &file);
+    sheet.fill(("a", "g", 4), 4, &file);
+    sheet.state("fill-constants", label);
     for (field, kind) in [
         ("b", 7),
         ("b", 1),
@@ -147,9 +188,24 @@ fn constants(sheet: &mut Sheet) {
         ("g", 3),
         ("g", 5),
     ] {
-        sheet.values(("a", field, kind), 3, &file);
+        sheet.fill(("a", field, kind), 3, &file);
     }
-    sheet.state("column-constants-other", "and asked for as other kinds");
+    sheet.state("fill-constants-other", "and asked for as other kinds");
+    counts(
+        sheet,
+        "a constant has as many values as there are objects",
+        &[
+            ("a", "b", 0),
+            ("a", "c", 1),
+            ("a", "d", 7),
+            ("a", "e", 2),
+            ("a", "f", 3),
+            ("a", "g", 4),
+            ("a", "b", 7),
+            ("a", "g", 11),
+        ],
+        &file,
+    );
 }
 
 fn arrays(sheet: &mut Sheet) {
@@ -162,13 +218,26 @@ fn arrays(sheet: &mut Sheet) {
         ("f", 15, 6),
     ] {
         for kind in [number, element, 33] {
-            sheet.values(("a", field, kind), 1, &file);
+            sheet.fill(("a", field, kind), 1, &file);
         }
     }
     for kind in [0, 15, 16, 32, 34, u64::MAX] {
-        sheet.values(("a", "c", kind), 1, &file);
+        sheet.fill(("a", "c", kind), 1, &file);
     }
-    sheet.state("column-arrays", "an array has no column, whatever is asked");
+    sheet.state("fill-arrays", "an array has no column, whatever is asked");
+    counts(
+        sheet,
+        "nor are its values counted",
+        &[
+            ("a", "b", 15),
+            ("a", "b", 7),
+            ("a", "c", 17),
+            ("a", "d", 18),
+            ("a", "e", 19),
+            ("a", "e", 32),
+        ],
+        &file,
+    );
 }
 
 fn links(sheet: &mut Sheet) {
@@ -186,26 +255,40 @@ fn links(sheet: &mut Sheet) {
         ("g", &[5, 20, 7]),
     ] {
         for &kind in kinds {
-            sheet.values(("a", field, kind), 3, &file);
+            sheet.fill(("a", field, kind), 3, &file);
         }
     }
-    sheet.values(("a", "d", 7), 3, &file);
+    sheet.fill(("a", "d", 7), 3, &file);
     sheet.state(
-        "column-links",
+        "fill-links",
         "annotations and maps have no column, whatever is asked; a field between them has its own",
     );
     for kind in [5, 20] {
         for room in [0, 2, 4] {
-            sheet.values(("a", "b", kind), room, &file);
-            sheet.values(("a", "c", kind), room, &file);
-            sheet.values(("a", "d", kind), room, &file);
-            sheet.values(("a", "z", kind), room, &file);
-            sheet.values(("z", "b", kind), room, &file);
+            sheet.fill(("a", "b", kind), room, &file);
+            sheet.fill(("a", "c", kind), room, &file);
+            sheet.fill(("a", "d", kind), room, &file);
+            sheet.fill(("a", "z", kind), room, &file);
+            sheet.fill(("z", "b", kind), room, &file);
         }
     }
     sheet.state(
-        "column-links-order",
+        "fill-links-order",
         "18 has its place behind 16 and 17 and before 19",
+    );
+    counts(
+        sheet,
+        "annotations and maps are not counted either; 18 has its place behind 16 and 17",
+        &[
+            ("a", "b", 5),
+            ("a", "c", 20),
+            ("a", "d", 7),
+            ("a", "e", 20),
+            ("a", "d", 5),
+            ("a", "z", 20),
+            ("z", "b", 5),
+        ],
+        &file,
     );
     sheet.objects("a", TABLE, &file);
     sheet.objects("b", TABLE, &file);
@@ -217,11 +300,22 @@ fn references(sheet: &mut Sheet) {
     sheet.shown(&file);
     for (field, number) in [("d", 32), ("e", 33), ("f", 34)] {
         for kind in [32, 33, 34] {
-            sheet.values(("a", field, kind), 2, &file);
+            sheet.fill(("a", field, kind), 2, &file);
         }
-        sheet.values(("a", field, number + 1), 2, &file);
+        sheet.fill(("a", field, number + 1), 2, &file);
     }
-    sheet.state("column-references", "32 asks for a reference to any type");
+    sheet.state("fill-references", "32 asks for a reference to any type");
+    counts(
+        sheet,
+        "how many of them there are, to any type",
+        &[
+            ("a", "d", 32),
+            ("a", "e", 32),
+            ("a", "f", 32),
+            ("a", "e", 33),
+        ],
+        &file,
+    );
     for name in ["a", "b", "c", "d"] {
         sheet.objects(name, TABLE, &file);
     }
@@ -243,6 +337,7 @@ fn tree(sheet: &mut Sheet) {
     );
     tree_columns(sheet, &file);
     tree_names(sheet, &file);
+    tree_counts(sheet, &file);
 }
 
 fn tree_columns(sheet: &mut Sheet, file: &File) {
@@ -256,10 +351,10 @@ fn tree_columns(sheet: &mut Sheet, file: &File) {
         ("ef", "w", 7, 2),
         ("u", "w", 7, 1),
     ] {
-        sheet.values((name, field, kind), room, file);
+        sheet.fill((name, field, kind), room, file);
     }
     sheet.state(
-        "tree-columns",
+        "tree-filled",
         "chunk after chunk, a late field's first one for all objects so far",
     );
     for (name, field, kind, room) in [
@@ -270,7 +365,7 @@ fn tree_columns(sheet: &mut Sheet, file: &File) {
         ("u", "w", 7, 0),
         ("u", "w", 7, 2),
     ] {
-        sheet.values((name, field, kind), room, file);
+        sheet.fill((name, field, kind), room, file);
     }
     sheet.state("tree-rooms", "one short, and one more than needed");
 }
@@ -295,11 +390,33 @@ fn tree_names(sheet: &mut Sheet, file: &File) {
         ("xy", "xy"),
         ("v", "v"),
     ] {
-        sheet.values((name, field, 7), 8, file);
+        sheet.fill((name, field, 7), 8, file);
     }
     sheet.state(
         "tree-names",
         "fields of super types, of types below, of others; parts of names and longer ones",
+    );
+}
+
+fn tree_counts(sheet: &mut Sheet, file: &File) {
+    counts(
+        sheet,
+        "a field has as many values as its own type has objects, whoever is above it; it is looked for in that type alone",
+        &[
+            ("ab", "xy", 7),
+            ("ab", "v", 7),
+            ("cd", "xy", 7),
+            ("cd", "z", 8),
+            ("cd", "u", 0),
+            ("cd", "ab", 11),
+            ("ef", "w", 7),
+            ("u", "w", 7),
+            ("ef", "xy", 7),
+            ("ab", "z", 7),
+            ("abc", "xy", 7),
+            ("xy", "xy", 7),
+        ],
+        file,
     );
 }
 
@@ -325,10 +442,32 @@ fn unnamed(sheet: &mut Sheet) {
         ("", "a", 7, 1),
         ("a", "a", 7, 1),
     ] {
-        sheet.values((name, field, kind), room, &file);
+        sheet.fill((name, field, kind), room, &file);
     }
     sheet.state(
         "unnamed-asked",
         "empty names are names; no objects need no room",
+    );
+    counts(
+        sheet,
+        "no objects have no values, a constant neither",
+        &[
+            ("", "", 7),
+            ("ab", "a", 7),
+            ("ab", "ab", 0),
+            ("ab", "a", 8),
+            ("a", "a", 7),
+        ],
+        &file,
+    );
+}
+
+fn many(sheet: &mut Sheet) {
+    let file = sheet.listed("many", "as many objects as there can be", MANY);
+    sheet.count(("a", "a", 0), &file);
+    sheet.fill(("a", "a", 0), 65_534, &file);
+    sheet.state(
+        "count-many",
+        "all of them are counted; they are not filled in where one has no room",
     );
 }

@@ -32,23 +32,32 @@ pub fn ask(sheet: &mut Sheet, two: &File) {
     sheet.after_objects(two, "a", SHORT);
     sheet.after_objects(two, "z", EXACT);
     sheet.state("after-objects", "the table after a question for objects");
-    columns(sheet, two, &cut);
+    values(sheet, two, &cut);
     listings(sheet, two, &cut);
     builds(sheet);
     maps(sheet);
 }
 
-fn columns(sheet: &mut Sheet, two: &File, cut: &File) {
+fn values(sheet: &mut Sheet, two: &File, cut: &File) {
     let asked = ("a", "b", 7);
-    let [more, enough, less] = rooms(2, -4);
-    sheet.after_column(two, asked, LONG, &more);
-    sheet.after_column(two, asked, LONG, &less);
-    sheet.after_column(two, asked, EXACT, &enough);
-    sheet.after_column(two, asked, SHORT, &more);
-    sheet.after_column(cut, asked, LONG, &more);
+    sheet.after_count(two, asked, LONG);
+    sheet.after_count(two, asked, EXACT);
+    sheet.after_count(two, asked, SHORT);
+    sheet.after_count(two, ("a", "b", 8), LONG);
+    sheet.after_count(cut, asked, EXACT);
     sheet.state(
-        "after-column",
-        "table and output after a column: longer than needed, enough, one short",
+        "after-count",
+        "the table after a question for how many: longer than needed, enough, one short",
+    );
+    let [more, enough, less] = rooms(2, -4);
+    sheet.after_fill(two, asked, LONG, &more);
+    sheet.after_fill(two, asked, LONG, &less);
+    sheet.after_fill(two, asked, EXACT, &enough);
+    sheet.after_fill(two, asked, SHORT, &more);
+    sheet.after_fill(cut, asked, LONG, &more);
+    sheet.state(
+        "after-fill",
+        "table and output after values were filled in: longer than needed, enough, one short",
     );
 }
 
@@ -78,7 +87,7 @@ fn maps(sheet: &mut Sheet) {
     let file = sheet.listed("lent-map", "a map with an annotation", text);
     let text = Text::plain(&lines(text));
     let [more, ..] = rooms(1, -4);
-    sheet.after_column(&file, ("a", "a", 20), LONG, &more);
+    sheet.after_fill(&file, ("a", "a", 20), LONG, &more);
     let [more, _, less] = rooms(text.bytes().len(), 1);
     sheet.after_listing(&file, LONG, &more);
     sheet.after_listing(&file, EXACT, &less);

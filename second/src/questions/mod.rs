@@ -1,4 +1,4 @@
-//! Questions to the five calls as statements for the project's checker.
+//! Questions to the six calls as statements for the project's checker.
 //!
 //! Each is asked there of the definitions and must have this program's answer,
 //! refusals and lent memory included. The files come from listings, which this

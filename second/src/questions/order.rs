@@ -1,7 +1,7 @@
 //! Which refusal comes first: 15, the file's own, 16, 17, 18, 19; for build
 //! 15, 20, 19.
 
-use super::sheet::{built, lines, File, Sheet, Text};
+use super::sheet::{built, lines, Asked, File, Sheet, Text};
 use super::TWO;
 use crate::bounds::TABLE;
 
@@ -19,7 +19,9 @@ pub fn ask(sheet: &mut Sheet, two: &File) {
     let three = "pair 1 1/str 61/type 1 0 - 0 0/pair 0 0/pair 0 1/type 1 - - 1 0";
     let three = sheet.listed("three", "three pairs", three);
     tables(sheet, two, &cut, &none, &three);
-    columns(sheet, two, &cut);
+    counts(sheet, two, &cut);
+    fills(sheet, two, &cut);
+    rooms(sheet, two);
     listings(sheet, two, &cut, &none);
     builds(sheet);
 }
@@ -47,35 +49,69 @@ fn tables(sheet: &mut Sheet, two: &File, cut: &File, none: &File, three: &File) 
     );
 }
 
-/// 15, the file's own, 16, 17, 18, 19: everything from some point on is wrong,
-/// and each alone against each behind it.
-fn columns(sheet: &mut Sheet, two: &File, cut: &File) {
-    let types = ["z", "a"];
-    let fields = ["z", "b"];
-    let kinds = [33, 7];
-    let rooms = [1, 2];
-    for name in types {
-        for field in fields {
-            for kind in kinds {
-                for room in rooms {
-                    sheet.column((name, field, kind), room, SHORT, cut);
-                    sheet.column((name, field, kind), room, SHORT, two);
-                    sheet.column((name, field, kind), room, TABLE, cut);
-                    sheet.column((name, field, kind), room, TABLE, two);
-                }
-            }
+/// A type, a field and a kind that are wrong, and the right ones.
+const WRONG: Asked<'static> = ("z", "z", 33);
+const RIGHT: Asked<'static> = ("a", "b", 7);
+
+/// Every choice of what is wrong.
+fn choices() -> Vec<Asked<'static>> {
+    let mut all = Vec::new();
+    for name in [WRONG.0, RIGHT.0] {
+        for field in [WRONG.1, RIGHT.1] {
+            all.extend([WRONG.2, RIGHT.2].map(|kind| (name, field, kind)));
+        }
+    }
+    all
+}
+
+/// 15, the file's own, 16, 17, 18: everything from some point on is wrong, and
+/// each alone against each behind it.
+fn counts(sheet: &mut Sheet, two: &File, cut: &File) {
+    for of in choices() {
+        sheet.count(of, cut);
+        sheet.count(of, two);
+    }
+    for of in [WRONG, RIGHT] {
+        sheet.count_values(of, SHORT, cut);
+        sheet.count_values(of, SHORT, two);
+    }
+    sheet.state(
+        "count-order",
+        "15, the file's own refusal, 16, 17, 18: every choice of wrong names and kind",
+    );
+}
+
+/// The same and 19.
+fn fills(sheet: &mut Sheet, two: &File, cut: &File) {
+    for of in choices() {
+        for room in [1, 2] {
+            sheet.fill_values(of, room, SHORT, cut);
+            sheet.fill_values(of, room, SHORT, two);
+            sheet.fill_values(of, room, TABLE, cut);
+            sheet.fill_values(of, room, TABLE, two);
         }
     }
     sheet.state(
-        "column-order",
+        "fill-order",
         "15, the file's own refusal, 16, 17, 18, 19: every choice of what is wrong",
     );
-    for room in [0, 3, 100] {
-        sheet.column(("a", "b", 7), room, TABLE + 1, two);
-        sheet.column(("a", "b", 8), room, TABLE + 1, two);
-        sheet.column(("a", "z", 7), room, TABLE + 1, two);
+}
+
+/// Rooms of any length, beside how many there are.
+fn rooms(sheet: &mut Sheet, two: &File) {
+    let asked = [RIGHT, ("a", "b", 8), ("a", "z", 7)];
+    for of in asked {
+        sheet.count_values(of, TABLE + 1, two);
     }
-    sheet.state("column-rooms", "no room, one more than needed, much more");
+    for room in [0, 3, 100] {
+        for of in asked {
+            sheet.fill_values(of, room, TABLE + 1, two);
+        }
+    }
+    sheet.state(
+        "fill-rooms",
+        "how many there are, then no room, one more than needed, much more",
+    );
 }
 
 /// 15, the file's own, 19.

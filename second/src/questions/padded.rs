@@ -29,9 +29,10 @@ pub fn ask(sheet: &mut Sheet, two: &File) {
         "v64 values with every number in nine bytes",
         values.nine(),
     );
-    sheet.values(("a", "b", 11), 2, &nines);
-    sheet.values(("a", "b", 11), 1, &nines);
-    sheet.state("padded-values", "a column of padded numbers");
+    sheet.count(("a", "b", 11), &nines);
+    sheet.fill(("a", "b", 11), 2, &nines);
+    sheet.fill(("a", "b", 11), 1, &nines);
+    sheet.state("padded-values", "how many padded numbers, and their values");
     listed(sheet, &nines, VALUES, values.shortest().len());
     left(sheet, &nine, two.bytes.len());
 }
@@ -42,10 +43,11 @@ fn asked(sheet: &mut Sheet, two: &File, nine: &File) {
         sheet.check(TABLE - 1, file);
         sheet.objects("a", TABLE, file);
         sheet.objects("b", TABLE, file);
-        sheet.column(("a", "b", 7), 2, TABLE, file);
-        sheet.column(("a", "b", 7), 1, TABLE, file);
-        sheet.column(("a", "b", 8), 2, TABLE, file);
-        sheet.column(("a", "c", 7), 2, TABLE, file);
+        sheet.count(("a", "b", 7), file);
+        sheet.fill(("a", "b", 7), 2, file);
+        sheet.fill(("a", "b", 7), 1, file);
+        sheet.fill(("a", "b", 8), 2, file);
+        sheet.fill(("a", "c", 7), 2, file);
     }
     sheet.state(
         "padded-asked",
@@ -72,7 +74,8 @@ fn listed(sheet: &mut Sheet, file: &File, text: &str, shortest: usize) {
 fn left(sheet: &mut Sheet, nine: &File, shortest: usize) {
     let text = lines(TWO);
     sheet.after_check(nine, LENT_TABLE);
-    sheet.after_column(nine, ("a", "b", 7), LENT_TABLE, &[(3, -4)]);
+    sheet.after_count(nine, ("a", "b", 7), LENT_TABLE);
+    sheet.after_fill(nine, ("a", "b", 7), LENT_TABLE, &[(3, -4)]);
     sheet.after_listing(nine, LENT_TABLE, &[(text.len() + 1, 1)]);
     sheet.after_build(&Text::plain(&text), LENT_TABLE, &[(shortest + 2, 1)]);
     sheet.state(

@@ -6,7 +6,7 @@ use crate::bounds::{FILE, TABLE};
 use crate::Refusal;
 
 const HEAD: &str = "\
--- Questions to the five calls, computed with the definitions: the answers are the second program's, and it writes this file.
+-- Questions to the six calls, computed with the definitions: the answers are the second program's, and it writes this file.
 -- Assumes nothing.
 use mathlib.Core.Path.{_≡_, refl}
 use mathlib.Core.List.{List, [], _∷_, _++_}
@@ -14,7 +14,7 @@ use Prim.Native.Nat.{ℕ, zero, suc}
 use lib.IntN.{ℤ, pos, negsuc}
 use lib.ListN.{replicate}
 use Rattle.paper.specs.Listing.{ascii}
-use Rattle.paper.specs.Calls.{Answer, done, refused, check, objects, column, listing, build, Left, afterCheck, afterObjects, afterColumn, afterListing, afterBuild}
+use Rattle.paper.specs.Calls.{Answer, done, refused, check, objects, countValues, fillValues, listing, build, Left, afterCheck, afterObjects, afterCount, afterFill, afterListing, afterBuild}
 use Rattle.paper.specs.Whole.{whole}
 
 -- a piece n times
@@ -31,6 +31,9 @@ pub struct File {
     pub name: &'static str,
     pub bytes: Vec<u8>,
 }
+
+/// The type's name, the field's and the kind that are asked for.
+pub type Asked<'a> = (&'a str, &'a str, u64);
 
 /// Numbers a lent buffer holds: how often, and which.
 pub type Lent<'a, T> = &'a [(usize, T)];
@@ -95,11 +98,31 @@ impl Sheet {
         self.claim(question, told(answer));
     }
 
-    /// One column: type, field and kind, the room and the table's length.
-    pub fn column(&mut self, of: (&str, &str, u64), room: usize, table: usize, file: &File) {
+    /// How many values a field has: type, field and kind, the table's length.
+    pub fn count_values(&mut self, of: Asked<'_>, table: usize, file: &File) {
+        let (name, field, kind) = of;
+        let answer = crate::count_values(
+            &file.bytes,
+            name.as_bytes(),
+            field.as_bytes(),
+            kind,
+            &mut vec![0; table],
+        );
+        let (name, field) = (word(name), word(field));
+        let question = format!("countValues {name} {field} {kind} {table} {}", file.name);
+        self.claim(question, told(answer));
+    }
+
+    /// The same with just enough of a table.
+    pub fn count(&mut self, of: Asked<'_>, file: &File) {
+        self.count_values(of, TABLE, file);
+    }
+
+    /// A field's values: type, field and kind, the room and the table's length.
+    pub fn fill_values(&mut self, of: Asked<'_>, room: usize, table: usize, file: &File) {
         let (name, field, kind) = of;
         let mut out = vec![0; room];
-        let answer = crate::column(
+        let answer = crate::fill_values(
             &file.bytes,
             name.as_bytes(),
             field.as_bytes(),
@@ -109,14 +132,17 @@ impl Sheet {
         );
         let (name, field) = (word(name), word(field));
         self.claim(
-            format!("column {name} {field} {kind} {room} {table} {}", file.name),
+            format!(
+                "fillValues {name} {field} {kind} {room} {table} {}",
+                file.name
+            ),
             given(answer, |count| signed(&out[..count])),
         );
     }
 
-    /// One column, in just enough room and with just enough of a table.
-    pub fn values(&mut self, of: (&str, &str, u64), room: usize, file: &File) {
-        self.column(of, room, TABLE, file);
+    /// The same with just enough of a table.
+    pub fn fill(&mut self, of: Asked<'_>, room: usize, file: &File) {
+        self.fill_values(of, room, TABLE, file);
     }
 
     pub fn listing(&mut self, room: usize, table: usize, file: &File) {
@@ -164,16 +190,36 @@ impl Sheet {
         self.left(question, answer, &work, "[]".to_string());
     }
 
-    pub fn after_column(
+    pub fn after_count(&mut self, file: &File, of: Asked<'_>, table: Lent<'_, u32>) {
+        let (name, field, kind) = of;
+        let mut work = lent(table);
+        let answer = crate::count_values(
+            &file.bytes,
+            name.as_bytes(),
+            field.as_bytes(),
+            kind,
+            &mut work,
+        );
+        let question = format!(
+            "afterCount {} {} {} {kind} {}",
+            file.name,
+            word(name),
+            word(field),
+            runs(&lent(table)),
+        );
+        self.left(question, answer, &work, "[]".to_string());
+    }
+
+    pub fn after_fill(
         &mut self,
         file: &File,
-        of: (&str, &str, u64),
+        of: Asked<'_>,
         table: Lent<'_, u32>,
         room: Lent<'_, i64>,
     ) {
         let (name, field, kind) = of;
         let (mut work, mut out) = (lent(table), lent(room));
-        let answer = crate::column(
+        let answer = crate::fill_values(
             &file.bytes,
             name.as_bytes(),
             field.as_bytes(),
@@ -182,7 +228,7 @@ impl Sheet {
             &mut out,
         );
         let question = format!(
-            "afterColumn {} {} {} {kind} {} {}",
+            "afterFill {} {} {} {kind} {} {}",
             file.name,
             word(name),
             word(field),

@@ -43,12 +43,19 @@ fn growing(much: usize, call: impl Fn(&mut [u8]) -> Result<usize, Refusal>) -> R
     Ok(out)
 }
 
-pub fn column(file: &[u8], name: &[u8], field: &[u8], kind: u64) -> Result<Vec<i64>, u8> {
-    let mut out = vec![0; OBJECTS as usize];
-    match second::column(file, name, field, kind, &mut vec![0; TABLE], &mut out) {
-        Ok(count) => Ok(out[..count].to_vec()),
-        Err(refusal) => Err(refusal.number),
-    }
+pub fn count_values(file: &[u8], name: &[u8], field: &[u8], kind: u64) -> Result<usize, u8> {
+    second::count_values(file, name, field, kind, &mut vec![0; TABLE])
+        .map_err(|refusal| refusal.number)
+}
+
+/// A field's values: how many is asked first, and just that much room is lent.
+/// Both calls have to say the same, a refusal too.
+pub fn values_of(file: &[u8], name: &[u8], field: &[u8], kind: u64) -> Result<Vec<i64>, u8> {
+    let count = count_values(file, name, field, kind);
+    let mut out = vec![0; count.unwrap_or(OBJECTS as usize)];
+    let filled = second::fill_values(file, name, field, kind, &mut vec![0; TABLE], &mut out);
+    assert_eq!(filled.map_err(|refusal| refusal.number), count);
+    count.map(|_| out)
 }
 
 pub fn objects(file: &[u8], name: &[u8]) -> Result<usize, u8> {

@@ -6,6 +6,7 @@
 //! fault a line is printed: its number, a tab, and the first case that it
 //! answers differently, or nothing.
 
+use std::collections::BTreeSet;
 use std::panic::{self, AssertUnwindSafe};
 
 use second::bounds::{FILE, TABLE};
@@ -37,21 +38,19 @@ impl Question<'_> {
 
 enum Call {
     Check,
-    Objects {
-        type_name: Vec<u8>,
-    },
-    Column {
-        type_name: Vec<u8>,
-        field_name: Vec<u8>,
-        kind: u64,
-        room: usize,
-    },
-    Listing {
-        room: usize,
-    },
-    Build {
-        room: usize,
-    },
+    Objects { type_name: Vec<u8> },
+    CountValues { of: Asked },
+    FillValues { of: Asked, room: usize },
+    Listing { room: usize },
+    Build { room: usize },
+}
+
+/// What is asked for of a field.
+#[derive(Clone, PartialEq, Eq, PartialOrd, Ord)]
+struct Asked {
+    type_name: Vec<u8>,
+    field_name: Vec<u8>,
+    kind: u64,
 }
 
 impl Call {
@@ -61,7 +60,8 @@ impl Call {
             Call::Check => 0,
             Call::Build { .. } => 1,
             Call::Listing { .. } | Call::Objects { .. } => 2,
-            Call::Column { .. } => 3,
+            Call::FillValues { .. } => 3,
+            Call::CountValues { .. } => 4,
         }
     }
 }
@@ -197,32 +197,37 @@ fn near_rooms(exact: usize) -> Vec<usize> {
     rooms
 }
 
-/// A file's listing, names and columns, right ones and wrong ones.
+/// A file's listing, names and values, right ones and wrong ones.
 fn of_file<'a>(case: &'a Case, all: &mut Vec<Question<'a>>) {
     all.push(question(case, Call::Check));
     let mut calls = Vec::new();
     match reader::read(&case.bytes) {
         Ok(ledger) => of_ledger(&ledger, case.is_ruled, &mut calls),
-        Err(_) if case.is_ruled => of_refused(&mut calls),
+        Err(_) if case.is_ruled => calls = wrong(),
         Err(_) => {}
     }
+    calls.extend(counts(&calls));
     all.extend(calls.into_iter().map(|call| question(case, call)));
     if case.is_ruled {
         let tables = [TABLE, TABLE - 1, 0].into_iter();
         all.extend(tables.map(|table| short(case, Call::Check, table)));
+        let mut calls = wrong();
+        calls.extend(counts(&calls));
+        all.extend(calls.into_iter().map(|call| short(case, call, TABLE - 1)));
     }
 }
 
-/// The file's own refusal comes before all others.
-fn of_refused(calls: &mut Vec<Call>) {
-    calls.push(Call::Listing { room: 0 });
-    calls.push(Call::Objects {
-        type_name: Vec::new(),
-    });
-    calls.push(column(b"a", b"a", 5, 0));
+/// Wrong in all that a file or a table can be asked before.
+fn wrong() -> Vec<Call> {
+    let type_name = Vec::new();
+    vec![
+        Call::Listing { room: 0 },
+        Call::Objects { type_name },
+        fill(b"a", b"a", 5, 0),
+    ]
 }
 
-/// Of a longer file no columns are asked.
+/// Of a longer file no values are asked.
 const LONGEST: usize = 400;
 
 fn of_ledger(ledger: &Ledger<'_>, is_ruled: bool, calls: &mut Vec<Call>) {
@@ -235,11 +240,11 @@ fn of_ledger(ledger: &Ledger<'_>, is_ruled: bool, calls: &mut Vec<Call>) {
     if !is_ruled || ledger.file.len() > LONGEST {
         return;
     }
-    calls.push(column(b"no such name", b"", 5, 0));
+    calls.push(fill(b"no such name", b"", 5, 0));
     for own in &ledger.types {
         let type_name = ledger.names.bytes(own.name);
         for name in near(type_name).into_iter().chain([type_name.to_vec()]) {
-            calls.push(column(&name, b"no such name", 5, 0));
+            calls.push(fill(&name, b"no such name", 5, 0));
             calls.push(Call::Objects { type_name: name });
         }
         for &field in &own.fields {
@@ -270,30 +275,44 @@ fn of_field(
     let own = field.kind.number();
     let kind = own.min(REFERENCE);
     for room in near_rooms(objects) {
-        calls.push(column(type_name, name, kind, room));
+        calls.push(fill(type_name, name, kind, room));
     }
     for other in (0..REFERENCE + 3).chain([own + (1 << 8), own + (1 << 32), u64::MAX]) {
         let room = if other % 3 == 0 { 0 } else { objects };
-        calls.push(column(type_name, name, other, room));
+        calls.push(fill(type_name, name, other, room));
     }
     for other in near(name) {
-        calls.push(column(type_name, &other, kind, objects));
-        calls.push(column(type_name, &other, 5, 0));
+        calls.push(fill(type_name, &other, kind, objects));
+        calls.push(fill(type_name, &other, 5, 0));
     }
     for other in ledger.types.iter().take(4) {
         let other_name = ledger.names.bytes(other.name);
         let room = objects.max(other.objects as usize);
-        calls.push(column(other_name, name, kind, room));
+        calls.push(fill(other_name, name, kind, room));
     }
 }
 
-fn column(type_name: &[u8], field_name: &[u8], kind: u64, room: usize) -> Call {
-    Call::Column {
-        type_name: type_name.to_vec(),
-        field_name: field_name.to_vec(),
-        kind,
+/// A question for a field's values.
+fn fill(type_name: &[u8], field_name: &[u8], kind: u64, room: usize) -> Call {
+    Call::FillValues {
+        of: Asked {
+            type_name: type_name.to_vec(),
+            field_name: field_name.to_vec(),
+            kind,
+        },
         room,
     }
+}
+
+/// How many values there are, once for all rooms that they are asked for in.
+fn counts(calls: &[Call]) -> Vec<Call> {
+    let filled = calls.iter().filter_map(|call| match call {
+        Call::FillValues { of, .. } => Some(of),
+        _ => None,
+    });
+    let asked: BTreeSet<&Asked> = filled.collect();
+    let asked = asked.into_iter().cloned();
+    asked.map(|of| Call::CountValues { of }).collect()
 }
 
 /// Names that are nearly this one.
@@ -360,16 +379,22 @@ impl Lent {
         match &question.call {
             Call::Check => done(second::check(input, table).map(|()| 0)),
             Call::Objects { type_name } => done(second::objects(input, type_name, table)),
-            Call::Column {
-                type_name,
-                field_name,
-                kind,
-                room,
-            } => {
+            Call::CountValues { of } => done(second::count_values(
+                input,
+                &of.type_name,
+                &of.field_name,
+                of.kind,
+                table,
+            )),
+            Call::FillValues { of, room } => {
                 self.numbers.resize(*room, LENT_NUMBER);
-                let out = &mut self.numbers;
-                done(second::column(
-                    input, type_name, field_name, *kind, table, out,
+                done(second::fill_values(
+                    input,
+                    &of.type_name,
+                    &of.field_name,
+                    of.kind,
+                    table,
+                    &mut self.numbers,
                 ))
             }
             Call::Listing { room } => {

@@ -73,14 +73,23 @@ pub fn objects(file: &[u8], type_name: &str) -> Result<usize, Refusal> {
     tidehinge::objects(file, type_name.as_bytes(), &mut table())
 }
 
-/// A column with room for any.
-pub fn column(file: &[u8], type_name: &str, field: &str, kind: u64) -> Result<Vec<i64>, Refusal> {
-    let mut out = vec![7; tidehinge::OBJECTS];
+/// A field's values, with room for any. Both calls are asked, and have to say
+/// the same.
+pub fn values_of(
+    file: &[u8],
+    type_name: &str,
+    field: &str,
+    kind: u64,
+) -> Result<Vec<i64>, Refusal> {
     let (type_name, field) = (type_name.as_bytes(), field.as_bytes());
-    let count = tidehinge::column(file, type_name, field, kind, &mut table(), &mut out)?;
+    let counted = tidehinge::count_values(file, type_name, field, kind, &mut table());
+    let mut out = vec![7; tidehinge::OBJECTS];
+    let filled = tidehinge::fill_values(file, type_name, field, kind, &mut table(), &mut out);
+    assert_eq!(counted, filled, "the two calls disagree");
+    let count = filled?;
     assert!(
         out[count..].iter().all(|&number| number == 7),
-        "the rest of the column is touched"
+        "the rest of the output is touched"
     );
     out.truncate(count);
     Ok(out)

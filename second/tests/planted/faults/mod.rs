@@ -57,6 +57,7 @@ pub fn all() -> Vec<Fault> {
         maps::MAPS,
         calls::MEMORY,
         calls::ORDER,
+        calls::COUNTS,
         calls::COLUMNS,
         listing::LISTING,
         padded::ELSEWHERE,

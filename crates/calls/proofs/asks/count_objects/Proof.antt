@@ -1,5 +1,5 @@
 use Rattle.calls.specs.Told.{answerOf, count-none, count-some}
-use Rattle.calls.specs.Column.{no-type, a-type}
+use Rattle.calls.specs.Sought.{no-type, a-type}
 use Rattle.paper.specs.Ledger.{objectsOf}
 use borrow.Author.Needs.{needs}
 use Rattle.calls.proofs.asks.count_objects.Statement.{statement}
