@@ -1,4 +1,6 @@
 // A file from its listing: the call, and the pairs of a text from its lines to their bytes.
+#![tactic(auto)]
+
 mod again;
 mod front;
 mod pairs;

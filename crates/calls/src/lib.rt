@@ -1,4 +1,6 @@
 // The calls over a lent file: for every input, what is replied and what the lent memory holds afterwards.
+#![tactic(auto)]
+
 mod asks;
 mod fills;
 pub mod replies;

@@ -1,4 +1,6 @@
 // The calls for C and Rust. A reply is one signed number: what was done, from 0 up, or minus the number of the refusal.
+#![tactic(auto)]
+
 ghost use Rattle.std.specs.Prelude.{◌≡◌, [], pos};
 ghost use Rattle.paper.specs.Calls.{after_check, after_objects, after_count, after_fill, after_listing, after_build};
 ghost use Rattle.calls.specs.Told.{answer_of};

@@ -1,4 +1,6 @@
 // The demands, of the calls themselves: each function only calls, and promises a sentence of the demands of what was replied.
+#![tactic(auto)]
+
 ghost use Rattle.std.specs.Prelude.{◌≡◌, ◌≤◌, length};
 ghost use Rattle.demands.specs.Exact.{AcceptsExactly, CountsExactly, FillsExactly};
 ghost use Rattle.demands.specs.Pair.{RoomFor, AskedAndFilled, then_fill};

@@ -1,6 +1,8 @@
 // The entries of a listed pair as bytes. Their lines stand in a text that was read and judged before, and the sizes of their
 // chunks in the table: the lines are gone through again, and with each field the end of its chunk is laid. A line that cannot be
 // read ends the entry at once, and then nothing is said of the bytes: no text that was read has one.
+#![tactic(auto)]
+
 ghost use Rattle.std.specs.Prelude.{◌≡◌, List, map, ℕ, ◌^◌, ◌<◌, length};
 ghost use Rattle.paper.specs.Reader.{got, times, repeat};
 ghost use Rattle.paper.specs.Ledger.{State, Entry, Due};

@@ -1,5 +1,7 @@
 // Bytes laid into a lent buffer, one behind the other. What does not fit is not stored but counted, so the same code
 // writes a text and says how long it is; no writer has a precondition.
+#![tactic(auto)]
+
 ghost use Rattle.std.specs.Prelude.{[], ◌∷◌, ◌≡◌, ◌+◌, ◌≤◌, min, length};
 ghost use Rattle.std.proofs.lemmas.List.Edits.{sets};
 ghost use Rattle.lay.specs.Laid.{Laid, most};

@@ -1,5 +1,7 @@
 // The lines of a listing, laid into a lent buffer. What does not fit is counted and not stored, as in `lay`, so no line asks for
 // room. A word is laid with the byte that ends it: a tab, a comma or the newline.
+#![tactic(auto)]
+
 ghost use Rattle.std.specs.Prelude.{◌≡◌, [], ◌∷◌, ◌++◌, replicate};
 ghost use Rattle.lay.specs.Laid.{Laid};
 ghost use Rattle.paper.specs.Ledger.{constant, array, many};

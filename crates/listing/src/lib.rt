@@ -1,4 +1,6 @@
 // A file as text, as a listing sets it out: the call, and the lines from the pair down to a field.
+#![tactic(auto)]
+
 mod entries;
 mod fields;
 mod fronts;

@@ -1,4 +1,6 @@
 // A ledger on standard output from its listing on standard input. What is written for which input is proved, of `answer`.
+#![tactic(auto)]
+
 ghost use Rattle.streams.specs.Answers.{AtFront};
 ghost use Rattle.make.specs.Made.{made};
 

@@ -1,4 +1,6 @@
 // Numbers in lent bytes. Here they are read, at a cursor; `sign` has their signs, and `write` puts them into a buffer.
+#![tactic(auto)]
+
 pub mod sign;
 pub mod write;
 

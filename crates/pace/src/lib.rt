@@ -1,4 +1,6 @@
 // What the benchmark times: the proved readers, over a whole buffer.
+#![tactic(auto)]
+
 ghost use Rattle.std.specs.Prelude.{◌≡◌};
 ghost use Rattle.pace.specs.Sum.{sum_of};
 

@@ -1,5 +1,7 @@
 // The lines of a listing, read from a text, from a place in it. A reader answers what stands there with the place behind it, or
 // `Bad`. No line has a precondition: any text, any place.
+#![tactic(auto)]
+
 ghost use Rattle.std.specs.Prelude.{◌≡◌};
 ghost use Rattle.paper.specs.Reader.{repeat};
 ghost use Rattle.paper.specs.Listing.{old_line};

@@ -1,4 +1,6 @@
 // A ledger from standard input as text on standard output. What is written for which input is proved, of `answer`.
+#![tactic(auto)]
+
 ghost use Rattle.streams.specs.Answers.{AtFront};
 ghost use Rattle.print.specs.Printed.{printed};
 

@@ -1,4 +1,6 @@
 // Pieces of a file, laid into a lent buffer. What does not fit is counted and not stored, as in `lay`.
+#![tactic(auto)]
+
 pub mod strings;
 
 ghost use Rattle.std.specs.Prelude.{◌≡◌, [], ◌++◌, ◌≤◌};

@@ -1,4 +1,6 @@
 // Reading the front of a pair into the work table: strings, entries, kinds and fields.
+#![tactic(auto)]
+
 pub mod entries;
 pub mod fields;
 pub mod heads;

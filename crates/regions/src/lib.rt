@@ -1,6 +1,8 @@
 // The data region of a listed pair: the lines of its values, chunk by chunk. The front of the pair must say where each chunk
 // ends, so the table is told how many bytes each one has: by a pass that only counts them, and by one that lays them, where it
 // is known how long the front will be.
+#![tactic(auto)]
+
 ghost use Rattle.std.specs.Prelude.{◌≡◌, true, ◌+◌, ◌<◌, ◌≤◌, min, length};
 ghost use Rattle.paper.specs.Lists.{all};
 ghost use Rattle.paper.specs.Rules.{element_kind?};

@@ -1,5 +1,7 @@
 // The values of a chunk as lines of a listing. It is known of them that they keep the rules: where that were not so, a read
 // that fails is passed over, and nothing is said of the text.
+#![tactic(auto)]
+
 ghost use Rattle.std.specs.Prelude.{◌≡◌, true, [], ◌∷◌, ◌+◌, ◌<◌, ◌≤◌, length};
 ghost use Rattle.std.proofs.lemmas.List.Edits.{sets};
 ghost use Rattle.paper.specs.Reader.{repeat};

@@ -1,6 +1,8 @@
 // What the programs share: each gives the bytes of standard input to a call, and the call's answer to standard output. What
 // stands in the buffers is proved. That the bytes come from the one stream and go to the other is not: a contract cannot speak
 // of streams.
+#![tactic(auto)]
+
 ghost use Rattle.lay.specs.Laid.{Laid};
 ghost use Rattle.streams.specs.Answers.{refusal_line, Told};
 ghost use Rattle.streams.specs.Reads.{Within};

@@ -1,5 +1,7 @@
 // The values of a chunk from the lines of a listing: read, held to the rules, and laid as the bytes of a file, all in one pass.
 // Lent an empty output, the same code judges and counts.
+#![tactic(auto)]
+
 pub mod elements;
 pub mod maps;
 

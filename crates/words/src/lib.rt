@@ -1,4 +1,6 @@
 // The words of a listing: decimals, signed decimals, hex. `write` lays them into a lent buffer, `read` takes them from a text.
+#![tactic(auto)]
+
 pub mod read;
 pub mod write;
 
