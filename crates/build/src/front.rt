@@ -15,14 +15,14 @@ use walk::region::kinds_stand;
 use words::read::{Place, Step};
 
 // How many entries there are, where their lines begin, and where those of the values do.
-#[derive(Drop)]
+#[derive(Clone, Copy)]
 pub struct Front {
     pub entries: u64,
     pub from: Place,
     pub values: Place,
 }
 
-#[derive(Drop)]
+#[derive(Clone, Copy)]
 pub enum FrontRead {
     Got(Front),
     Bad,

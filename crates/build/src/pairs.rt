@@ -19,7 +19,7 @@ use texts::{Taken, TextRead};
 use words::read::{Place, Step};
 
 // Behind the lines of a pair, where its values begin in the file, and where they end.
-#[derive(Drop)]
+#[derive(Clone, Copy)]
 pub struct PairCount {
     pub next: Place,
     pub values: usize,
@@ -27,7 +27,7 @@ pub struct PairCount {
 }
 
 // What was counted, or that no accepted file has this text.
-#[derive(Drop)]
+#[derive(Clone, Copy)]
 pub enum PairRead {
     Got(PairCount),
     Bad,

@@ -67,7 +67,7 @@ pub fn count_objects(file: &[u8], work: &[u32], name: &[u8]) -> Reply
 }
 
 // What was asked for: a field by its place, with its row, and the objects of its type, for each of which it has a value.
-#[derive(Drop)]
+#[derive(Clone, Copy)]
 pub struct Wanted {
     pub at: u32,
     pub row: FieldRow,

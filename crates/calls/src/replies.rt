@@ -1,7 +1,7 @@
 // What a call replies.
 
 // What was done, in one number, or the number of the refusal.
-#[derive(Drop)]
+#[derive(Clone, Copy)]
 pub enum Reply {
     Done(u64),
     Refused(u64),

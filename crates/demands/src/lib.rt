@@ -22,7 +22,7 @@ pub fn accepted(file: &[u8], work: &mut [u32]) -> Reply
 }
 
 // What the pair of calls replies: how many values there are, and how many were filled in.
-#[derive(Drop)]
+#[derive(Clone, Copy)]
 pub struct Pair {
     pub asked: Reply,
     pub filled: Reply,
@@ -127,7 +127,7 @@ pub fn listed_in_room(file: &[u8], work: &mut [u32], out: &mut [u8]) -> Reply
 }
 
 // The replies to one question of two files.
-#[derive(Drop)]
+#[derive(Clone, Copy)]
 pub struct Both {
     pub first: Pair,
     pub second: Pair,

@@ -29,14 +29,14 @@ pub mod maps;
 const MOST: u64 = 18446744073709551615;
 
 // The row of the next chunk that is due, and where the chunk before it ends.
-#[derive(Drop)]
+#[derive(Clone, Copy)]
 pub struct Ends {
     pub row: u32,
     pub end: u64,
 }
 
 // Where the text goes on, which ends come next, and where the next bytes go.
-#[derive(Drop)]
+#[derive(Clone, Copy)]
 pub struct Here {
     pub next: Place,
     pub ends: Ends,
@@ -44,7 +44,7 @@ pub struct Here {
 }
 
 // Behind lines that were read and laid; or they cannot be read.
-#[derive(Drop)]
+#[derive(Clone, Copy)]
 pub enum Put {
     To(Here),
     Bad,

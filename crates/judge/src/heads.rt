@@ -18,26 +18,26 @@ use table::types::super_of;
 use words::read::{Maybe, Place};
 
 // `Bad` is all that is said of what breaks a rule: it has no place in a file.
-#[derive(Drop)]
+#[derive(Clone, Copy)]
 pub enum SuperWord {
     Got(Super),
     Bad,
 }
 
-#[derive(Drop)]
+#[derive(Clone, Copy)]
 pub enum StartWord {
     Got(u32),
     Bad,
 }
 
-#[derive(Drop)]
+#[derive(Clone, Copy)]
 pub enum Judgement {
     Got(Top),
     Bad,
 }
 
 // A head, its number of fields, and the place behind its line.
-#[derive(Drop)]
+#[derive(Clone, Copy)]
 pub enum HeadText {
     Got(Top, u64, Place),
     Bad,

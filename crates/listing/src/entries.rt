@@ -21,7 +21,7 @@ use reader::known::enter_any;
 use words::read::Maybe;
 
 // What a reading answered, and the place behind what was printed meanwhile.
-#[derive(Drop)]
+#[derive(Clone, Copy)]
 pub struct Printed {
     pub read: Number,
     pub at: usize,

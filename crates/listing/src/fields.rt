@@ -15,7 +15,7 @@ use reader::kinds::{Kind, KindRead, Named, read_kind, refused_kind};
 use reader::ruled::no_restrictions;
 
 // Behind what was read and behind what was printed, or the refusal of the read that failed.
-#[derive(Drop)]
+#[derive(Clone, Copy)]
 pub enum Listed {
     Got(Cursor, usize),
     No(Refusal),

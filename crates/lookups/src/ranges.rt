@@ -37,7 +37,7 @@ fn put_range(
 }
 
 // What a walk by links has found: all ranges of a type, from a place on, or it does not know.
-#[derive(Drop)]
+#[derive(Clone, Copy)]
 enum Found {
     All(usize),
     Unknown,

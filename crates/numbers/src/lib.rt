@@ -15,13 +15,13 @@ ghost use Rattle.numbers.specs.Words.{marks, septets, Ran};
 use paper::Ledger;
 
 // A place in the bytes, handed on by value.
-#[derive(Drop)]
+#[derive(Clone, Copy)]
 pub struct Cursor {
     pub at: usize,
 }
 
 // A refusal: its number, and the place where what broke the rule began.
-#[derive(Drop)]
+#[derive(Clone, Copy)]
 pub struct Refusal {
     pub number: u64,
     pub place: usize,
@@ -33,28 +33,28 @@ impl Refusal {
 }
 
 // A number that was read, with the cursor behind it, or the refusal.
-#[derive(Drop)]
+#[derive(Clone, Copy)]
 pub enum Number {
     Got(u64, Cursor),
     No(Refusal),
 }
 
 // The cursor behind what was read, or the refusal.
-#[derive(Drop)]
+#[derive(Clone, Copy)]
 pub enum Step {
     Got(Cursor),
     No(Refusal),
 }
 
 // A number that is known to be there, with the cursor behind it.
-#[derive(Drop)]
+#[derive(Clone, Copy)]
 pub struct Taken {
     pub number: u64,
     pub next: Cursor,
 }
 
 // Numbers that are passed over at once: how many, and the cursor behind them.
-#[derive(Drop)]
+#[derive(Clone, Copy)]
 pub struct Run {
     pub count: u64,
     pub next: Cursor,

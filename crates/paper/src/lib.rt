@@ -6,13 +6,13 @@ ghost use Rattle.paper.specs.Bounds.{most_bytes, most_objects};
 ghost use Rattle.paper.specs.Agree.{Agree};
 
 // A ledger, by the length of its file: to ask whether it is within the bound.
-#[derive(Drop)]
+#[derive(Clone, Copy)]
 pub struct Ledger {
     pub bytes: u64,
 }
 
 // All bounds at once, for the statement that they agree.
-#[derive(Drop)]
+#[derive(Clone, Copy)]
 pub struct Bounds {
     pub bytes: u64,
     pub pairs: u64,

@@ -18,14 +18,14 @@ const MOST: u64 = 18446744073709551615;
 // A kind by three numbers: the first, of which 32 stands for all above; a constant's bits, an array's length or a map's number
 // of types, and else 0; and the last, which is the element kind, or the kind's only number. A constant's is 0. A map has several
 // element kinds, and of each a byte is kept.
-#[derive(Drop)]
+#[derive(Clone, Copy)]
 pub struct Kind {
     pub k: u64,
     pub a: u64,
     pub e: u64,
 }
 
-#[derive(Drop)]
+#[derive(Clone, Copy)]
 pub enum KindWord {
     Got(Kind, Place),
     Bad,

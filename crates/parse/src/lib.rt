@@ -20,21 +20,21 @@ const TAB: u64 = 9;
 const NEWLINE: u64 = 10;
 
 // The numbers of strings and of entries.
-#[derive(Drop)]
+#[derive(Clone, Copy)]
 pub enum PairLine {
     Got(u64, u64, Place),
     Bad,
 }
 
 // Where a string's hex digits begin and end: they stay in the text.
-#[derive(Drop)]
+#[derive(Clone, Copy)]
 pub enum StringLine {
     Got(usize, usize, Place),
     Bad,
 }
 
 // An entry's head, and its number of fields.
-#[derive(Drop)]
+#[derive(Clone, Copy)]
 pub struct TypeLine {
     pub name: u64,
     pub sup: Maybe,
@@ -43,14 +43,14 @@ pub struct TypeLine {
     pub fields: u64,
 }
 
-#[derive(Drop)]
+#[derive(Clone, Copy)]
 pub enum TypeRead {
     Got(TypeLine, Place),
     Bad,
 }
 
 // A new field: its kind by three numbers, as in `kinds`, and its name by the string's number.
-#[derive(Drop)]
+#[derive(Clone, Copy)]
 pub struct NewLine {
     pub k: u64,
     pub a: u64,
@@ -58,7 +58,7 @@ pub struct NewLine {
     pub name: u64,
 }
 
-#[derive(Drop)]
+#[derive(Clone, Copy)]
 pub enum NewRead {
     Got(NewLine, Place),
     Bad,

@@ -25,14 +25,14 @@ use table::rows::{RangeRow, TypeRow, block, string_at, strings, types};
 use table::types::{base_of, chain_ends, super_of};
 
 // A type's name in an entry: its string's number, the type's place among the types, and whether the type is new.
-#[derive(Drop)]
+#[derive(Clone, Copy)]
 pub struct Name {
     pub number: u64,
     pub typ: u32,
     pub fresh: bool,
 }
 
-#[derive(Drop)]
+#[derive(Clone, Copy)]
 pub enum Named {
     Got(Name, Cursor),
     No(Refusal),
@@ -40,20 +40,20 @@ pub enum Named {
 
 // The super type of an entry's type: the number of its name's string, if that was read, and its place: 0 for none, u + 1
 // for type u.
-#[derive(Drop)]
+#[derive(Clone, Copy)]
 pub struct Super {
     pub number: u64,
     pub up: u32,
 }
 
-#[derive(Drop)]
+#[derive(Clone, Copy)]
 pub enum Above {
     Got(Super, Cursor),
     No(Refusal),
 }
 
 // What stands in an entry before its fields.
-#[derive(Drop)]
+#[derive(Clone, Copy)]
 pub struct Top {
     pub name: Name,
     pub above: Super,
@@ -61,7 +61,7 @@ pub struct Top {
     pub count: u32,
 }
 
-#[derive(Drop)]
+#[derive(Clone, Copy)]
 pub enum Topped {
     Got(Top, Cursor),
     No(Refusal),

@@ -8,7 +8,7 @@ ghost use Rattle.reader.specs.Kinds.{named?, bits_of, constant_of, array_of, man
 use numbers::{Cursor, Number, Refusal, refused};
 
 // Which kinds from 32 upwards name a type: all of them while any type may still be declared, else those of so many types.
-#[derive(Drop)]
+#[derive(Clone, Copy)]
 pub struct Named {
     pub strict: bool,
     pub types: u64,
@@ -18,7 +18,7 @@ pub struct Named {
 // of types, and else 0; and the last, which is the element kind, or the kind's only number. A constant's is 0. A map's holds
 // its element kinds, a byte each, the first in the highest place: 255 stands for all from there upwards, since none of them
 // names a type.
-#[derive(Drop)]
+#[derive(Clone, Copy)]
 pub struct Kind {
     pub first: u64,
     pub bits: u64,
@@ -26,7 +26,7 @@ pub struct Kind {
 }
 
 // A kind that was read, with the cursor behind it, or the refusal.
-#[derive(Drop)]
+#[derive(Clone, Copy)]
 pub enum KindRead {
     Got(Kind, Cursor),
     No(Refusal),

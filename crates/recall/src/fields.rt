@@ -37,7 +37,7 @@ pub fn among(file: &[u8], t: Trail, at: usize, n: u64, name: &[u8]) -> u64
 }
 
 // A field of a type by its place among the type's fields.
-#[derive(Drop)]
+#[derive(Clone, Copy)]
 pub enum Found {
     At(u64),
     Nothing,

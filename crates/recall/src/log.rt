@@ -7,7 +7,7 @@ ghost use Rattle.recall.specs.Logs.{Plus, BasePlus, EnteredIn, EnteredIs, Around
 use trail::trail::{Top, Trail, past_head, start, step};
 
 // What is asked at the name of an entry's type: whether the type has an entry in this block, and the objects of all base pools.
-#[derive(Drop)]
+#[derive(Clone, Copy)]
 pub struct Entries {
     pub entered: bool,
     pub all: u64,
@@ -79,7 +79,7 @@ pub fn entered(file: &[u8], steps: u64, block: u32, typ: u32) -> Entries
 
 // Whether n objects from `first` lie within the range of type up - 1 in this block, and behind those of all earlier types right
 // below it.
-#[derive(Drop)]
+#[derive(Clone, Copy)]
 pub struct Fits {
     pub around: bool,
     pub clear: bool,

@@ -13,7 +13,7 @@ use trail::texts::string_at;
 use trail::trail::{Top, Trail, find, past_head, start, step};
 
 // Of each type: its objects, those before this block, and the base type of its pool.
-#[derive(Drop)]
+#[derive(Clone, Copy)]
 pub struct Tally {
     pub sums: [u32; 32],
     pub befores: [u32; 32],
@@ -129,7 +129,7 @@ fn meet_one(
 }
 
 // Where a walk has ended, and the objects of each type.
-#[derive(Drop)]
+#[derive(Clone, Copy)]
 pub struct Met {
     pub t: Trail,
     pub sums: [u32; 32],

@@ -29,7 +29,7 @@ use words::write::{
 };
 
 // Behind what was read, and behind what was laid.
-#[derive(Drop)]
+#[derive(Clone, Copy)]
 pub struct Behind {
     pub next: Cursor,
     pub at: usize,

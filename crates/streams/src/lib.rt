@@ -12,7 +12,7 @@ use libc::{STDERR_FILENO, STDIN_FILENO, STDOUT_FILENO};
 use words::write::put_decimal;
 
 // How many bytes came from standard input, or that it could not be read.
-#[derive(Drop)]
+#[derive(Clone, Copy)]
 pub enum Came {
     Bytes(usize),
     Failed,

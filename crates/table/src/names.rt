@@ -13,7 +13,7 @@ use super::rows::{FieldRow, Span, Stretch, field_at, fields, memo_at, string_at,
 use std::num::wrapping_add_u16;
 
 // A place among the types or the fields.
-#[derive(Drop)]
+#[derive(Clone, Copy)]
 pub enum Found {
     At(u32),
     Nothing,

@@ -11,7 +11,7 @@ ghost use Rattle.table.specs.Asks.{asks};
 use super::rows::{RangeRow, range_at, ranges};
 use super::types::super_of;
 
-#[derive(Drop)]
+#[derive(Clone, Copy)]
 pub enum Ask {
     // of type t
     Of(u32),
@@ -147,7 +147,7 @@ pub fn tally_at(work: &[u32], t: u32, k: u32) -> u32
 }
 
 // What is known of the objects of a type: that they are those from 1 up to a number, or that they may lie in several ranges.
-#[derive(Drop)]
+#[derive(Clone, Copy)]
 pub enum Pool {
     Whole(u32),
     Parts,

@@ -5,14 +5,14 @@ ghost use Rattle.table.specs.View.{strs_of, names_of, titles_of, types_of, flds_
 ghost use Rattle.table.specs.Answers.{Stands, Remembered, Named, typ_in, field_in, range_in, no_range, Small, due_in, no_due, spot_in, no_spot, Near};
 
 // A part of the source.
-#[derive(Drop)]
+#[derive(Clone, Copy)]
 pub struct Span {
     pub start: u32,
     pub end: u32,
 }
 
 // A type: where its name stands; its super type, 0 for none and u + 1 for type u; the base type of its pool; its name's sum.
-#[derive(Drop)]
+#[derive(Clone, Copy)]
 pub struct TypeRow {
     pub start: u32,
     pub end: u32,
@@ -22,7 +22,7 @@ pub struct TypeRow {
 }
 
 // A field: where its name stands, its type, its kind in three numbers (`kind_from`), and its name's sum.
-#[derive(Drop)]
+#[derive(Clone, Copy)]
 pub struct FieldRow {
     pub start: u32,
     pub end: u32,
@@ -34,7 +34,7 @@ pub struct FieldRow {
 }
 
 // The objects that a block adds to a type.
-#[derive(Drop)]
+#[derive(Clone, Copy)]
 pub struct RangeRow {
     pub typ: u32,
     pub block: u32,
@@ -44,7 +44,7 @@ pub struct RangeRow {
 }
 
 // A chunk that the present block must give.
-#[derive(Drop)]
+#[derive(Clone, Copy)]
 pub struct DueRow {
     pub field: u32,
     pub values: u32,
@@ -52,7 +52,7 @@ pub struct DueRow {
 }
 
 // A chunk of a block before, and where it stands.
-#[derive(Drop)]
+#[derive(Clone, Copy)]
 pub struct ChunkRow {
     pub field: u32,
     pub start: u32,
@@ -60,14 +60,14 @@ pub struct ChunkRow {
 }
 
 // Rows of one kind, from a place up to another.
-#[derive(Drop)]
+#[derive(Clone, Copy)]
 pub struct Stretch {
     pub from: u32,
     pub to: u32,
 }
 
 // The rows of each kind but the chunks that are due, which belong to one block only.
-#[derive(Drop)]
+#[derive(Clone, Copy)]
 pub struct Counts {
     pub strings: u32,
     pub types: u32,

@@ -30,14 +30,14 @@ const TAB: u64 = 9;
 const NEWLINE: u64 = 10;
 
 // Behind the text that was read, and behind the bytes that were laid.
-#[derive(Drop)]
+#[derive(Clone, Copy)]
 pub struct Taken {
     pub next: Place,
     pub at: usize,
 }
 
 // What was taken, or that no accepted file has this text.
-#[derive(Drop)]
+#[derive(Clone, Copy)]
 pub enum TextRead {
     Got(Taken),
     Bad,

@@ -11,7 +11,7 @@ use numbers::{Cursor, Number};
 use reader::kinds::{Kind, KindRead, Named, read_kind};
 
 // A number, and the place behind it.
-#[derive(Drop)]
+#[derive(Clone, Copy)]
 pub struct Behind {
     pub value: u64,
     pub at: usize,
@@ -42,7 +42,7 @@ pub fn past_ends(file: &[u8], at: usize, n: u64, last: u64) -> Behind
 }
 
 // What a new field says: its kind, the number of its name, its end offset; and the place behind it.
-#[derive(Drop)]
+#[derive(Clone, Copy)]
 pub struct NewField {
     pub kind: Kind,
     pub name: u64,

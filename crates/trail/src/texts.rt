@@ -9,7 +9,7 @@ use crate::past::{Behind, past};
 use numbers::{Cursor, Number};
 
 // A part of the file.
-#[derive(Drop)]
+#[derive(Clone, Copy)]
 pub struct Span {
     pub start: usize,
     pub end: usize,

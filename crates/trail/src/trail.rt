@@ -12,7 +12,7 @@ use crate::texts::{Span, four, same_bytes, string_at};
 
 // It goes from call to call by value and is all that is kept of a file, so it is small: 488 bytes. No type has more than 128 fields
 // and there are no more than 32 types, so a byte does for both.
-#[derive(Drop)]
+#[derive(Clone, Copy)]
 pub struct Trail {
     // where it stands, the entries of this block that are left, and the last end offset
     pub at: usize,
@@ -113,7 +113,7 @@ fn past_due(file: &[u8], at: usize, due: bool) -> Behind
 }
 
 // The super type of an entry's type, and the place behind its name, which only a new type gives.
-#[derive(Drop)]
+#[derive(Clone, Copy)]
 pub struct Up {
     pub up: u8,
     pub at: usize,
@@ -148,7 +148,7 @@ fn past_super(file: &[u8], t: Trail, at: usize, typ: u32) -> Up
 
 // What an entry says before its fields: its type by its place, where the type's name stands, the super type, the local start,
 // which is 0 where there is no super type, and the count; and the place behind.
-#[derive(Drop)]
+#[derive(Clone, Copy)]
 pub struct Top {
     pub typ: u32,
     pub name: Span,
@@ -227,7 +227,7 @@ fn beyond(n: u64, known: u64) -> u64
 
 // An entry up to its new fields: its head; how many fields its type had before; how many end offsets of known fields it gives,
 // and where they begin; how many new fields, and where they begin; and the last end offset before them.
-#[derive(Drop)]
+#[derive(Clone, Copy)]
 pub struct Fields {
     pub top: Top,
     pub have: u64,

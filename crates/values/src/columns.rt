@@ -12,7 +12,7 @@ use crate::runs::number_up_to;
 use numbers::{Cursor, Number, Refusal, refused, sign};
 
 // A value of a plain kind.
-#[derive(Drop)]
+#[derive(Clone, Copy)]
 pub enum Value {
     Flag(bool),
     Whole(i64),
@@ -23,7 +23,7 @@ pub enum Value {
 }
 
 // A value with the cursor behind it, or the refusal.
-#[derive(Drop)]
+#[derive(Clone, Copy)]
 pub enum Valued {
     Got(Value, Cursor),
     No(Refusal),

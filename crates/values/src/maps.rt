@@ -51,7 +51,7 @@ pub fn map_kinds(types: u64, packed: u64, kinds: &mut [u64]) -> usize
 }
 
 // A part of the lists in which the ranges of all types stand.
-#[derive(Drop)]
+#[derive(Clone, Copy)]
 pub struct Span {
     pub from: usize,
     pub to: usize,
@@ -125,7 +125,7 @@ fn element(
 
 // What an element is held to on this way: it has so many bytes, or where the width is 0 it is a number that is 0 or lies above `low` and
 // is at most `high`, and where that is the largest it is any number. With a width above 8 there is no such way.
-#[derive(Drop)]
+#[derive(Clone, Copy)]
 pub struct Bounds {
     pub width: usize,
     pub low: u64,

@@ -12,41 +12,41 @@ use crate::{HALF, MOST};
 const DASH: u64 = 45;
 
 // A place in a text.
-#[derive(Drop)]
+#[derive(Clone, Copy)]
 pub struct Place {
     pub at: usize,
 }
 
 // The place behind bytes that had to stand there.
-#[derive(Drop)]
+#[derive(Clone, Copy)]
 pub enum Step {
     To(Place),
     Bad,
 }
 
 // A number and the place behind it.
-#[derive(Drop)]
+#[derive(Clone, Copy)]
 pub enum Number {
     Got(u64, Place),
     Bad,
 }
 
 // A number, or a dash for none.
-#[derive(Drop)]
+#[derive(Clone, Copy)]
 pub enum Maybe {
     Dash,
     Some(u64),
 }
 
 // The same and the place behind it.
-#[derive(Drop)]
+#[derive(Clone, Copy)]
 pub enum MaybeNumber {
     Got(Maybe, Place),
     Bad,
 }
 
 // Behind the hex digits that were read, and behind the bytes that were laid.
-#[derive(Drop)]
+#[derive(Clone, Copy)]
 pub struct Bytes {
     pub next: Place,
     pub at: usize,

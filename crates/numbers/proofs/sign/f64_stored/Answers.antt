@@ -1,0 +1,7 @@
+use Rattle.std.proofs.Common.{◌∙◌, to_z-of_z}
+use Rattle.paper.specs.Calls.{stored}
+use Rattle.numbers.proofs.sign.f64_stored.Goals as goal
+
+pub returns : goal.returns
+unfolding stored if◌then◌else◌
+returns c = to_z-of_z (record { sfits = c.signed8.type-inv }) ∙ c.signed8.ensures

@@ -1,0 +1,28 @@
+-- `table::names::recall_type` meets its contract. Assumes nothing.
+use Rattle.std.proofs.Common.{◌∙◌, arith}
+use Rattle.table.specs.NameLaws.{known-passed, type-below, recalled-known, recalled-none, recalled-nothing, recalled-at}
+use Rattle.table.proofs.names.recall_type.Goals as goal
+
+pub returns-then-memo-ge33 : goal.returns-then-memo-ge33
+returns-then-memo-ge33 c = recalled-known c.before.before.before.before.before.requires.0 c.memo_at-memo.ensures c.if-memo-ge33.true
+
+pub returns-then-memo-n : goal.returns-then-memo-n
+returns-then-memo-n c = recalled-none c.before.before.before.before.before.before.before.before.requires.0 c.slice_known-1.ensures (omega (arith, c.memo_at-memo.false)) (c.if-memo-n.true ∙ c.types-n.ensures)
+
+pub find_part-requires : goal.find_part-requires
+find_part-requires c = (start.requires.0, (c.if-memo-n.ensures.within _ start.requires.0, known-passed start.requires.0 c..ensures (omega (arith, c.shared_slice_known-1.false)) c.if-memo-n.ensures))
+
+pub returns-in_default : goal.returns-in_default
+returns-in_default c = recalled-nothing c.before.before.before.before.before.before.before.before.before.before.before.before.before.before.before.before.before.before.requires.0 c.if-memo-n.ensures _ c.find_part.ensures c.in_default.is c.memo_at-memo.ensures c.note.ensures
+
+pub overflow_add-t : goal.overflow_add-t
+overflow_add-t c = omega (arith, type-below c.before.before.before.before.before.before.before.before.before.before.before.before.before.before.before.before.requires.0 c.if-memo-n.ensures _ c.find_part.ensures c.in-At.is)
+
+pub note-requires-2 : goal.note-requires-2
+note-requires-2 c = (start.requires.0.ok, (start.requires.1, omega (arith, type-below start.requires.0 c.if-memo-n.ensures _ c.find_part.ensures c.in-At.is)))
+
+pub overflow_add-result : goal.overflow_add-result
+overflow_add-result c = omega (arith, type-below c.before.before.before.before.before.before.before.before.before.before.before.before.before.before.before.before.before.before.before.requires.0 c.if-memo-n.ensures _ c.find_part.ensures c.in-At.is)
+
+pub returns : goal.returns
+returns c = recalled-at c.before.before.before.before.before.before.before.before.before.before.before.before.before.before.before.before.before.before.before.requires.0 c.if-memo-n.ensures _ c.find_part.ensures c.in-At.is c.note-2.ensures

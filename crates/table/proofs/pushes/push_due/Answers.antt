@@ -1,0 +1,9 @@
+-- `table::pushes::push_due` meets its contract. Assumes nothing.
+use Rattle.std.proofs.Common.{refl, arith}
+use Rattle.table.specs.Layout.{starts, width, most}
+use Rattle.table.specs.Pushes.{pushed-by}
+use Rattle.table.proofs.pushes.push_due.Goals as goal
+
+pub returns : goal.returns
+unfolding starts width most
+returns c = pushed-by 4 refl (omega arith) c.requires.0 (omega arith) c.put4.ensures (omega arith) (omega arith) (omega arith)

@@ -1,0 +1,9 @@
+-- `table::pushes::push_string` meets its contract. Assumes nothing.
+use Rattle.std.proofs.Common.{refl, arith}
+use Rattle.table.specs.Layout.{starts, width, most}
+use Rattle.table.specs.Pushes.{pushed-by}
+use Rattle.table.proofs.pushes.push_string.Goals as goal
+
+pub returns : goal.returns
+unfolding starts width most
+returns c = pushed-by 0 refl (omega arith) c.requires.0 (omega arith) c.put2.ensures (omega arith) (omega arith) (omega arith)

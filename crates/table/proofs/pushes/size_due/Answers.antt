@@ -1,0 +1,6 @@
+-- `table::pushes::size_due` meets its contract. Assumes nothing.
+use Rattle.table.specs.Sizes.{due-sized}
+use Rattle.table.proofs.pushes.size_due.Goals as goal
+
+pub returns : goal.returns
+returns c = due-sized _ _ c.requires.0 c.requires.1 c.put2.ensures

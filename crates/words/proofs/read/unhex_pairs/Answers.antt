@@ -1,0 +1,33 @@
+use Rattle.std.proofs.Common.{arith, ⊎_elim, eqb-true}
+use Rattle.words.specs.Pairs.{unpaired-none, unpaired-on, unpaired-other, unpaired-all, values-small, two}
+use Rattle.words.proofs.read.unhex_pairs.Goals as goal
+
+pub loop-i-init : goal.loop-i-init
+loop-i-init c = unpaired-none _ _ c.requires.1
+
+pub bounds-pairs-i : goal.bounds-pairs-i
+bounds-pairs-i c = omega (arith, c.requires.0)
+
+pub written-requires : goal.written-requires
+written-requires c = values-small _ c.values_of-values.ensures
+
+pub overflow_add-bytes : goal.overflow_add-bytes
+overflow_add-bytes c = omega (arith, (values-small _ c.values_of-values.ensures).1)
+
+pub overflow_cast-bytes : goal.overflow_cast-bytes
+overflow_cast-bytes c = omega (arith, (values-small _ c.values_of-values.ensures).1)
+
+pub bounds-bytes-i : goal.bounds-bytes-i
+bounds-bytes-i c = omega (arith, c.loop-i.invariant.long)
+
+pub loop-i-preserved : goal.loop-i-preserved
+loop-i-preserved c = ⊎_elim
+    (λ w. rw w.1 (unpaired-other c.loop-i.invariant c.loop-i-test.true _))
+    (λ w. rw w.1 (unpaired-on c.loop-i.invariant c.loop-i-test.true (two _ c.values_of-values.ensures c.written.ensures w.0.left)))
+    c.if-pair-written.branch
+
+pub shape_of-bytes : goal.shape_of-bytes
+shape_of-bytes c = omega (arith, c.loop-i.invariant.long, c.requires.1)
+
+pub returns : goal.returns
+returns c t = unpaired-all c.loop-i.invariant c.loop-i-test.false (eqb-true _ 0 t)

@@ -1,0 +1,15 @@
+use Rattle.std.proofs.Common.{arith, ◌∙◌, length-set}
+use Rattle.words.specs.Stored.{integer-stored}
+use Rattle.words.proofs.write.store_integer.Goals as goal
+
+pub overflow_add-first : goal.overflow_add-first
+overflow_add-first c = omega (arith, c.reached.ensures.1)
+
+pub store_decimal-requires : goal.store_decimal-requires
+store_decimal-requires c = rw length-set (omega (arith, c.reached.ensures.1, c.requires))
+
+pub shape_of-out : goal.shape_of-out
+shape_of-out c = c.store_decimal.auto.0 ∙ length-set c.args.out.now c.args.at 45
+
+pub returns : goal.returns
+returns c = (integer-stored c.reached.ensures.0 c.size_of.ensures c.store_decimal.ensures.0, omega (arith, c.store_decimal.ensures.1, c.reached.ensures.1))
