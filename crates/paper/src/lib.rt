@@ -1,4 +1,6 @@
 // The bounds, written once in code on the ledger's own type, and the statement that they are those of the definitions.
+#![tactic(auto)]
+
 ghost use Rattle.std.specs.Prelude.{◌≡◌, leb};
 ghost use Rattle.paper.specs.Bounds.{most_bytes, most_objects};
 ghost use Rattle.paper.specs.Agree.{Agree};
