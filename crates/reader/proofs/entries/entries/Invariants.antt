@@ -1,3 +1,4 @@
+use Rattle.reader.specs.Kinds.{named?}
 use Rattle.reader.specs.EntryLaws.{EntriesGoing}
 use Rattle.reader.proofs.entries.entries.Given as goal
 

@@ -1,4 +1,5 @@
 -- `reader::fields::new_fields` meets its contract. Assumes nothing.
+use Rattle.reader.specs.Kinds.{named?}
 use Rattle.reader.specs.NewLaws.{NewsGoing}
 use Rattle.reader.proofs.fields.new_fields.Given as goal
 

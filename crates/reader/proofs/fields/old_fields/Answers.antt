@@ -13,13 +13,13 @@ pub old_field-a-requires : goal.old_field-a-requires
 old_field-a-requires c = record { holds = c.loop-i.invariant.holds; fact = c.loop-i.invariant.still_open; i_bound = omega arith }
 
 pub shape_of-work-in_default : goal.shape_of-work-in_default
-shape_of-work-in_default c = c.old_field-a.auto.1.1.0 ∙ c.loop-i.invariant.long
+shape_of-work-in_default c = c.old_field-a.auto.work ∙ c.loop-i.invariant.long
 
 pub returns-in_default : goal.returns-in_default
 returns-in_default c = olds-no c.loop-i.invariant c.loop-i-test.true c.old_field-a.ensures c.in_default.is
 
 pub loop-i-preserved : goal.loop-i-preserved
-loop-i-preserved c = olds-next c.loop-i.invariant c.loop-i-test.true c.old_field-a.ensures c.in-Got.is c.old_field-a.auto.1.1.0
+loop-i-preserved c = olds-next c.loop-i.invariant c.loop-i-test.true c.old_field-a.ensures c.in-Got.is c.old_field-a.auto.work
 
 pub shape_of-work : goal.shape_of-work
 shape_of-work c = c.loop-i.invariant.long

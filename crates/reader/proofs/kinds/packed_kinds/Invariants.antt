@@ -1,3 +1,4 @@
+use Rattle.reader.specs.Kinds.{named?}
 use Rattle.reader.specs.MapKinds.{KindsGoing}
 use Rattle.reader.proofs.kinds.packed_kinds.Given as goal
 

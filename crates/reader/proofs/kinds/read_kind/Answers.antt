@@ -30,7 +30,7 @@ pub returns-else-is_named : goal.returns-else-is_named
 returns-else-is_named c = kind-unnamed _ c.v64-a.ensures c.in-Got.is (omega arith) (sym c.if-is_named.false ∙ c.is_named.ensures)
 
 pub returns-in-16 : goal.returns-in-16
-returns-in-16 c = kind-unlisted _ c.v64-a.ensures c.in-Got.is (single-gap _ c.in-16.keys3)
+returns-in-16 c = kind-unlisted _ c.v64-a.ensures c.in-Got.is (single-gap _ c.in-16.in-16-own.keys3)
 
 pub returns-in-16-2 : goal.returns-in-16-2
 returns-in-16-2 c = kind-unlisted _ c.v64-a.ensures c.in-Got.is (long-gap _ (omega arith) (omega arith))

@@ -7,13 +7,13 @@ pub loop-rest-init : goal.loop-rest-init
 loop-rest-init c = ending-start c.requires.holds c.requires.n_bound
 
 pub shape_of-work-in_default : goal.shape_of-work-in_default
-shape_of-work-in_default c = c.read_end-a.auto.1.1.1.1.0 ∙ c.loop-rest.invariant.long
+shape_of-work-in_default c = c.read_end-a.auto.work ∙ c.loop-rest.invariant.long
 
 pub returns-in_default : goal.returns-in_default
 returns-in_default c = ending-no c.loop-rest.invariant c.loop-rest-test.true c.read_end-a.ensures c.in_default.is
 
 pub loop-rest-preserved : goal.loop-rest-preserved
-loop-rest-preserved c = ending-next c.loop-rest.invariant c.loop-rest-test.true c.read_end-a.ensures c.in-Got.is c.read_end-a.auto.1.1.1.1.0
+loop-rest-preserved c = ending-next c.loop-rest.invariant c.loop-rest-test.true c.read_end-a.ensures c.in-Got.is c.read_end-a.auto.work
 
 pub shape_of-work : goal.shape_of-work
 shape_of-work c = c.loop-rest.invariant.long
