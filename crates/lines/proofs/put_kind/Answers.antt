@@ -16,7 +16,4 @@ returns-in-17-to-19 c = rw (kind-many c.args.k c.args.a c.args.e (omega arith) (
 
 pub returns-in_default : goal.returns-in_default
 unfolding kind_word
-returns-in_default c = rw (kind-plain _ _ _ (omega arith) c.in_default-1.rest.1 (λ h. elim c.in_default.branch [
-    | inl w ↦ omega arith
-    | inr w ↦ w.1.left
-    ]) c.requires) c.put_decimal.ensures
+returns-in_default c = rw (kind-plain _ _ _ (omega arith) (λ q. omega arith) (λ h. omega arith) c.requires) c.put_decimal.ensures
