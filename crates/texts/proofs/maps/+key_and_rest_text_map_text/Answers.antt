@@ -1,4 +1,4 @@
-use Rattle.std.proofs.Common.{refl, ◌∙◌, arith}
+use Rattle.std.proofs.Common.{refl, arith}
 use Rattle.values.specs.Ways.{first_kind, rest-asked, rest-falls}
 use Rattle.texts.specs.Told.{refuses, taking-behind, taking-next, taking-bad, taking-done}
 use Rattle.texts.specs.MapWays.{way-word, way-no-size, way-keys, way-no-key, way-rest}
