@@ -16,10 +16,10 @@ pub returns-in_default-d : goal.returns-in_default-d
 returns-in_default-d c = bad-start c.args.line (omega arith) c.judged_name-a.ensures c.in-Got.is c.judged_above-b.ensures c.in-Got-b.is c.judged_start-d.ensures c.in_default-d.is
 
 pub returns-in_default-e : goal.returns-in_default-e
-returns-in_default-e c = bad-count c.args.line (omega (arith, c.)) c.judged_name-a.ensures c.in-Got.is c.judged_above-b.ensures c.in-Got-b.is c.judged_start-d.ensures c.in-Got-d.is (omega (arith, c.)) (c.judged_count-e.ensures.judged _ c.requires) c.in_default-e.is
+returns-in_default-e c = bad-count c.args.line (omega (arith, c.well_formed)) c.judged_name-a.ensures c.in-Got.is c.judged_above-b.ensures c.in-Got-b.is c.judged_start-d.ensures c.in-Got-d.is (omega (arith, c.well_formed)) (c.judged_count-e.ensures.judged _ c.requires) c.in_default-e.is
 
 pub overflow_cast-top : goal.overflow_cast-top
 overflow_cast-top c = omega (arith, few-objects c.judged_count-e.ensures c.in-Got-e.is)
 
 pub returns : goal.returns
-returns c = good-head c.args.line (omega (arith, c.)) c.judged_name-a.ensures c.in-Got.is c.judged_above-b.ensures c.in-Got-b.is c.judged_start-d.ensures c.in-Got-d.is (omega (arith, c.)) (c.judged_count-e.ensures.judged _ c.requires) c.in-Got-e.is c.judged_count-e.ensures.below
+returns c = good-head c.args.line (omega (arith, c.well_formed)) c.judged_name-a.ensures c.in-Got.is c.judged_above-b.ensures c.in-Got-b.is c.judged_start-d.ensures c.in-Got-d.is (omega (arith, c.well_formed)) (c.judged_count-e.ensures.judged _ c.requires) c.in-Got-e.is c.judged_count-e.ensures.below
