@@ -29,28 +29,28 @@ pub key_and_rest_text-returns : goal.key_and_rest_text-returns
 key_and_rest_text-returns t c = way-rest _ _ _ _ _ _ c.requires.0 c.word_text-a.ensures c.in-Got.is c.map_text.ensures
 
 pub map_text-bounds-kinds-0 : goal.map_text-bounds-kinds-0
-map_text-bounds-kinds-0 t c = omega (arith, c.if-kinds-eq1.true)
+map_text-bounds-kinds-0 t c = omega arith
 
 pub map_text-word_text-requires : goal.map_text-word_text-requires
 map_text-word_text-requires t c = (first_kind c.args.kinds.now c.requires.0 c.requires.1, c.requires.2)
 
 pub map_text-returns-then-kinds-eq1 : goal.map_text-returns-then-kinds-eq1
-map_text-returns-then-kinds-eq1 t c = way-word _ _ _ _ _ c.args.kinds.now (omega (arith, c.if-kinds-eq1.true)) c.word_text.ensures
+map_text-returns-then-kinds-eq1 t c = way-word _ _ _ _ _ c.args.kinds.now (omega arith) c.word_text.ensures
 
 pub map_text-returns-in_default : goal.map_text-returns-in_default
-map_text-returns-in_default t c = refuses (way-no-size _ _ _ _ _ _ _ _ c.requires.0 c.if-kinds-eq1.false (rw c.in_default.is at c.size_text.ensures))
+map_text-returns-in_default t c = refuses (way-no-size _ _ _ _ _ _ _ _ c.requires.0 (λ q. omega arith) (rw c.in_default.is at c.size_text.ensures))
 
 pub map_text-loop-rest-init : goal.map_text-loop-rest-init
 map_text-loop-rest-init t c = taking-behind _ _ _ _ _ c.put_v64-behind.ensures refl
 
 pub map_text-key_and_rest_text-a-requires : goal.map_text-key_and_rest_text-a-requires
-map_text-key_and_rest_text-a-requires t c = (omega (arith, c.decreases), (omega (arith, c.if-kinds-eq1.false, c.requires.0), c.requires.1, c.requires.2))
+map_text-key_and_rest_text-a-requires t c = (omega (arith, c.decreases), (omega arith, c.requires.1, c.requires.2))
 
 pub map_text-returns-in_default-a : goal.map_text-returns-in_default-a
-map_text-returns-in_default-a t c = way-keys _ _ _ _ _ _ c.requires.0 c.if-kinds-eq1.false (rw c.in-Got.is at c.size_text.ensures) c.put_v64-behind.ensures (taking-bad c.loop-rest.invariant c.loop-rest-test.true c.key_and_rest_text-a.ensures c.in_default-a.is)
+map_text-returns-in_default-a t c = way-keys _ _ _ _ _ _ c.requires.0 (λ q. omega arith) (rw c.in-Got.is at c.size_text.ensures) c.put_v64-behind.ensures (taking-bad c.loop-rest.invariant c.loop-rest-test.true c.key_and_rest_text-a.ensures c.in_default-a.is)
 
 pub map_text-loop-rest-preserved : goal.map_text-loop-rest-preserved
 map_text-loop-rest-preserved t c = taking-next c.loop-rest.invariant c.loop-rest-test.true c.key_and_rest_text-a.ensures c.in-Got-a.is c.key_and_rest_text-a.auto.out
 
 pub map_text-returns : goal.map_text-returns
-map_text-returns t c = way-keys _ _ _ _ _ _ c.requires.0 c.if-kinds-eq1.false (rw c.in-Got.is at c.size_text.ensures) c.put_v64-behind.ensures (taking-done c.loop-rest.invariant c.loop-rest-test.false)
+map_text-returns t c = way-keys _ _ _ _ _ _ c.requires.0 (λ q. omega arith) (rw c.in-Got.is at c.size_text.ensures) c.put_v64-behind.ensures (taking-done c.loop-rest.invariant c.loop-rest-test.false)
