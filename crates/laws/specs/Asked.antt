@@ -1,14 +1,14 @@
 -- What a question for a field's values asks for, and what the two calls answer it from. Assumes nothing.
 use Rattle.std.proofs.Math.Path.{◌≡◌, sym, ap, subst}
-use Rattle.std.specs.Prelude.{refl, Bool, true, false, ◌&&◌, ◌⊎◌, List, [], ◌∷◌, ◌++◌, leb, eqb, ℤ}
+use Rattle.std.specs.Prelude.{◌⊎◌, List, ◌++◌, leb, eqb, ℤ}
 use Rattle.std.proofs.Common.{◌∙◌, inl, inr}
-use Rattle.std.proofs.Math.Option.{Option, none, some}
-use Prim.Native.Nat.{ℕ, ◌≤◌, ◌<◌}
+use Rattle.std.proofs.Math.Option.{Option, some}
+use Prim.Native.Nat.{ℕ, ◌≤◌}
 use borrow.Author.Tests.{leb-true, le-leb, eqb-true, eq-eqb}
 use Rattle.paper.specs.Reader.{got}
 use Rattle.paper.specs.Ledger.{Ledger, State, type_named, field_named, field_at, objects_of}
 use Rattle.paper.specs.File.{file}
-use Rattle.paper.specs.Calls.{Answer, done, refused, ◌>>=◌, ◌>>◌, need, found, read, known, column_of, asked, sought, count_values, fill_values}
+use Rattle.paper.specs.Calls.{done, refused, ◌>>=◌, ◌>>◌, need, found, read, known, column_of, asked, sought, count_values, fill_values}
 use Rattle.laws.specs.Bools.{and_split}
 use Rattle.laws.specs.Longer.{Begins, file-longer}
 use Rattle.laws.specs.Columns.{Grows, known-grows, type-stays, field-stays, column-longer, not_done, bind_done, bind-refused, then-done, need-done, found-done, answered-done}

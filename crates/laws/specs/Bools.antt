@@ -1,10 +1,9 @@
 -- Tests that are put flat, and rules. Assumes nothing.
-use Rattle.std.specs.Prelude.{◌≡◌, refl, Bool, true, false, ◌&&◌, ◌||◌, not, List, [], ◌∷◌, ◌++◌, ℕ, zero, suc, ◌+◌, ◌≤◌, ◌<◌, ◌^◌, leb, ltb, eqb, length}
-use Rattle.std.proofs.Common.{sym, ◌∙◌, ap, arith, ltb-true, lt-ltb}
-use Rattle.std.proofs.Math.Option.{Option, none, some}
-use Rattle.paper.specs.Reader.{if◌then◌else◌, Rule, ◌or_no◌}
+use Rattle.std.specs.Prelude.{◌≡◌, refl, Bool, true, false, ◌&&◌, List, [], ◌∷◌, ℕ, ◌<◌, ◌^◌, ltb}
+use Rattle.std.proofs.Common.{arith, ltb-true, lt-ltb}
+use Rattle.paper.specs.Reader.{Rule, ◌or_no◌}
 use Rattle.paper.specs.Lists.{all}
-use Rattle.paper.specs.Keeps.{every, hold?, in_turn, number?, only?}
+use Rattle.paper.specs.Keeps.{every, hold?, in_turn, number?}
 use Rattle.laws.specs.Says.{Held}
 use Rattle.laws.specs.Takes.{All₁}
 

@@ -1,14 +1,14 @@
 -- The bounds hold in every state that a ledger leads to which keeps the rules: no reading. Assumes nothing.
-use Rattle.std.specs.Prelude.{◌≡◌, refl, Bool, true, false, ◌||◌, ◌&&◌, not, List, [], ◌∷◌, ◌++◌, ℕ, zero, suc, ◌+◌, ◌-◌, ◌≤◌, ◌<◌, leb, ltb, eqb, length}
-use Rattle.std.proofs.Common.{sym, ◌∙◌, ap, subst, arith, length-append, leb-true, ltb-true}
+use Rattle.std.specs.Prelude.{◌≡◌, refl, Bool, true, not, List, [], ◌∷◌, ℕ, ◌+◌, ◌-◌, ◌≤◌, length}
+use Rattle.std.proofs.Common.{◌∙◌, arith, length-append, leb-true, ltb-true}
 use Rattle.std.proofs.Math.Option.{Option, none, some}
 use Rattle.paper.specs.Reader.{if◌then◌else◌}
 use Rattle.paper.specs.Bounds.{most_strings, most_types, most_fields}
-use Rattle.paper.specs.Ledger.{New, Head, Entry, Pair, Ledger, Typ, State, nothing, text, type_named}
+use Rattle.paper.specs.Ledger.{New, Entry, Pair, Ledger, Typ, State, nothing, text, type_named}
 use Rattle.paper.specs.Lists.{fold, given?}
 use Rattle.paper.specs.Rules.{strings_rules, with_strings, new?, type_of, type_name_rules, new_type, after_head, known_due, field_count_rules, after_new, after_entry, after_front, closed, after_pair, place_rules, new_name, super_of, base_of}
-use Rattle.paper.specs.Keeps.{every, in_turn, number?, head?, entry?, pair?, keeps?}
-use Rattle.laws.specs.Bools.{not_so, and_split, every-split, number-split}
+use Rattle.paper.specs.Keeps.{in_turn, head?, entry?, pair?, keeps?}
+use Rattle.laws.specs.Bools.{and_split, every-split, number-split}
 use Rattle.laws.specs.Says.{Held}
 
 -- the bounds, and that names stand beside what they name

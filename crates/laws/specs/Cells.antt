@@ -50,7 +50,7 @@ kind-says =
     λ t₃. if-says _
     (λ t. then-says _ (byte_is-says comma (omega arith)) λ u ds q. bind-says _ natural-says λ n es r. bind-says _ (kinds-says n) λ ks gs w.
     give-says (mapping ks) (λ z hs. kind_word z ≡ cs ++ (ds ++ (es ++ (gs ++ hs))))
-    (rw (joined-commas decimal, w.1, ← eqb-true k 20 t, p, ← q, r, w.0) (simp (append_assoc, append-nil))))
+    (rw (joined-commas decimal (decimal (length ks)) ks, w.1, ← eqb-true k 20 t, p, ← q, r, w.0) (simp (append_assoc, append-nil))))
     λ t₄. give-says (plain k) _ (rw append-nil p)
 
 -- a kind that stands alone is told from the others by its number

@@ -1,9 +1,9 @@
 -- A number that is written is read, and so is every coding of it. Assumes nothing.
-use Rattle.std.specs.Prelude.{◌≡◌, refl, Bool, true, false, ◌&&◌, List, [], ◌∷◌, ◌++◌, ℕ, zero, suc, ◌+◌, ◌-◌, ◌*◌, ◌/◌, ◌%◌, ◌^◌, ◌≤◌, ◌<◌, leb, ltb, eqb, length, get_or, take, drop}
-use Rattle.std.proofs.Common.{sym, ap, subst, append_assoc, append-nil, arith, div-add-mod', mod-lt, pow-suc, div-lt_iff_lt-mul, div-one, add-zero, mul_comm, zero-add, mul-one, leb-true, le-leb, eq-eqb, ltb-true, lt-ltb, le-ltb}
+use Rattle.std.specs.Prelude.{◌≡◌, refl, Bool, true, false, List, [], ◌∷◌, ℕ, zero, suc, ◌+◌, ◌-◌, ◌*◌, ◌/◌, ◌%◌, ◌^◌, ◌≤◌, ◌<◌, ltb, length}
+use Rattle.std.proofs.Common.{ap, append-nil, arith, div-add-mod', mod-lt, div-lt_iff_lt-mul, le-leb, ltb-true, lt-ltb}
 use Rattle.std.proofs.Math.Nat.{one-le-pow, pow-succ'}
 use Rattle.std.proofs.lemmas.Bool.{lt-leb}
-use Rattle.paper.specs.Reader.{if◌then◌else◌, Reader, Out, got, no, ◌>>=◌, give, must, started, Rule, ◌or_no◌, bytes}
+use Rattle.paper.specs.Reader.{if◌then◌else◌, Rule}
 use Rattle.paper.specs.Numbers.{high_first, fixed, put_fixed, coding, low_first, v64, put_v64, number}
 use Rattle.paper.specs.Pieces.{free}
 use Rattle.paper.specs.Spell.{Coding, ninth, last, more}
@@ -77,6 +77,7 @@ put-coding (suc k) n = go (put-coding k (n / 128)) (ltb n 128) refl
 -- every coding of a number of 64 bits is taken
 coding-takes : {k : ℕ} (bs : List ℕ) → Coding k bs → low_first bs < 256 * 128 ^ k → Takes (coding k) bs bs
 unfolding coding low_first
+coding-takes {k = k} [] x h = elim x [ ]
 coding-takes (b ∷ []) ninth h = bind-takes _ (byte-takes b h) (give-takes (b ∷ []))
 coding-takes (b ∷ []) (last l) h = bind-takes _ (byte-takes b (omega arith)) (if-takes-false _ (lt-leb 128 b l) (give-takes (b ∷ [])))
 coding-takes (b ∷ c ∷ bs) (more {k = k} l l' r) h =
@@ -102,6 +103,7 @@ number-reads rules n lt h = must-reads rules h (v64-reads n lt)
 -- no coding of a number is shorter than what is written of it, or of one below it
 pub put-short : {k : ℕ} (n : ℕ) (bs : List ℕ) → Coding k bs → n ≤ low_first bs → length (put_v64 k n) ≤ length bs
 unfolding put_v64 low_first if◌then◌else◌
+put-short {k = k} n [] x h = elim x [ ]
 put-short n (b ∷ []) ninth h = omega arith
 put-short n (b ∷ []) (last l) h = rw (lt-ltb n 128 (omega arith)) (omega arith)
 put-short n (b ∷ c ∷ bs) (more {k = k} l l' r) h = go (put-short (n / 128) (c ∷ bs) r (omega arith)) (ltb n 128)

@@ -1,17 +1,15 @@
 -- The columns of a longer file begin with those of the shorter one. Assumes nothing.
-use Rattle.std.specs.Prelude.{◌≡◌, refl, Bool, true, false, ◌&&◌, not, ◌⊎◌, List, [], ◌∷◌, ◌++◌, ℕ, zero, suc, ◌+◌, ◌-◌, ◌*◌, ◌≤◌, ◌<◌, leb, ltb, eqb, ℤ, pos, negsuc, length, get_or, replicate}
-use Rattle.std.proofs.Common.{sym, ◌∙◌, ap, subst, inl, inr, append_assoc, append-nil, arith, add_assoc, zero-add, length-append}
+use Rattle.std.specs.Prelude.{◌≡◌, refl, Bool, true, false, ◌⊎◌, List, [], ◌∷◌, ◌++◌, ℕ, suc, ◌+◌, ◌<◌, length, get_or, replicate}
+use Rattle.std.proofs.Common.{sym, ◌∙◌, ap, inl, inr, append_assoc, append-nil, arith}
 use Rattle.std.proofs.Math.Option.{Option, none, some}
 use Rattle.std.proofs.lemmas.List.{replicate-append-replicate}
 use Rattle.std.proofs.Math.ListN.{get_or-append}
 use Rattle.paper.specs.Reader.{if◌then◌else◌, Out, got, no}
-use Rattle.paper.specs.Ledger.{mapping, Kind, constant, plain, array, many, New, Head, Entry, Chunk, Pair, Ledger, Typ, Field, Range, State, nothing, type_named, field_named, field_at, no_field, objects_of, of?, size, called?}
-use Rattle.paper.specs.Lists.{same, place, total, fold, place_named}
+use Rattle.paper.specs.Ledger.{mapping, Kind, constant, plain, array, many, New, Head, Entry, Pair, Ledger, State, nothing, type_named, field_named, field_at, no_field, objects_of, of?, size, called?}
+use Rattle.paper.specs.Lists.{place, total, fold, place_named}
 use Rattle.paper.specs.Rules.{with_strings, new_type, new_range, after_head, after_new, after_entry, dues, closed, after_front, after_pair, new_name}
-use Rattle.paper.specs.File.{file}
-use Rattle.paper.specs.Calls.{Answer, done, refused, ◌>>=◌, ◌>>◌, need, found, answered, read, known, chunk_values, field_values, column_by, column_of}
-use Rattle.laws.specs.Laws.{Agree}
-use Rattle.laws.specs.Longer.{Begins, file-longer}
+use Rattle.paper.specs.Calls.{Answer, done, refused, ◌>>=◌, ◌>>◌, need, found, answered, known, chunk_values, field_values, column_by, column_of}
+use Rattle.laws.specs.Longer.{Begins}
 
 -- ── lists that begin others ──
 

@@ -1,5 +1,5 @@
 -- A column has as many values as its type has objects: from the rules on a ledger, with no reading. Assumes nothing.
-use Rattle.std.specs.Prelude.{◌≡◌, Bool, ◌||◌, ◌&&◌, not, leb, ltb}
+use Rattle.std.specs.Prelude.{◌≡◌, Bool}
 use Rattle.std.proofs.Math.Path.{refl, ap}
 use Rattle.std.proofs.Common.{sym, ◌∙◌, subst, length-append, eqb-true, eq-eqb, ne_eqb}
 use Rattle.std.proofs.Math.Bool.{true, false}
@@ -13,11 +13,11 @@ use Rattle.std.proofs.Math.ListN.{length, get_or, get_or-append}
 use Rattle.std.proofs.lemmas.List.{length-map}
 use Rattle.std.proofs.Math.Seq.{get_or-append-add}
 use Rattle.std.proofs.lemmas.Bool.{eqb-false}
-use Rattle.paper.specs.Reader.{if◌then◌else◌, Out, got}
-use Rattle.paper.specs.Ledger.{mapping, Kind, constant, plain, array, many, New, Head, Entry, Field, Range, Due, Chunk, Pair, Ledger, State, nothing, field_at, no_field, fields_of, objects_of, text, of?, size, owns?}
+use Rattle.paper.specs.Reader.{if◌then◌else◌}
+use Rattle.paper.specs.Ledger.{mapping, Kind, constant, plain, array, many, New, Head, Entry, Field, Due, Chunk, Pair, Ledger, State, nothing, field_at, no_field, fields_of, objects_of, of?, size, owns?}
 use Rattle.paper.specs.Lists.{fold, total, places}
 use Rattle.paper.specs.Rules.{type_of, new_range, after_head, known_due, noted, after_new, after_entry, values_due, old_due, new_dues, entry_dues, dues, with_strings, after_front, closed, after_pair}
-use Rattle.paper.specs.Keeps.{every, in_turn, chunk?, chunks?, pair?, keeps?}
+use Rattle.paper.specs.Keeps.{in_turn, chunk?, chunks?, pair?, keeps?}
 use Rattle.laws.specs.Bools.{not_so, and_split, every-split}
 use Rattle.laws.specs.Columns.{total-append}
 
@@ -199,9 +199,11 @@ noted-due (mapping ks) n = refl
 news-at : (t n : ℕ) (gs : List New) (i k : ℕ) → k < length gs → owed (i + k) (new_dues i n gs) ≡ values_due (get_or (map (made t) gs) k no_field).kind n
 unfolding owed sum new_dues if◌then◌else◌ made
 news-at t n [] i k h = absurd (omega arith)
-news-at t n (g ∷ gs) i zero h = rw (add-zero, eq-eqb i i refl) (omega (arith, noted-due g.kind n, news-below n gs (suc i) i (omega arith)))
+news-at t n (g ∷ gs) i zero h = rw (add-zero, eq-eqb i i refl) (omega (arith, noted-due g.kind n, news-below n gs (suc i) (i + 0) (omega arith)))
 news-at t n (g ∷ gs) i (suc k) h =
-    rw (add-suc, ← suc-add i k, ne_eqb i (suc i + k) (λ e. omega arith)) (zero-add _ ∙ news-at t n gs (suc i) k (omega arith))
+    let next : i + suc k ≡ suc i + k = omega arith in
+    subst (λ (j : ℕ). owed j (new_dues i n (g ∷ gs)) ≡ values_due (get_or (map (made t) (g ∷ gs)) (suc k) no_field).kind n) (sym next)
+    (rw (ne_eqb i (suc i + k) (λ e. omega arith)) (zero-add _ ∙ news-at t n gs (suc i) k (omega arith)))
 
 news-owner : (t : ℕ) (gs : List New) (k : ℕ) → k < length gs → (get_or (map (made t) gs) k no_field).owner ≡ t
 unfolding made

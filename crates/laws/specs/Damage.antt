@@ -1,24 +1,24 @@
 -- Two accepted files that differ only inside one field's chunks have the same other columns. Assumes nothing.
-use Rattle.std.specs.Prelude.{◌≡◌, Bool, ◌&&◌, ◌||◌, ℤ, ◌⊎◌, ℕ, zero, suc, ◌+◌, ◌-◌, ◌*◌, ◌≤◌, ◌<◌, leb, ltb, get_or, take, drop}
+use Rattle.std.specs.Prelude.{◌≡◌, Bool, ◌&&◌, ◌⊎◌, ℕ, zero, suc, ◌+◌, ◌-◌, ◌≤◌, ◌<◌, leb, ltb, get_or, take, drop}
 use Rattle.std.proofs.Math.Path.{refl, sym, ap}
-use Rattle.std.proofs.Common.{◌∙◌, subst, inl, inr, arith, add_assoc, add-zero, zero-add, length-append, length-take, length-drop, get_or-take, get_or-drop, leb-true, leb-false, eqb-true, ne_eqb, le-leb, le-ltb}
+use Rattle.std.proofs.Common.{◌∙◌, inl, inr, arith, add_assoc, add-zero, length-take, length-drop, get_or-take, get_or-drop, eqb-true, ne_eqb, le-leb, le-ltb}
 use Rattle.std.proofs.Math.Bool.{true, false}
-use Rattle.std.proofs.Math.Option.{Option, none, some}
-use mathlib.Core.List.{List, [], ◌∷◌, ◌++◌, append_assoc, append-nil}
+use Rattle.std.proofs.Math.Option.{some}
+use mathlib.Core.List.{List, [], ◌∷◌, ◌++◌}
 use Rattle.std.proofs.Math.Dec.{eqb}
 use Rattle.std.proofs.Math.ListN.{length}
-use Rattle.std.proofs.lemmas.Bool.{eqb-false, lt-leb}
-use Rattle.paper.specs.Reader.{if◌then◌else◌, Reader, Out, got, no, ◌>>=◌, ◌>>◌, give, Rule, ◌or_no◌, each, times, within, part, refuse, to_end}
-use Rattle.paper.specs.Ledger.{mapping, Kind, constant, plain, array, many, Chunk, Pair, Ledger, Due, State, nothing, field_at, type_named, field_named, objects_of}
+use Rattle.std.proofs.lemmas.Bool.{lt-leb}
+use Rattle.paper.specs.Reader.{if◌then◌else◌, Reader, got, ◌>>=◌, give, each, within, refuse, to_end}
+use Rattle.paper.specs.Ledger.{mapping, Kind, constant, plain, array, many, Chunk, Pair, Ledger, Due, State, nothing, field_at, type_named, field_named}
 use Rattle.paper.specs.Lists.{fold, any, last_or}
 use Rattle.paper.specs.Bounds.{most_pairs}
-use Rattle.paper.specs.Rules.{with_strings, kinds_stand?, any_type, dues, after_front, closed, after_pair}
+use Rattle.paper.specs.Rules.{with_strings, any_type, dues, after_front, closed, after_pair}
 use Rattle.paper.specs.File.{Front, chunk, sized, data_region, front, pair_from, pair, pairs, file}
-use Rattle.paper.specs.Places.{Spot, spots_from, with_front, pair_spots, spots_of, spots, inside?}
-use Rattle.paper.specs.Calls.{Answer, done, refused, need, found, read, check, known, values_in, chunk_values, field_values, column_by, column_of, sought, count_values, fill_values, ◌>>=◌ as ◌then=◌, ◌>>◌ as ◌then◌}
+use Rattle.paper.specs.Places.{Spot, spots_from, pair_spots, spots_of, spots, inside?}
+use Rattle.paper.specs.Calls.{Answer, done, refused, read, check, known, values_in, chunk_values, field_values, column_by, column_of, sought, count_values, fill_values, ◌>>=◌ as ◌then=◌}
 use Rattle.laws.specs.Columns.{bind_done, then-done, answered-done}
 use Rattle.laws.specs.Asked.{sought-asks}
-use Rattle.laws.specs.Laws.{Agree, not-got, Stays, Faithful, Bound, bind_inv, part-faithful, First, each-inv, Filled, part-inv, within-inv}
+use Rattle.laws.specs.Laws.{not-got, bind_inv, part-faithful, each-inv, part-inv, within-inv}
 use Rattle.laws.specs.Faithful.{front-faithful, region-end, region, region-inv}
 use Rattle.laws.specs.Longer.{unless_end-inv, AtEnd, Before, file-inv}
 

@@ -1,22 +1,21 @@
 -- Fields and entries with their end offsets: what is read is what is spelt, and keeps the rules; and back. Assumes nothing.
-use Rattle.std.specs.Prelude.{◌≡◌, refl, Bool, true, false, ◌||◌, ◌&&◌, not, List, [], ◌∷◌, ◌++◌, map, ℕ, zero, suc, ◌+◌, ◌-◌, ◌*◌, ◌^◌, ◌≤◌, ◌<◌, leb, ltb, eqb, length, get_or, take, drop, replicate}
-use Rattle.std.proofs.Common.{sym, ◌∙◌, ap, subst, append_assoc, append-nil, arith, zero-add, length-append, length-take, length-drop, take-append-drop, take_at, drop_at, leb-true, le-leb}
+use Rattle.std.specs.Prelude.{◌≡◌, refl, true, List, [], ◌∷◌, ◌++◌, map, ℕ, zero, suc, ◌+◌, ◌-◌, ◌^◌, ◌≤◌, ◌<◌, length, take, drop, replicate}
+use Rattle.std.proofs.Common.{sym, ◌∙◌, ap, append_assoc, append-nil, arith, length-append, length-take, length-drop, take-append-drop, take_at, drop_at, leb-true, le-leb}
 use Rattle.std.proofs.lemmas.List.{length-replicate, length-map}
-use Rattle.paper.specs.Reader.{if◌then◌else◌, Reader, Out, got, no, ◌>>=◌, give, must, Rule, ◌or_no◌, each, times}
-use Rattle.paper.specs.Numbers.{number}
-use Rattle.paper.specs.Ledger.{Kind, New, Head, Entry, Due, State, objects_of}
+use Rattle.paper.specs.Reader.{times}
+use Rattle.paper.specs.Ledger.{New, Entry, State, objects_of}
 use Rattle.paper.specs.Lists.{fold, last_or, flat}
 use Rattle.paper.specs.Rules.{type_of, after_head, known_due, field_count_rules, field_name_rules, after_new, after_entry, old_due, new_dues, entry_dues, dues, any_type, end_rules}
-use Rattle.paper.specs.File.{Upto, restrictions, head, kind, end_offset, new_field, upto_new, what, ends, fields, entry, upto_entry}
+use Rattle.paper.specs.File.{Upto, end_offset, new_field, upto_new, what, ends, fields, entry, upto_entry}
 use Rattle.paper.specs.Pieces.{zip}
-use Rattle.paper.specs.Keeps.{every, in_turn, number?, head?, kind_kept?, new-field?, entry?}
-use Rattle.laws.specs.Says.{Bytes, Says, Said, weaker, give-says, bind-says, times-says, Held, Run}
+use Rattle.paper.specs.Keeps.{in_turn, number?, kind_kept?, new-field?, entry?}
+use Rattle.laws.specs.Says.{Says, weaker, give-says, bind-says, times-says, Run}
 use Rattle.laws.specs.Takes.{written, written-flat, All₁}
 use Rattle.paper.specs.Pieces.{Piece, free, kind_pieces, head_pieces, new_pieces, field_pieces, entry_pieces, entries_pieces}
 use Rattle.paper.specs.Spell.{Spelt}
 use Rattle.laws.specs.Spelling.{spelt-none, spelt-by, spelt-join, spelt-end, Reads, reads_as, reads-is, give-reads, bind-reads, times-reads}
 use Rattle.laws.specs.Codes.{number-reads}
-use Rattle.laws.specs.Bools.{not_so, and_split, and-join, every-split, every-join, number-split, number-join, turn-split}
+use Rattle.laws.specs.Bools.{and_split, and-join, every-split, every-join, number-split}
 use Rattle.laws.specs.Values.{number-kept, number-taken}
 use Rattle.laws.specs.Heads.{no-restrictions, restrictions-taken, head-kept, head-taken, kind-kept, kind-taken}
 

@@ -1,30 +1,28 @@
 -- A file is accepted exactly when it says a ledger that keeps the rules, in whatever codings. Assumes nothing.
-use Rattle.std.specs.Prelude.{◌≡◌, refl, Bool, true, false, ◌||◌, ◌&&◌, not, ◌⊎◌, List, [], ◌∷◌, ◌++◌, map, ℕ, zero, suc, ◌+◌, ◌-◌, ◌*◌, ◌^◌, ◌≤◌, ◌<◌, leb, ltb, eqb, length, get_or, take, drop, replicate}
-use Rattle.std.proofs.Common.{sym, ◌∙◌, ap, subst, inl, inr, append_assoc, append-nil, arith, zero-add, length-append, length-take, length-drop, take_all, leb-true, le-leb}
-use Rattle.std.proofs.Math.Nat.{sub-zero}
-use Rattle.std.proofs.lemmas.Bool.{lt-leb}
-use Rattle.paper.specs.Reader.{if◌then◌else◌, Reader, Out, got, no, ◌>>=◌, ◌>>◌, give, Rule, ◌or_no◌, each, times, within, part, refuse, unless_end}
+use Rattle.std.specs.Prelude.{◌≡◌, refl, true, List, [], ◌∷◌, ◌++◌, map, ℕ, suc, ◌+◌, ◌-◌, ◌^◌, ◌≤◌, ◌<◌, length}
+use Rattle.std.proofs.Common.{sym, ◌∙◌, ap, subst, append_assoc, append-nil, arith, zero-add, length-append, leb-true, le-leb}
+use Rattle.paper.specs.Reader.{if◌then◌else◌, got, each, refuse}
 use Rattle.paper.specs.Ledger.{Entry, Chunk, Pair, Ledger, Due, State, nothing}
 use Rattle.paper.specs.Lists.{all, last_or, flat}
 use Rattle.paper.specs.Bounds.{most_bytes, most_pairs}
 use Rattle.paper.specs.Rules.{small_rules, strings_rules, with_strings, kinds_stand?, any_type, after_entry, dues, after_front, after_pair}
-use Rattle.paper.specs.File.{Upto, Front, small, string_block, entry, upto_entry, what, ends, chunk, sized, data_region, front, kinds_named, pair_from, pair, pairs, file}
+use Rattle.paper.specs.File.{Front, small, what, ends, chunk, sized, data_region, front, kinds_named, pair_from, pair, pairs, file}
 use Rattle.paper.specs.Pieces.{ends_from}
 use Rattle.paper.specs.Encode.{put_chunks, encode}
 use Rattle.paper.specs.Pieces.{Piece, free, string_pieces, entries_pieces, chunk_pieces, front_pieces}
 use Rattle.paper.specs.Spell.{Spelt, number, bytes, SpeltChunks, SpeltPair, SpeltPairs, Spells}
-use Rattle.paper.specs.Keeps.{every, in_turn, number?, bytes?, entry?, chunk?, chunks?, pair?, keeps?}
+use Rattle.paper.specs.Keeps.{in_turn, number?, bytes?, entry?, chunk?, chunks?, pair?, keeps?}
 use Rattle.laws.specs.Faithful.{named-inv, named-stands}
 use Rattle.laws.specs.Longer.{file-inv, file-length}
 use Rattle.laws.specs.ToEnd.{refuse-never, Chain, chain-kept, chain-taken, chain-bytes}
-use Rattle.laws.specs.Says.{Bytes, span, Says, Said, weaker, give-says, bind-says, then-says, within-says, part_says, each-says, Held, Run}
+use Rattle.laws.specs.Says.{Bytes, Says, Said, weaker, give-says, bind-says, then-says, within-says, part_says, each-says, Run}
 use Rattle.laws.specs.Takes.{Takes, takes-as, give-takes, bind-takes, then-takes, within-takes, part-takes}
 use Rattle.laws.specs.Spelling.{coding-some, spelt-by, spelt-join, spelt-end, Reads, reads_as, reads-is, give-reads, bind-reads}
 use Rattle.laws.specs.Shortest.{encode-spells, encode-short}
-use Rattle.laws.specs.Bools.{not_so, and_split, and-join, every-split, every-join, number-split}
+use Rattle.laws.specs.Bools.{not_so, and_split, and-join, every-split, every-join}
 use Rattle.laws.specs.Values.{number-kept, number-taken, chunk_kept, chunk-taken}
 use Rattle.laws.specs.Heads.{strings-kept, strings-taken, ends_last, ends-length}
-use Rattle.laws.specs.Entries.{Rising, EntriesSay, entries-says, entries-taken, share, what-share, ends-share}
+use Rattle.laws.specs.Entries.{Rising, entries-says, entries-taken, share, what-share, ends-share}
 
 -- ── the data region ──
 

@@ -1,14 +1,13 @@
 -- The laws, for each reader of the file. Assumes nothing.
-use Rattle.std.specs.Prelude.{◌≡◌, refl, Bool, true, false, List, [], ◌∷◌, ◌++◌, ℕ, zero, suc, ◌+◌, ◌-◌, ◌*◌, ◌≤◌, leb, ltb, eqb, length}
+use Rattle.std.specs.Prelude.{◌≡◌, refl, Bool, true, false, List, [], ◌∷◌, ℕ, zero, suc, ◌+◌, ◌≤◌, length}
 use Rattle.std.proofs.Common.{sym, ◌∙◌, ap, arith}
-use Rattle.std.proofs.Math.Option.{Option, none, some}
-use Rattle.paper.specs.Reader.{Reader, Out, got, no, bytes, ◌>>=◌, ◌>>◌, give, must, if◌then◌else◌}
+use Rattle.paper.specs.Reader.{Reader, Out, got, no, ◌>>◌, if◌then◌else◌}
 use Rattle.paper.specs.Numbers.{fixed, coding, v64, number}
 use Rattle.paper.specs.Lists.{last_or}
-use Rattle.paper.specs.Ledger.{State, Kind, Due, Chunk}
+use Rattle.paper.specs.Ledger.{State, Due, Chunk}
 use Rattle.paper.specs.Rules.{with_strings, dues, after_front, any_type, a_type?, kinds_stand?}
 use Rattle.paper.specs.File.{Upto, Front, small, string_end, string_block, restrictions, head, whole_of, kind, end_offset, new_field, fields, entry, data_region, front, refusal_of, kinds_named, pair_from, pair}
-use Rattle.laws.specs.Laws.{Stays, Faithful, faithful, not-got, then-inv, part-inv, bind-faithful, then-faithful, give-faithful, must-faithful, started-faithful, if-faithful, only-faithful, each-faithful, times-faithful, repeat-faithful, bytes-faithful, within-faithful, part-faithful}
+use Rattle.laws.specs.Laws.{Stays, Faithful, faithful, not-got, then-inv, part-inv, bind-faithful, then-faithful, give-faithful, must-faithful, if-faithful, within-faithful, part-faithful}
 
 pub fixed-faithful : (w : ℕ) → Faithful (fixed w)
 unfolding fixed

@@ -1,21 +1,21 @@
 -- Strings, heads and kinds: what is read is what is spelt, and keeps the rules; and back. Assumes nothing.
-use Rattle.std.specs.Prelude.{◌≡◌, refl, Bool, true, false, ◌||◌, ◌&&◌, not, List, [], ◌∷◌, ◌++◌, ℕ, zero, suc, ◌+◌, ◌-◌, ◌*◌, ◌/◌, ◌%◌, ◌^◌, ◌≤◌, ◌<◌, leb, ltb, eqb, ℤ, pos, negsuc, length, get_or, take, drop, replicate}
-use Rattle.std.proofs.Common.{sym, ◌∙◌, ap, subst, append_assoc, append-nil, arith, zero-add, length-append, length-take, length-drop, take-append-drop, take_at, drop_at, leb-true, leb-false, le-leb, eqb-true, eq-eqb, ne_eqb, ltb-true, ltb-false, lt-ltb, le-ltb}
+use Rattle.std.specs.Prelude.{◌≡◌, refl, Bool, true, false, ◌||◌, ◌&&◌, List, [], ◌∷◌, ◌++◌, ℕ, suc, ◌+◌, ◌-◌, ◌^◌, ◌≤◌, ◌<◌, leb, ltb, eqb, length, take, drop, replicate}
+use Rattle.std.proofs.Common.{sym, ◌∙◌, ap, subst, append_assoc, append-nil, arith, zero-add, length-append, length-take, length-drop, take-append-drop, leb-true, le-leb, eqb-true, ne_eqb, ltb-true, lt-ltb}
 use Rattle.std.proofs.Math.Option.{Option, none, some}
 use Rattle.std.proofs.lemmas.List.{length-replicate}
 use Rattle.std.proofs.Math.Seq.{take-append_seam, drop-append_seam}
-use Rattle.std.proofs.lemmas.Bool.{lt-leb, not-true}
-use Rattle.paper.specs.Reader.{if◌then◌else◌, Reader, Out, got, no, ◌>>=◌, give, must, Rule, ◌or_no◌, bytes, each, times, repeat, only}
-use Rattle.paper.specs.Numbers.{fixed, put_fixed, v64, put_v64, number, put}
-use Rattle.paper.specs.Ledger.{mapping, Kind, constant, plain, array, many, Head, State}
+use Rattle.std.proofs.lemmas.Bool.{lt-leb}
+use Rattle.paper.specs.Reader.{if◌then◌else◌, Rule, only}
+use Rattle.paper.specs.Numbers.{put_fixed, number}
+use Rattle.paper.specs.Ledger.{mapping, constant, plain, array, many, Head, State}
 use Rattle.paper.specs.Lists.{all, given?, or, last_or, flat}
 use Rattle.paper.specs.Rules.{types_rules, small_rules, strings_rules, new?, super_of, type_name_rules, super_name_rules, count_rules, single_kind?, element_kind?, kind?, kind_rules, element_kind_rules, any_type, restriction_rules, end_rules, type_of}
-use Rattle.paper.specs.File.{small, cut, string_end, string_block, restrictions, head, whole_of, kind}
+use Rattle.paper.specs.File.{small, cut, string_end, string_block, restrictions, head, kind}
 use Rattle.paper.specs.Pieces.{ends_from}
-use Rattle.paper.specs.Keeps.{every, number?, only?, bytes?, head?, whole?, kind_kept?}
-use Rattle.laws.specs.Says.{Bytes, bytes_take, bytes_drop, Says, Said, weaker, give-says, bind-says, must-says, if-says, only-says, bytes-says, times-says, Held, Run}
+use Rattle.paper.specs.Keeps.{number?, only?, bytes?, head?, whole?, kind_kept?}
+use Rattle.laws.specs.Says.{Bytes, bytes_take, bytes_drop, Says, weaker, give-says, bind-says, must-says, if-says, only-says, bytes-says, times-says, Run}
 use Rattle.laws.specs.Spelt.{fixed-says}
-use Rattle.laws.specs.Takes.{Takes, takes-as, must-takes, bytes-takes, times-takes, written, written-flat, All₁, bytes-append}
+use Rattle.laws.specs.Takes.{Takes, takes-as, must-takes, bytes-takes, times-takes, written-flat, All₁, bytes-append}
 use Rattle.paper.specs.Pieces.{Piece, free, firm, option_pieces, head_pieces, kind_pieces, string_pieces, whole_pieces}
 use Rattle.paper.specs.Spell.{Spelt}
 use Rattle.laws.specs.Spelling.{spelt-none, spelt-by, spelt-join, spelt-end, firm-as, KeptSpelt, ReadSpelt, Reads, reads_as, reads-is, give-reads, bind-reads, if-reads-true, if-reads-false, only-reads-some, only-reads-none, firm-reads, repeat-reads}

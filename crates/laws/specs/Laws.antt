@@ -1,8 +1,8 @@
 -- The laws of readers: what a reader gives hangs on the bytes that it reads alone, and on a file that ends before them it is
 -- refused by 1. Closed under all the ways in which readers are put flat. Assumes nothing.
-use Rattle.std.specs.Prelude.{◌≡◌, refl, Bool, true, false, List, [], ◌∷◌, ◌++◌, ℕ, zero, suc, ◌+◌, ◌-◌, ◌*◌, ◌≤◌, ◌<◌, leb, ltb, eqb, length, get_or, take, drop, replicate}
-use Rattle.std.proofs.Common.{sym, ◌∙◌, ap, subst, arith, le_refl, le_trans, length-take, length-drop, ext_get_or, get_or-take, get_or-drop, leb-true, leb-false, le-leb, eqb-true}
-use Rattle.std.proofs.Math.Option.{Option, none, some}
+use Rattle.std.specs.Prelude.{◌≡◌, refl, Bool, true, false, List, [], ◌∷◌, ℕ, ◌+◌, ◌≤◌, ◌<◌, leb, eqb, length, get_or, take, drop, replicate}
+use Rattle.std.proofs.Common.{sym, ◌∙◌, ap, arith, length-take, length-drop, ext_get_or, get_or-take, get_or-drop, leb-true, le-leb, eqb-true}
+use Rattle.std.proofs.Math.Option.{none, some}
 use Rattle.std.proofs.Math.Decide.{dec_le}
 use Rattle.std.proofs.lemmas.Bool.{lt-leb}
 use Rattle.paper.specs.Reader.{if◌then◌else◌, Reader, Out, got, no, and_then, ◌>>=◌, ◌>>◌, give, hold, must, from_start, started, within, Rule, ◌or_no◌, bytes, each, times, repeat, only, filled, part}

@@ -1,28 +1,26 @@
 -- A column that is answered has as many values as its type has objects. Assumes nothing.
-use Rattle.std.specs.Prelude.{◌≡◌, Bool, ◌||◌, ◌&&◌, not, ℕ, zero, suc, ◌+◌, ◌-◌, ◌*◌, ◌≤◌, ◌<◌, leb, ltb, ℤ, get_or, replicate}
+use Rattle.std.specs.Prelude.{◌≡◌, Bool, ℕ, suc, ◌+◌, ◌≤◌, ◌<◌, leb, ℤ, get_or}
 use Rattle.std.proofs.Math.Path.{refl, sym, ap}
-use Rattle.std.proofs.Common.{◌∙◌, subst, arith, add-zero, add-suc, suc-add, zero-add, get_or-append-add}
+use Rattle.std.proofs.Common.{◌∙◌, arith, add-suc, suc-add, zero-add}
 use Rattle.std.proofs.Math.Bool.{true, false}
-use mathlib.Core.List.{List, [], ◌∷◌, ◌++◌, map, append_assoc}
-use Rattle.std.proofs.Math.Option.{Option, none, some}
+use mathlib.Core.List.{List, [], ◌∷◌, ◌++◌, map}
+use Rattle.std.proofs.Math.Option.{some}
 use Rattle.std.proofs.Math.Dec.{eqb}
 use Rattle.std.proofs.Math.ListN.{length, length-append, get_or-append}
 use Rattle.std.proofs.lemmas.List.{length-map, length-replicate}
-use Rattle.std.proofs.Math.Seq.{get_or-append_seam}
-use borrow.Author.Tests.{eqb-true, eqb-false, leb-true, lt-leb}
-use Rattle.paper.specs.Reader.{if◌then◌else◌, Out, got}
-use Rattle.paper.specs.Ledger.{mapping, Kind, constant, plain, array, many, Element, New, Head, Entry, Field, Due, Chunk, Pair, Ledger, State, nothing, field_at, no_field, fields_of, field_named, objects_of, type_named, owns?, called?}
-use Rattle.paper.specs.Lists.{same, all, fold, place, places}
+use borrow.Author.Tests.{eqb-true, leb-true}
+use Rattle.paper.specs.Reader.{if◌then◌else◌}
+use Rattle.paper.specs.Ledger.{mapping, Kind, constant, plain, array, many, New, Head, Entry, Field, Due, Chunk, Pair, Ledger, State, nothing, field_at, no_field, fields_of, field_named, objects_of, type_named, owns?, called?}
+use Rattle.paper.specs.Lists.{all, fold, places}
 use Rattle.paper.specs.Rules.{type_of, after_head, known_due, after_entry, old_due, new_dues, entry_dues, dues, with_strings, after_front, closed, after_pair}
-use Rattle.paper.specs.File.{file}
-use Rattle.paper.specs.Keeps.{every, in_turn, value?, chunk?, chunks?, pair?, keeps?}
-use Rattle.paper.specs.Calls.{Answer, done, refused, need, found, read, known, objects, stored, stored_all, values_in, chunk_values, field_values, column_by, column_of, asked, sought, count_values, fill_values, how_many, ◌>>=◌, ◌>>◌}
+use Rattle.paper.specs.Keeps.{in_turn, value?, chunk?, chunks?, pair?, keeps?}
+use Rattle.paper.specs.Calls.{Answer, done, refused, need, found, read, known, objects, stored, stored_all, values_in, chunk_values, field_values, column_by, column_of, asked, count_values, fill_values, how_many, ◌>>=◌, ◌>>◌}
 use Rattle.laws.specs.Says.{Bytes}
 use Rattle.laws.specs.Bools.{not_so, and_split, every-split}
 use Rattle.laws.specs.Longer.{Begins}
-use Rattle.laws.specs.Columns.{Grows, fold-grows, pair-grows, entry-grows, named-found, bind_done, need-done}
+use Rattle.laws.specs.Columns.{fold-grows, pair-grows, entry-grows, named-found, bind_done, need-done}
 use Rattle.laws.specs.Asked.{Taken, sought-asks, count-done, count-refused}
-use Rattle.laws.specs.Count.{made, fold-fields, chunk_count, value_count, movable, values-even}
+use Rattle.laws.specs.Count.{made, fold-fields, chunk_count, value_count, values-even}
 use Rattle.laws.specs.Exact.{file-kept}
 
 -- ── a chunk that is due is of a declared field ──

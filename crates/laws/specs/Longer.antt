@@ -1,15 +1,15 @@
 -- A file that begins with another: the other's pairs come first. A file cut off: its first pairs, or refusal 1. Assumes nothing.
-use Rattle.std.specs.Prelude.{◌≡◌, refl, Bool, true, false, ◌⊎◌, List, [], ◌∷◌, ◌++◌, ℕ, zero, suc, ◌+◌, ◌-◌, ◌*◌, ◌≤◌, ◌<◌, leb, length, get_or, take, drop}
-use Rattle.std.proofs.Common.{sym, ◌∙◌, ap, subst, inl, inr, arith, length-append, length-take, get_or-take, leb-true, leb-false, le-leb}
+use Rattle.std.specs.Prelude.{◌≡◌, refl, Bool, true, false, ◌⊎◌, List, [], ◌∷◌, ◌++◌, ℕ, zero, suc, ◌≤◌, ◌<◌, leb, length, take}
+use Rattle.std.proofs.Common.{sym, ◌∙◌, ap, inl, inr, arith, length-append, length-take, get_or-take, leb-true, leb-false, le-leb}
 use Rattle.std.proofs.Math.Decide.{dec_le}
 use Rattle.std.proofs.Math.ListN.{get_or-append}
 use Rattle.std.proofs.lemmas.Bool.{lt-leb}
-use Rattle.paper.specs.Reader.{if◌then◌else◌, Reader, Out, got, no, and_then, ◌>>=◌, give, refuse, unless_end, to_end}
+use Rattle.paper.specs.Reader.{if◌then◌else◌, Reader, Out, got, no, ◌>>=◌, give, refuse, unless_end, to_end}
 use Rattle.paper.specs.Ledger.{State, Pair, Ledger, nothing}
 use Rattle.paper.specs.Rules.{after_pair}
 use Rattle.paper.specs.Bounds.{most_bytes}
 use Rattle.paper.specs.File.{pair, pairs, file}
-use Rattle.laws.specs.Laws.{Agree, why, why-then, not-got, Stays, Faithful, Bound, bind_inv, bind-got, bind-why}
+use Rattle.laws.specs.Laws.{Agree, why, not-got, Bound, bind_inv, bind-got, bind-why}
 use Rattle.laws.specs.Faithful.{pair-faithful}
 
 -- at the end of the file, or before it

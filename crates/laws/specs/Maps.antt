@@ -1,18 +1,18 @@
 -- Maps, once over the number of types: a reading is local; what is read is what is written, and back. What is written of an
 -- element and of a size, how that is spelt, and the readers of both, are left open: a file and a line of its listing share each
 -- law. Assumes nothing.
-use Rattle.std.specs.Prelude.{◌≡◌, Bool, true, false, ◌&&◌, length, replicate}
+use Rattle.std.specs.Prelude.{◌≡◌, Bool, true, replicate}
 use Rattle.std.proofs.Math.Path.{refl, sym, ap, subst}
-use Rattle.std.proofs.Common.{◌∙◌, arith}
+use Rattle.std.proofs.Common.{◌∙◌}
 use mathlib.Core.List.{List, [], ◌∷◌, ◌++◌, map, append_assoc, append-nil}
-use Prim.Native.Nat.{ℕ, zero, suc, ◌≤◌, ◌<◌}
+use Prim.Native.Nat.{ℕ, zero, suc}
 use Rattle.paper.specs.Reader.{Reader, ◌>>=◌, give, each, times, repeat}
 use Rattle.paper.specs.Lists.{flat}
-use Rattle.paper.specs.Ledger.{Element, flag, whole, float, link, annotation, keys}
-use Rattle.paper.specs.Maps.{key_and_rest, map_of, size_of, size?, keys_due, opened, at_first, through_maps, all_through}
+use Rattle.paper.specs.Ledger.{Element, keys}
+use Rattle.paper.specs.Maps.{key_and_rest, map_of, size_of, keys_due, opened, at_first, through_maps, all_through}
 use Rattle.laws.specs.Laws.{Faithful, give-faithful, bind-faithful, repeat-faithful}
 use Rattle.laws.specs.Says.{Says, weaker, give-says, bind-says, Run, times-says}
-use Rattle.laws.specs.Bools.{not_so, and_split, and-join}
+use Rattle.laws.specs.Bools.{not_so, and_split}
 
 -- ── local ──
 

@@ -1,18 +1,17 @@
 -- Check, listing and build, as calls: what they promise of each other. Assumes nothing.
-use Rattle.std.specs.Prelude.{◌≡◌, refl, Bool, true, false, ◌↔◌, List, [], ◌∷◌, ℕ, zero, suc, ◌+◌, ◌≤◌, ◌<◌, leb, length}
-use Rattle.std.proofs.Common.{sym, ◌∙◌, ap, subst, arith, le_refl, leb-true, le-leb}
+use Rattle.std.specs.Prelude.{◌≡◌, refl, Bool, true, false, ◌↔◌, List, ℕ, ◌≤◌, leb, length}
+use Rattle.std.proofs.Common.{sym, ◌∙◌, ap, arith, le_refl, leb-true, le-leb}
 use Rattle.std.proofs.Math.Option.{Option, none, some}
-use Rattle.std.proofs.lemmas.Bool.{lt-leb}
 use Rattle.paper.specs.Reader.{if◌then◌else◌, Out, got, no}
 use Rattle.paper.specs.Ledger.{Ledger, nothing}
 use Rattle.paper.specs.File.{file}
 use Rattle.paper.specs.Listing.{print}
 use Rattle.paper.specs.Encode.{encode}
 use Rattle.paper.specs.Spell.{Spells}
-use Rattle.paper.specs.Keeps.{every, in_turn, pair?, keeps?}
+use Rattle.paper.specs.Keeps.{in_turn, pair?, keeps?}
 use Rattle.paper.specs.Calls.{Answer, done, refused, need, found, answered, read, check, fitted, listing, ◌>>=◌, ◌>>◌, build}
 use Rattle.laws.specs.Says.{Bytes}
-use Rattle.laws.specs.Columns.{not_done, bind_done, then-done, need-done, found-done, answered-done}
+use Rattle.laws.specs.Columns.{bind_done, then-done, need-done, found-done, answered-done}
 use Rattle.laws.specs.Exact.{file-kept, file-taken, spells-bytes, encode-fits}
 use Rattle.laws.specs.Shortest.{encode-spells, encode-short}
 use Rattle.laws.specs.Longer.{file-length}

@@ -1,6 +1,6 @@
 -- What the pieces of a ledger are written as, each by itself, in shortest coding: the form that the writer's code is held to. Assumes nothing.
 use Rattle.std.specs.Prelude.{◌≡◌, refl, Bool, true, false, List, [], ◌∷◌, ◌++◌, ℕ, ◌+◌, ◌-◌, ◌^◌, ltb, ℤ, length, take, drop}
-use Rattle.std.proofs.Common.{sym, ap, append_assoc, append-nil}
+use Rattle.std.proofs.Common.{sym, append_assoc, append-nil}
 use Rattle.std.proofs.Math.Option.{Option, none, some}
 use Rattle.paper.specs.Reader.{if◌then◌else◌}
 use Rattle.paper.specs.Numbers.{put, put_fixed, unsigned}

@@ -1,7 +1,7 @@
 -- The values of a field, found again at the places of its chunks. Assumes nothing.
-use Rattle.std.specs.Prelude.{◌≡◌, Bool, ◌&&◌, ◌⊎◌, ℕ, zero, suc, ◌+◌, ◌-◌, ◌*◌, ◌≤◌, ◌<◌, leb, ltb, ℤ}
+use Rattle.std.specs.Prelude.{◌≡◌, Bool, ◌⊎◌, ℕ, zero, suc, ◌+◌, ◌-◌, ◌≤◌, ◌<◌, ℤ}
 use Rattle.std.proofs.Math.Path.{refl}
-use Rattle.std.proofs.Common.{sym, ◌∙◌, ap, subst, inl, inr, zero-add}
+use Rattle.std.proofs.Common.{sym, ◌∙◌, ap, inl, inr}
 use Rattle.std.proofs.Math.Bool.{true, false}
 use mathlib.Core.List.{List, [], ◌∷◌, ◌++◌, append_assoc}
 use native.Mathlib.Omega.{arith}
@@ -15,16 +15,15 @@ use Rattle.paper.specs.Reader.{if◌then◌else◌, Reader, Out, got, no, each, 
 use Rattle.paper.specs.Bounds.{most_pairs}
 use Rattle.paper.specs.Lists.{last_or, fold}
 use Rattle.paper.specs.Ledger.{Kind, Chunk, Pair, Ledger, Due, Field, State, nothing, field_at, no_field}
-use Rattle.paper.specs.Rules.{with_strings, any_type, dues, after_front, closed, after_pair}
-use Rattle.paper.specs.File.{Front, value, chunk, sized, data_region, front, pair, pairs, file}
+use Rattle.paper.specs.Rules.{with_strings, dues, after_front, closed, after_pair}
+use Rattle.paper.specs.File.{value, chunk, sized, data_region, pairs, file}
 use Rattle.paper.specs.Places.{Spot, spots_from, pair_spots, spots_of, spots}
 use Rattle.paper.specs.Calls.{stored_all, values_in, chunk_values, field_values, known}
-use Rattle.laws.specs.Laws.{not-got, First, each-inv, Filled, part-inv}
-use Rattle.laws.specs.Longer.{Begins, unless_end-inv, AtEnd, Before, file-inv}
+use Rattle.laws.specs.Laws.{not-got, each-inv, part-inv}
+use Rattle.laws.specs.Longer.{unless_end-inv, AtEnd, Before, file-inv}
 use Rattle.laws.specs.Says.{span}
 use Rattle.laws.specs.Columns.{Grows, grows-trans, closed-grows, fold-grows, pair-grows}
 use Rattle.laws.specs.Damage.{Parts, parts, Went, went-through, spots-more, spots-end, chunks_of}
-use Rattle.laws.specs.Faithful.{region-end}
 use Rattle.laws.specs.Lengths.{Under, front-under}
 
 -- the values of field i, of kind k, that stand at these places; each chunk was read in a state from which S has grown

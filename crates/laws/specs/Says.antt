@@ -1,10 +1,8 @@
 -- What the bytes that a reader goes through say of the value that it gives. Assumes nothing.
-use Rattle.std.specs.Prelude.{◌≡◌, refl, Bool, true, false, List, [], ◌∷◌, ◌++◌, ℕ, zero, suc, ◌+◌, ◌-◌, ◌*◌, ◌≤◌, ◌<◌, leb, ltb, eqb, length, get_or, take, drop, replicate}
-use Rattle.std.proofs.Common.{sym, ◌∙◌, ap, subst, append_assoc, append-nil, arith, zero-add, length-take, length-drop, take-add, drop-drop, take_all, leb-true, leb-false, le-leb, eqb-true}
+use Rattle.std.specs.Prelude.{◌≡◌, refl, Bool, true, false, List, [], ◌∷◌, ◌++◌, ℕ, zero, suc, ◌+◌, ◌-◌, ◌≤◌, ◌<◌, leb, eqb, length, take, drop, replicate}
+use Rattle.std.proofs.Common.{ap, append-nil, arith, length-take, length-drop, take-add, drop-drop, take_all, leb-true, eqb-true}
 use Rattle.std.proofs.Math.Option.{Option, none, some}
-use Rattle.std.proofs.Math.Nat.{sub-zero, sub_self}
-use Rattle.std.proofs.lemmas.List.{length-replicate}
-use Rattle.std.proofs.lemmas.Bool.{lt-leb}
+use Rattle.std.proofs.Math.Nat.{sub-zero}
 use Rattle.paper.specs.Reader.{if◌then◌else◌, Reader, Out, got, no, and_then, ◌>>=◌, ◌>>◌, give, hold, must, started, within, Rule, ◌or_no◌, bytes, each, times, only, filled, part}
 use Rattle.laws.specs.Laws.{not-got, start-got}
 

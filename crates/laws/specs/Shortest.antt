@@ -1,10 +1,9 @@
 -- What is encoded is one of the files that say the ledger, and none of them is shorter. Assumes nothing.
-use Rattle.std.specs.Prelude.{◌≡◌, refl, List, [], ◌∷◌, ◌++◌, ℕ, zero, suc, ◌+◌, ◌-◌, ◌≤◌, length, take, drop}
+use Rattle.std.specs.Prelude.{◌≡◌, refl, List, [], ◌∷◌, ◌++◌, ℕ, zero, suc, ◌+◌, ◌≤◌, length, take, drop}
 use Rattle.std.proofs.Common.{◌∙◌, ap, arith, le_refl, length-append}
-use Rattle.std.proofs.Math.Option.{none}
 use Rattle.paper.specs.Numbers.{put}
 use Rattle.paper.specs.Lists.{flat}
-use Rattle.paper.specs.Ledger.{whole, New, Entry, Chunk, Pair, Ledger, Due, State, nothing}
+use Rattle.paper.specs.Ledger.{New, Entry, Chunk, Pair, Ledger, Due, State, nothing}
 use Rattle.paper.specs.Rules.{known_due, with_strings, after_entry, dues, after_front, after_pair}
 use Rattle.paper.specs.Pieces.{Piece, num, raw, free, ends_from, zip, string_pieces, head_pieces, kind_pieces, new_pieces, field_pieces, entry_pieces, entries_pieces, chunk_pieces, front_pieces}
 use Rattle.paper.specs.Encode.{write, put_chunk, put_chunks, put_front, put_pair, put_pairs, encode}

@@ -1,12 +1,12 @@
 -- Pieces and their bytes: put together and taken apart; and a reader that takes pieces in whatever way they are spelt. Assumes nothing.
-use Rattle.std.specs.Prelude.{◌≡◌, refl, Bool, true, false, List, [], ◌∷◌, ◌++◌, ℕ, suc, ◌+◌, ◌-◌, ◌≤◌, ◌<◌, length, replicate}
+use Rattle.std.specs.Prelude.{◌≡◌, refl, Bool, true, false, List, [], ◌∷◌, ◌++◌, ℕ, suc, ◌≤◌, ◌<◌, length, replicate}
 use Rattle.std.proofs.Common.{sym, ◌∙◌, ap, subst, append_assoc, append-nil, arith}
 use Rattle.std.proofs.Math.Option.{none, some}
 use Rattle.paper.specs.Reader.{if◌then◌else◌, Reader, ◌>>=◌, give, must, Rule, each, times, repeat, only}
 use Rattle.paper.specs.Numbers.{low_first}
 use Rattle.paper.specs.Lists.{all, flat}
 use Rattle.paper.specs.Pieces.{Piece, num, raw, free, firm}
-use Rattle.paper.specs.Spell.{Coding, last, more, Spelt, done, number, bytes}
+use Rattle.paper.specs.Spell.{Coding, more, Spelt, done, number, bytes}
 use Rattle.laws.specs.Says.{Says, Held}
 use Rattle.laws.specs.Takes.{Takes, takes-as, give-takes, bind-takes, must-takes, only-takes-some, only-takes-none, written, written-flat, All₁}
 use Rattle.laws.specs.Bools.{all_split, map₁}
@@ -73,6 +73,7 @@ free-spelt {n} c k e = spelt-as (free n) (append-nil c) (number c [] k e done)
 
 pub free-is : {n : ℕ} {c : List ℕ} → Spelt (free n) c → Coding 8 c × (low_first c ≡ n)
 free-is {n} (number c [] k e done) = subst (λ (x : List ℕ). Coding 8 x × (low_first x ≡ n)) (sym (append-nil c)) (k, e)
+free-is {n = n} (number c (_ ∷ _) k e x7) = elim x7 [ ]
 
 pub firm-spelt : (bs : List ℕ) → Spelt (firm bs) bs
 firm-spelt bs = spelt-as (firm bs) (append-nil bs) (bytes bs [] done)
@@ -82,6 +83,7 @@ firm-as {bs} q = spelt-as (firm bs) q (firm-spelt bs)
 
 pub firm-is : {bs c : List ℕ} → Spelt (firm bs) c → c ≡ bs
 firm-is (bytes c [] done) = append-nil c
+firm-is {bs = bs} (bytes _ (_ ∷ _) x7) = elim x7 [ ]
 
 -- ── what is spelt is read ──
 

@@ -1,13 +1,10 @@
 -- What is read of a number: bytes of a fixed width are what is written, and a v64 is a coding of it. Assumes nothing.
-use Rattle.std.specs.Prelude.{◌≡◌, refl, Bool, true, false, List, [], ◌∷◌, ◌++◌, ℕ, zero, suc, ◌-◌, ◌*◌, ◌^◌, ◌≤◌, ◌<◌, leb, eqb, length, get_or, take, drop}
-use Rattle.std.proofs.Common.{sym, ◌∙◌, ap, subst, append_assoc, append-nil, arith, mod-eq_of_lt, pow-suc, div-one, add-zero, mul-le-mul_right, mul-le-mul_left, mul_comm, leb-true, leb-false, le-leb, eqb-true}
-use Rattle.std.proofs.Math.Option.{Option, none, some}
+use Rattle.std.specs.Prelude.{◌≡◌, refl, List, [], ◌∷◌, ℕ, zero, suc, ◌*◌, ◌^◌, ◌≤◌, ◌<◌, length}
+use Rattle.std.proofs.Common.{sym, ◌∙◌, ap, append-nil, arith, mod-eq_of_lt, div-one, add-zero, mul-le-mul_right, leb-true, leb-false}
 use Rattle.std.proofs.Math.Nat.{mul-add-div_right, mul-add-mod_self_right, div-eq_of_lt, pow-succ', one-le-pow}
-use Rattle.std.proofs.lemmas.Bool.{lt-leb}
-use Rattle.paper.specs.Reader.{if◌then◌else◌, Reader, Out, got, no, ◌>>=◌, give, ◌or_no◌, bytes}
 use Rattle.paper.specs.Numbers.{high_first, fixed, put_fixed, coding, low_first, v64}
 use Rattle.paper.specs.Pieces.{free}
-use Rattle.paper.specs.Spell.{Coding, ninth, last, more, Spelt}
+use Rattle.paper.specs.Spell.{Coding, ninth, last, Spelt}
 use Rattle.laws.specs.Says.{Bytes, Says, weaker, give-says, bind-says, started-says, if-says, bytes-says}
 use Rattle.laws.specs.Spelling.{more', spelt-as, free-spelt}
 

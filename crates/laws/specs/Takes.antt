@@ -1,11 +1,9 @@
 -- What is written is read: the laws, closed under the ways in which readers are put flat. Assumes nothing.
-use Rattle.std.specs.Prelude.{◌≡◌, refl, Bool, true, false, ◌&&◌, List, [], ◌∷◌, ◌++◌, ℕ, zero, suc, ◌+◌, ◌-◌, ◌*◌, ◌/◌, ◌%◌, ◌^◌, ◌≤◌, ◌<◌, leb, ltb, eqb, length, get_or, take, drop, replicate}
-use Rattle.std.proofs.Common.{sym, ◌∙◌, ap, subst, append_assoc, append-nil, arith, add_assoc, add-zero, length-append, length-take, length-drop, drop-drop, take_at, take_all, leb-true, le-leb, eq-eqb}
-use Rattle.std.proofs.Math.Option.{Option, none, some}
-use Rattle.std.proofs.lemmas.List.{length-replicate}
-use Rattle.std.proofs.Math.Seq.{drop-append_seam, take-append_seam}
-use Rattle.std.proofs.lemmas.Bool.{lt-leb}
-use Rattle.paper.specs.Reader.{if◌then◌else◌, Reader, Out, got, no, and_then, ◌>>=◌, ◌>>◌, give, hold, must, from_start, started, within, Rule, ◌or_no◌, bytes, each, times, only, filled, part}
+use Rattle.std.specs.Prelude.{◌≡◌, refl, Bool, true, false, List, [], ◌∷◌, ◌++◌, ℕ, ◌+◌, ◌≤◌, length, drop, replicate}
+use Rattle.std.proofs.Common.{sym, ◌∙◌, ap, subst, append_assoc, append-nil, arith, length-append, length-drop, drop-drop, take_at, le-leb, eq-eqb}
+use Rattle.std.proofs.Math.Option.{none, some}
+use Rattle.std.proofs.Math.Seq.{drop-append_seam}
+use Rattle.paper.specs.Reader.{if◌then◌else◌, Reader, Out, got, ◌>>=◌, ◌>>◌, give, hold, must, from_start, started, within, Rule, ◌or_no◌, bytes, each, times, only, part}
 use Rattle.laws.specs.Says.{Bytes, Held}
 use Rattle.paper.specs.Lists.{flat}
 

@@ -1,19 +1,19 @@
 -- One after the other up to the end of the file, for files and listings alike. Assumes nothing.
-use Rattle.std.specs.Prelude.{◌≡◌, Bool, true, false, ◌&&◌, ◌⊎◌, leb, take, drop}
+use Rattle.std.specs.Prelude.{◌≡◌, Bool, true, false, ◌⊎◌, leb, take, drop}
 use Rattle.std.proofs.Math.Path.{refl, sym, ap}
 use Rattle.std.proofs.Common.{◌∙◌, subst, inl, inr, take_all}
-use mathlib.Core.List.{List, [], ◌∷◌, ◌++◌, append_assoc, append-nil}
+use mathlib.Core.List.{List, [], ◌∷◌, ◌++◌, append-nil}
 use Prim.Native.Nat.{ℕ, zero, suc, ◌+◌, ◌-◌, ◌≤◌, ◌<◌}
 use native.Mathlib.Omega.{arith}
 use Rattle.std.proofs.Math.Nat.{sub-zero}
 use Rattle.std.proofs.Math.ListN.{length, length-append, length-drop}
-use Rattle.paper.specs.Reader.{if◌then◌else◌, Reader, Out, got, no, ◌>>=◌, give, refuse, unless_end, to_end}
+use Rattle.paper.specs.Reader.{if◌then◌else◌, Reader, got, ◌>>=◌, give, refuse, unless_end, to_end}
 use Rattle.paper.specs.Keeps.{in_turn}
-use Rattle.laws.specs.Laws.{not-got, bind_inv, Bound}
+use Rattle.laws.specs.Laws.{not-got, bind_inv}
 use Rattle.laws.specs.Longer.{unless_end-inv, AtEnd, Before, unless_end-before, unless_end-end}
-use Rattle.laws.specs.Says.{Bytes, Says, Said, weaker, give-says, bind-says}
+use Rattle.laws.specs.Says.{Bytes, Says, Said, give-says, bind-says}
 use Rattle.laws.specs.Takes.{Takes, takes-as, written, after-length, after-drop, bytes-append}
-use Rattle.laws.specs.Bools.{not_so, and_split, and-join}
+use Rattle.laws.specs.Bools.{and_split, and-join}
 use Rattle.laws.specs.Kept.{Kept}
 
 -- a reader that always refuses

@@ -1,29 +1,28 @@
 -- Values: what is read is what is spelt, and keeps the rules; and back. Assumes nothing.
-use Rattle.std.specs.Prelude.{◌≡◌, Bool, ◌||◌, ◌&&◌, not, leb, eqb, ℤ, length, get_or, take, drop, replicate}
+use Rattle.std.specs.Prelude.{◌≡◌, Bool, ◌||◌, not, leb, eqb, ℤ, length, replicate}
 use Rattle.std.proofs.Math.Path.{refl, ap}
-use Rattle.std.proofs.Common.{sym, ◌∙◌, subst, length-append, length-take, length-drop}
+use Rattle.std.proofs.Common.{sym, ◌∙◌, length-take, length-drop}
 use Rattle.std.proofs.Math.Bool.{true, false}
-use mathlib.Core.List.{List, [], ◌∷◌, ◌++◌, append_assoc, append-nil}
-use Rattle.std.proofs.Math.Option.{Option, none, some}
-use Prim.Native.Nat.{ℕ, zero, suc, ◌+◌, ◌-◌, ◌*◌, ◌/◌, ◌%◌, ◌^◌, ◌≤◌, ◌<◌}
+use mathlib.Core.List.{List, [], ◌∷◌, ◌++◌, append-nil}
+use Prim.Native.Nat.{ℕ, zero, suc, ◌-◌, ◌*◌, ◌/◌, ◌^◌, ◌≤◌, ◌<◌}
 use native.Mathlib.Omega.{arith}
 use Rattle.std.proofs.Math.Nat.{pow-succ', one-le-pow}
 use Rattle.std.proofs.Math.Dec.{ltb}
 use Rattle.std.proofs.Math.IntN.{pos, negsuc}
 use Rattle.std.proofs.Math.ListN.{length-replicate}
 use borrow.Author.Tests.{leb-true, leb-false, le-leb, lt-leb, eqb-true, eq-eqb, ltb-true, ltb-false, lt-ltb, le-ltb, not-true}
-use Rattle.paper.specs.Reader.{if◌then◌else◌, Reader, Out, got, no, ◌>>=◌, give, refuse, must, Rule, ◌or_no◌, bytes, each, times, repeat, filled, part}
-use Rattle.paper.specs.Numbers.{signed, unsigned, fixed, put_fixed, v64, number, put}
+use Rattle.paper.specs.Reader.{if◌then◌else◌, Reader, got, ◌>>=◌, give, refuse, Rule, repeat, part}
+use Rattle.paper.specs.Numbers.{signed, unsigned, fixed, put_fixed, v64, number}
 use Rattle.paper.specs.Ledger.{Kind, constant, plain, array, many, mapping, Element, flag, whole, float, link, annotation, keys, Chunk, Due, State, field_at}
 use Rattle.paper.specs.Lists.{all, flat}
-use Rattle.paper.specs.Rules.{small_rules, bool_rules, link_rules, annotation?, annotation_rules}
+use Rattle.paper.specs.Rules.{small_rules, bool_rules, link_rules, annotation_rules}
 use Rattle.paper.specs.Maps.{size_of, size?}
 use Rattle.paper.specs.File.{small, whole_of, two_numbers, element, value, chunk}
 use Rattle.paper.specs.Keeps.{number?, signed?, whole?, element?, sized?, value?, chunk?}
 use Rattle.laws.specs.Laws.{not-got, part-inv}
-use Rattle.laws.specs.Says.{Bytes, span, Says, Said, weaker, give-says, bind-says, must-says, if-says, part_says, times-says, each-says, both_say, Held, Run}
+use Rattle.laws.specs.Says.{Bytes, Says, Said, weaker, give-says, bind-says, must-says, if-says, part_says, times-says, both_say, Run}
 use Rattle.laws.specs.Spelt.{fixed-says, byte-says, v64-says}
-use Rattle.laws.specs.Takes.{Takes, takes-as, part-takes, times-takes, written-flat, All₁}
+use Rattle.laws.specs.Takes.{Takes, takes-as, part-takes, times-takes, written-flat}
 use Rattle.laws.specs.Maps.{stand-alone, map-says, map-before}
 use Rattle.paper.specs.Pieces.{Piece, free, firm, whole_pieces, element_pieces, size_pieces, value_pieces, chunk_pieces}
 use Rattle.paper.specs.Spell.{Spelt}

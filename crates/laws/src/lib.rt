@@ -1,3 +1,5 @@
+#![tactic(auto)]
+
 // Laws of the definitions: this crate has no code of its own.
 #![tactic(auto)]
 

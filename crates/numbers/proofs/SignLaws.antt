@@ -113,7 +113,7 @@ pub record Above (half : ℕ) (z : ℤ) : Type 0 where
 
 module _ (half : ℕ) (most : half ≤ 2 ^ 63) where
   back : (z : ℤ) → mag z < half → to_z w64 (of_z w64 z) ≡ z
-  back z h = to_z-of_z (record { sfits = omega arith })
+  back z h = to_z-of_z {w = w64} (record { sfits = omega arith })
 
   pub is_below : (z : ℤ) → mag z < half → lt_z (to_z w64 (of_z w64 z)) (pos 0) ≡ true → Below half z
   is_below z h t = by_sign z h (rw (back z h) at t)

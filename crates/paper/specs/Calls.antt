@@ -1,35 +1,11 @@
 -- The six calls: what each answers, 15 to 20 included, and what the lent memory holds afterwards. Assumes nothing.
-use Rattle.std.specs.Prelude.{Bool, true, false, ◌&&◌, ◌||◌, not, List, [], ◌∷◌, ◌++◌, map, ℕ, zero, suc, ◌+◌, ◌-◌, ◌*◌, ◌^◌, ◌/◌, ◌%◌, leb, ltb, eqb, ℤ, pos, negsuc, length, get_or, take, drop, replicate}
+use Rattle.std.specs.Prelude.{Bool, true, false, ◌&&◌, List, [], ◌∷◌, ◌++◌, map, ℕ, leb, ltb, eqb, ℤ, pos, length, drop, replicate}
 use Rattle.std.proofs.Math.Option.{Option, none, some}
 use Rattle.paper.specs.Reader.{if◌then◌else◌, Out, got, no}
 use Rattle.paper.specs.Numbers.{signed}
 use Rattle.paper.specs.Bounds.{table_length}
-use Rattle.paper.specs.Lists.{fold, flat}
-use Rattle.paper.specs.Ledger.{
-  Kind,
-  constant,
-  plain,
-  array,
-  many,
-  mapping,
-  Element,
-  flag,
-  whole,
-  float,
-  link,
-  annotation,
-  keys,
-  Chunk,
-  Due,
-  Pair,
-  Ledger,
-  State,
-  nothing,
-  type_named,
-  field_named,
-  field_at,
-  objects_of,
-}
+use Rattle.paper.specs.Lists.{fold}
+use Rattle.paper.specs.Ledger.{Kind, constant, plain, array, many, mapping, Element, flag, whole, float, link, annotation, keys, Chunk, Due, Ledger, State, nothing, type_named, field_named, field_at, objects_of}
 use Rattle.paper.specs.Rules.{with_strings, dues, after_pair}
 use Rattle.paper.specs.File.{file}
 use Rattle.paper.specs.Listing.{print}

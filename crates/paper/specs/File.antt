@@ -1,6 +1,5 @@
 -- The file, read in the paper's order: string block, entries, kinds, data region, pair, file. Assumes nothing.
-use Rattle.std.specs.Prelude.{Bool, true, false, ◌&&◌, ◌||◌, not, List, [], ◌∷◌, ◌++◌, map, ℕ, zero, suc, ◌+◌, ◌-◌, ◌*◌, ◌^◌, leb, ltb, eqb, ℤ, pos, negsuc, length, get_or, take, drop}
-use Rattle.std.proofs.Math.Option.{Option, none, some}
+use Rattle.std.specs.Prelude.{Bool, ◌&&◌, List, [], ◌∷◌, ◌++◌, map, ℕ, ◌-◌, ◌*◌, ◌^◌, leb, ltb, eqb, ℤ, length, take, drop}
 use Rattle.paper.specs.Reader.{
   if◌then◌else◌,
   Reader,

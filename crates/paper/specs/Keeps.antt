@@ -1,5 +1,5 @@
 -- The ledgers that keep the rules: a second account of what is accepted, in which nothing is read. Assumes nothing.
-use Rattle.std.specs.Prelude.{Bool, true, false, ◌&&◌, ◌||◌, not, List, [], ◌∷◌, ◌++◌, map, ℕ, zero, suc, ◌+◌, ◌-◌, ◌*◌, ◌^◌, ◌/◌, leb, ltb, eqb, ℤ, pos, negsuc, length}
+use Rattle.std.specs.Prelude.{Bool, true, false, ◌&&◌, not, List, [], ◌∷◌, ℕ, ◌+◌, ◌-◌, ◌*◌, ◌^◌, ◌/◌, leb, ltb, eqb, ℤ, pos, negsuc, length}
 use Rattle.std.proofs.Math.Option.{Option, none, some}
 use Rattle.paper.specs.Reader.{if◌then◌else◌, Rule, ◌or_no◌}
 use Rattle.paper.specs.Bounds.{most_bytes, most_pairs}

@@ -1,6 +1,6 @@
 -- What a file says, and what is known of it while it is read. Assumes nothing.
-use Rattle.std.specs.Prelude.{Bool, true, false, ◌&&◌, ◌||◌, not, List, [], ◌∷◌, ◌++◌, ℕ, zero, suc, ◌+◌, ◌-◌, ◌*◌, leb, ltb, eqb, ℤ, pos, negsuc, length, get_or}
-use Rattle.std.proofs.Math.Option.{Option, none, some}
+use Rattle.std.specs.Prelude.{Bool, ◌&&◌, not, List, [], ℕ, ◌+◌, ◌-◌, leb, ltb, eqb, ℤ, length, get_or}
+use Rattle.std.proofs.Math.Option.{Option, none}
 use Rattle.paper.specs.Lists.{same, any, place, place_named, places, total, given?}
 
 -- ── the ledger: what a file says, and a listing shows ──

@@ -1,5 +1,5 @@
 -- Questions to lists, in the words that the rules use. Assumes nothing.
-use Rattle.std.specs.Prelude.{Bool, true, false, ◌&&◌, ◌||◌, List, [], ◌∷◌, ◌++◌, ℕ, zero, suc, ◌+◌, eqb}
+use Rattle.std.specs.Prelude.{Bool, true, false, ◌&&◌, ◌||◌, List, [], ◌∷◌, ◌++◌, ℕ, suc, ◌+◌, eqb}
 use Rattle.std.proofs.Math.Option.{Option, none, some}
 use Rattle.paper.specs.Reader.{if◌then◌else◌}
 

@@ -1,5 +1,5 @@
 -- "Numbers": v64, read in every coding and written in the shortest; fixed widths, highest byte first. Assumes nothing.
-use Rattle.std.specs.Prelude.{List, [], ◌∷◌, ◌++◌, ℕ, zero, suc, ◌+◌, ◌-◌, ◌*◌, ◌^◌, ◌/◌, ◌%◌, leb, ltb, ℤ, pos, negsuc, length}
+use Rattle.std.specs.Prelude.{List, [], ◌∷◌, ℕ, zero, suc, ◌+◌, ◌-◌, ◌*◌, ◌^◌, ◌/◌, ◌%◌, leb, ltb, ℤ, pos, negsuc, length}
 use Rattle.paper.specs.Reader.{if◌then◌else◌, Reader, ◌>>=◌, give, must, started, Rule, bytes}
 
 -- ── fixed widths: two's complement, and the bits of floats ──

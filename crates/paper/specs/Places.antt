@@ -1,5 +1,5 @@
 -- Where the chunks stand: their places as they are read, not as they would be written. Assumes nothing.
-use Rattle.std.specs.Prelude.{Bool, true, false, ◌&&◌, List, [], ◌∷◌, ◌++◌, ℕ, zero, suc, ◌+◌, leb, ltb, eqb, length}
+use Rattle.std.specs.Prelude.{Bool, ◌&&◌, List, [], ◌∷◌, ◌++◌, ℕ, zero, suc, ◌+◌, leb, ltb, eqb, length}
 use Rattle.paper.specs.Reader.{if◌then◌else◌, Out, got, no}
 use Rattle.paper.specs.Bounds.{most_pairs}
 use Rattle.paper.specs.Lists.{any, last_or}

@@ -1,6 +1,6 @@
 -- A reading of a file. It is given the whole file and a place in it, and gives a value with the next place, or the number
 -- of a refusal with the place where what broke the rule began. Assumes nothing.
-use Rattle.std.specs.Prelude.{Bool, true, false, List, [], ◌∷◌, ◌++◌, ℕ, zero, suc, ◌+◌, ◌-◌, ◌*◌, leb, ltb, eqb, length, get_or, take, drop, replicate}
+use Rattle.std.specs.Prelude.{Bool, true, false, List, [], ◌∷◌, ℕ, zero, suc, ◌+◌, leb, eqb, length, take, drop, replicate}
 use Rattle.std.proofs.Math.Option.{Option, none, some}
 
 infixr 5 if◌then◌else◌

@@ -1,39 +1,10 @@
 -- The rules, each with its refusal, and how what is known goes on: no bytes are read here. Assumes nothing.
-use Rattle.std.specs.Prelude.{Bool, true, false, ◌&&◌, ◌||◌, not, List, [], ◌∷◌, ◌++◌, map, ℕ, zero, suc, ◌+◌, ◌-◌, ◌*◌, ◌^◌, min, leb, ltb, eqb, ℤ, pos, negsuc, length, get_or, take, drop}
+use Rattle.std.specs.Prelude.{Bool, true, false, ◌&&◌, ◌||◌, not, List, [], ◌∷◌, ◌++◌, map, ℕ, zero, suc, ◌+◌, ◌-◌, min, leb, ltb, eqb, length}
 use Rattle.std.proofs.Math.Option.{Option, none, some}
 use Rattle.paper.specs.Reader.{if◌then◌else◌, Rule, ◌or_no◌}
 use Rattle.paper.specs.Bounds.{most_strings, most_types, most_fields, most_objects}
-use Rattle.paper.specs.Lists.{any, all, fold, flat, given?, or}
-use Rattle.paper.specs.Ledger.{
-  Kind,
-  constant,
-  plain,
-  array,
-  many,
-  mapping,
-  New,
-  Head,
-  Entry,
-  Pair,
-  Typ,
-  Field,
-  Range,
-  Due,
-  State,
-  text,
-  a_string?,
-  type_named,
-  type_in,
-  field_at,
-  fields_of,
-  field_named,
-  of?,
-  here?,
-  objects_of,
-  pool_before,
-  objects_in_all,
-  object?,
-}
+use Rattle.paper.specs.Lists.{any, all, fold, given?, or}
+use Rattle.paper.specs.Ledger.{Kind, constant, plain, array, many, mapping, New, Head, Entry, Pair, Typ, Range, Due, State, text, a_string?, type_named, type_in, field_at, fields_of, field_named, of?, here?, objects_of, pool_before, objects_in_all, object?}
 
 -- a count, local start or length that is held to the bound of objects
 unfoldable pub small_rules : ℕ → List Rule

@@ -1,6 +1,6 @@
 -- A ledger from its listing: the text is read by the same kind of reader, and each rule is tested at its line. Whatever is
 -- wrong is refused by 20, which has no place. Assumes nothing.
-use Rattle.std.specs.Prelude.{Bool, true, false, ◌&&◌, ◌||◌, not, List, [], ◌∷◌, ◌++◌, map, ℕ, zero, suc, ◌+◌, ◌-◌, ◌*◌, ◌^◌, leb, ltb, eqb, ℤ, pos, negsuc, length, get_or, drop}
+use Rattle.std.specs.Prelude.{Bool, true, false, ◌&&◌, List, [], ◌∷◌, map, ℕ, zero, suc, ◌+◌, ◌-◌, ◌*◌, ◌^◌, leb, ltb, eqb, ℤ, pos, negsuc, length, get_or, drop}
 use Rattle.std.proofs.Math.Option.{Option, none, some}
 use Rattle.paper.specs.Reader.{if◌then◌else◌, Reader, Out, got, no, and_then, ◌>>=◌, ◌>>◌, give, each, times, repeat, to_end}
 use Rattle.paper.specs.Bounds.{most_bytes, most_pairs, most_objects}

@@ -1,11 +1,9 @@
 -- The proved table: the paper's codings, and files D and E, as one statement about the definitions. Assumes nothing.
 use Rattle.std.specs.Prelude.{◌≡◌, refl, List, [], ◌∷◌, ◌++◌, ℕ, ◌-◌, ◌^◌, ℤ, pos, negsuc, replicate, length}
-use Rattle.paper.specs.Reader.{Out, got}
+use Rattle.paper.specs.Reader.{got}
 use Rattle.paper.specs.Numbers.{v64, signed, put, unsigned}
-use Rattle.paper.specs.File.{file}
-use Rattle.paper.specs.Encode.{encode}
 use Rattle.paper.specs.Listing.{ascii}
-use Rattle.paper.specs.Calls.{Answer, done, refused, check, objects, count_values, fill_values, listing, build}
+use Rattle.paper.specs.Calls.{done, refused, check, objects, count_values, fill_values, listing, build}
 use Rattle.paper.specs.Whole.{whole}
 
 -- the bytes are read as this number, and the number is written as these bytes

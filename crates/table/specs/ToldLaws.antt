@@ -225,12 +225,12 @@ pub record Counted (tally tally' : ℕ → ℕ → ℕ) (ts : List Typ) (r : Ran
   pub lies : given? (type_in ts r.type).super ≡ false → r.first ≡ tally r.type 1
 
 module _ {tally tally' : ℕ → ℕ → ℕ} {ts : List Typ} {log : List Range} (T : Told tally ts log) (r : Range) (C : Counted tally tally' ts r) where
-  yes : (p : Range → Bool) → p r ≡ true → total p size (log ++ r ∷ []) ≡ total p size log + r.count
+  met-one : (p : Range → Bool) → p r ≡ true → total p size (log ++ r ∷ []) ≡ total p size log + r.count
   unfolding size
-  yes p e = total-more p size log r ∙ ap (λ (k : ℕ). total p size log + k) (one-yes p size r e)
+  met-one p e = total-more p size log r ∙ ap (λ (k : ℕ). total p size log + k) (one-yes p size r e)
 
-  no : (p : Range → Bool) → p r ≡ false → total p size (log ++ r ∷ []) ≡ total p size log
-  no p e = omega (arith, total-more p size log r, one-no p size r e)
+  met-none : (p : Range → Bool) → p r ≡ false → total p size (log ++ r ∷ []) ≡ total p size log
+  met-none p e = omega (arith, total-more p size log r, one-no p size r e)
 
   of-self : of? r.type r ≡ true
   unfolding of?
@@ -259,8 +259,8 @@ module _ {tally tally' : ℕ → ℕ → ℕ} {ts : List Typ} {log : List Range}
   sum_kept : (t : ℕ) → t < 32 → tally' t 1 ≡ total (of? t) size (log ++ r ∷ [])
   sum_kept t lt =
       ⊎_elim
-      (λ (e : t ≡ r.type). let lt' : r.type < 32 = omega arith in rw e (omega (arith, C.sum, T.sums r.type lt', yes (of? r.type) of-self)))
-      (λ (ne : t ≢ r.type). omega (arith, C.others t lt ne 1 (omega arith), T.sums t lt, no (of? t) (of_other t ne)))
+      (λ (e : t ≡ r.type). let lt' : r.type < 32 = omega arith in rw e (omega (arith, C.sum, T.sums r.type lt', met-one (of? r.type) of-self)))
+      (λ (ne : t ≢ r.type). omega (arith, C.others t lt ne 1 (omega arith), T.sums t lt, met-none (of? t) (of_other t ne)))
       (same_or_not t r.type)
 
   latest-kept : (t : ℕ) → t < 32 → all (up_to? t (tally' t 2)) (log ++ r ∷ []) ≡ true
@@ -281,7 +281,7 @@ module _ {tally tally' : ℕ → ℕ → ℕ} {ts : List Typ} {log : List Range}
       C.before
       ∙ T.sums r.type lt
       ∙ sym (total-same (up_to? r.type (tally r.type 2)) (before? r.block r.type) (of? r.type) size (all-before r.type (tally r.type 2) r.block C.later) log (T.latest r.type lt))
-      ∙ sym (no (before? r.block r.type) not_itself)
+      ∙ sym (met-none (before? r.block r.type) not_itself)
 
   before-kept : (t : ℕ) → t < 32 → tally' t 3 ≡ total (before? (tally' t 2 - 1) t) size (log ++ r ∷ [])
   before-kept t lt =
@@ -293,7 +293,7 @@ module _ {tally tally' : ℕ → ℕ → ℕ} {ts : List Typ} {log : List Range}
       C.others t lt ne 3 (omega arith)
       ∙ T.before t lt
       ∙ ap (λ (c : ℕ). total (before? (c - 1) t) size log) (sym (C.others t lt ne 2 (omega arith)))
-      ∙ sym (no (before? (tally' t 2 - 1) t) (not-before (tally' t 2 - 1) t (of_other t ne))))
+      ∙ sym (met-none (before? (tally' t 2 - 1) t) (not-before (tally' t 2 - 1) t (of_other t ne))))
       (same_or_not t r.type)
 
   clear_none : (a : Bool) (b u s : ℕ) → below? ts r.type u ≡ a → a ≡ false → clear? b ts u s r ≡ true

@@ -1,5 +1,6 @@
 use Rattle.std.proofs.Common.{arith, w64}
 use mir.Facts.{to_z_pos}
+use Rattle.paper.specs.Reader.{if◌then◌else◌}
 use Rattle.paper.specs.Calls.{stored}
 use Rattle.numbers.proofs.sign.f32_stored.Goals as goal
 

@@ -3,11 +3,11 @@ use Rattle.numbers.proofs.SignLaws.{Below, Above, is_below, is-above, bits_below
 use Rattle.numbers.proofs.sign.to_bits.Goals as goal
 
 -- what each way learns of z
-below : (c : lts.Then1 reads.Pre reads.Post) → Below c.before.args.half c.before.args.z
-below c = is_below _ c.before.requires.0 _ c.before.requires.1 c.if1.true
+below : (c : goal.Then-z-lt0) → Below c.args.half c.args.z
+below c = is_below _ c.requires.0 _ c.requires.1 c.if-z-lt0.true
 
-above : (c : lts.Else1 reads.Pre reads.Post) → Above c.before.args.half c.before.args.z
-above c = is-above _ c.before.requires.0 _ c.before.requires.1 c.if1.false
+above : (c : goal.Else-z-lt0) → Above c.args.half c.args.z
+above c = is-above _ c.requires.0 _ c.requires.1 c.if-z-lt0.false
 
 pub overflow_sub-down : goal.overflow_sub-down
 overflow_sub-down c = let B = below c in rw B.turned (record { sfits = omega arith })

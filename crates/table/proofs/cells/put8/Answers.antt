@@ -1,5 +1,5 @@
 -- `table::cells::put8` meets its contract. Assumes nothing.
-use Rattle.std.proofs.Common.{◌∷◌}
+use Rattle.std.proofs.Common.{[], ◌∷◌}
 use Rattle.table.specs.RowLaws.{sets-two}
 use Rattle.table.proofs.cells.put8.Goals as goal
 

@@ -6,4 +6,4 @@ pub set_counts-requires : goal.set_counts-requires
 set_counts-requires c = c.clear_tallies.ensures.long
 
 pub returns : goal.returns
-returns c = begun-of c.clear_tallies.ensures.long c.clear_tallies.ensures.zeros c.set_counts.ensures.0
+returns c = begun-of c.clear_tallies.ensures.long c.clear_tallies.ensures.zeros c.set_counts.ensures.recounted

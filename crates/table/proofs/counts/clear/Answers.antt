@@ -9,18 +9,16 @@ pub loop-i-init : goal.loop-i-init
 loop-i-init c = (zero-le, refl, refl)
 
 pub loop-i-preserved : goal.loop-i-preserved
-loop-i-preserved c = let at-loop = c.before in
-    let i = at-loop.loop.i in (
+loop-i-preserved c = let i = c.loop-i.i in (
     omega arith,
-    ap (λ (l : List ℕ). set l i 0) at-loop.loop.invariant.1 ∙ fill_more i 0 at-loop.before.args.work.now (omega arith),
-    length-set at-loop.loop.work i 0 ∙ at-loop.loop.invariant.2,
+    ap (λ (l : List ℕ). set l i 0) c.loop-i.invariant.1 ∙ fill_more i 0 c.args.work.now (omega arith),
+    length-set c.loop-i.work i 0 ∙ c.loop-i.invariant.2,
     )
 
 pub shape_of-work : goal.shape_of-work
 shape_of-work c = c.loop-i.invariant.2
 
 pub returns : goal.returns
-returns c = let at-loop = c.before in
-    let l = at-loop.before.args.work.now in
-    let e : at-loop.loop.i ≡ length l = omega arith in
-    at-loop.loop.invariant.1 ∙ ap (λ (n : ℕ). replicate n 0 ++ drop n l) e ∙ ap (λ (r : List ℕ). replicate (length l) 0 ++ r) (drop-length l) ∙ append-nil (replicate (length l) 0) ∙ noughts-of l at-loop.before.requires
+returns c = let l = c.args.work.now in
+    let e : c.loop-i.i ≡ length l = omega arith in
+    c.loop-i.invariant.1 ∙ ap (λ (n : ℕ). replicate n 0 ++ drop n l) e ∙ ap (λ (r : List ℕ). replicate (length l) 0 ++ r) (drop-length l) ∙ append-nil (replicate (length l) 0) ∙ noughts-of l c.requires

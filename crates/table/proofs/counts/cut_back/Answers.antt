@@ -3,4 +3,4 @@ use Rattle.table.specs.Counts.{cut_of}
 use Rattle.table.proofs.counts.cut_back.Goals as goal
 
 pub returns : goal.returns
-returns c = cut_of c.args.n c.requires.0 c.requires.1 c.set_counts.ensures.0 c.set_counts.ensures.1.0 c.set_counts.ensures.1.1
+returns c = cut_of c.args.n c.requires.ok c.requires.not_above c.set_counts.ensures.recounted c.set_counts.ensures.work_after.0 c.set_counts.ensures.work_after.1

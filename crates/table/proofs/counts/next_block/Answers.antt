@@ -5,4 +5,4 @@ use Rattle.table.specs.declared.rows.Counts.{Counts}
 use Rattle.table.proofs.counts.next_block.Goals as goal
 
 pub returns : goal.returns
-returns c = let l = c.before.before.before.before.before.before.before.before.before.before.args.work.now in next_of c.before.before.before.before.before.before.before.before.before.before.requires.0 (subst (λ (n : Counts). Recounted n (get_or l 6 0 + 1) l c.set_counts.new.0) c.counts-n.ensures c.set_counts.ensures.0) c.set_counts.ensures.1.0 c.set_counts.ensures.1.1
+returns c = let l = c.args.work.now in next_of c.requires.ok (subst (λ (n : Counts). Recounted n (get_or l 6 0 + 1) l c.set_counts.new.work) c.counts-n.ensures c.set_counts.ensures.recounted) c.set_counts.ensures.work_after.0 c.set_counts.ensures.work_after.1

@@ -1,10 +1,11 @@
 -- `table::names::fields_of` meets its contract. Assumes nothing.
-use Rattle.std.proofs.Common.{◌≡◌, ℕ, length, drop, refl, ap, ◌∙◌, inl, inr, zero-le, arith, eq-eqb, ne_eqb}
+use Rattle.std.proofs.Common.{◌≡◌, ℕ, length, drop, refl, ap, ◌∙◌, zero-le, arith, eq-eqb, ne_eqb}
 use Rattle.paper.specs.Lists.{places}
 use Rattle.paper.specs.Ledger.{no_field, owns?}
 use Rattle.table.specs.View.{flds_of}
 use Rattle.table.specs.Loops.{places-here, places-on}
 use Rattle.table.proofs.names.fields_of.Goals as goal
+use Rattle.table.proofs.names.fields_of.Goals.{then-row-t, else-row-t}
 
 pub loop-i-init : goal.loop-i-init
 loop-i-init c = let own = c.stretch_of-own.ensures in (own.forward, zero-le, omega (arith, ap length own.before))
@@ -14,8 +15,8 @@ unfolding owns?
 loop-i-preserved c = let a = c.args in
     let i = c.loop-i.i in
     elim c.if-row-t.branch [
-    | inl w ↦ let on = places-here (owns? a.t) (flds_of a.work.now) i no_field (omega arith) c.field_at-row.ensures.0 refl (eq-eqb _ _ w.0.taken) in (omega arith, omega arith, omega (arith, c.loop-i.invariant.2))
-    | inr w ↦ let on = places-on (owns? a.t) (flds_of a.work.now) i no_field (omega arith) c.field_at-row.ensures.0 refl (ne_eqb _ _ w.0.left) in (omega arith, omega arith, omega (arith, c.loop-i.invariant.2))
+    | then-row-t w ↦ let on = places-here (owns? a.t) (flds_of a.work.now) i no_field (omega arith) c.field_at-row.ensures.result_value refl (eq-eqb _ _ w.if-row-t.true) in (omega arith, omega arith, omega (arith, c.loop-i.invariant.2))
+    | else-row-t w ↦ let on = places-on (owns? a.t) (flds_of a.work.now) i no_field (omega arith) c.field_at-row.ensures.result_value refl (ne_eqb _ _ w.if-row-t.false) in (omega arith, omega arith, omega (arith, c.loop-i.invariant.2))
     ]
 
 pub returns : goal.returns

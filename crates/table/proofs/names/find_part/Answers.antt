@@ -7,13 +7,13 @@ use Rattle.table.specs.NameLaws.{part_of, part-passed, part_none}
 use Rattle.table.proofs.names.find_part.Goals as goal
 
 pub first_long-i-requires : goal.first_long-i-requires
-first_long-i-requires c = (c.requires.0.ok, omega (arith, c.requires.1.1.few, c.requires.0.names-count))
+first_long-i-requires c = record { ok = c.requires.holds.ok; k_bound = omega (arith, c.requires.end_in_bounds.1.few, c.requires.holds.names-count) }
 
 pub returns-then-types-i : goal.returns-then-types-i
-returns-then-types-i c = part_none c.requires.0 c.args.name.start c.args.name.end c.requires.1.0 c.length_of-long.ensures c.first_long-i.ensures c.requires.1.1 (omega (arith, c.types.ensures))
+returns-then-types-i c = part_none c.requires.holds c.args.name.start c.args.name.end c.requires.end_in_bounds.0 c.length_of-long.ensures c.first_long-i.ensures c.requires.end_in_bounds.1 (omega (arith, c.types.ensures))
 
 pub find_from-requires : goal.find_from-requires
-find_from-requires c = let a = c.args in let long = c.length_of-long in (c.requires.0, subst (λ (x : List ℕ). Passed (names_of a.src.now a.work.now) x c.first_long-i.result) (sym (part_of a.name.start a.name.end long.result a.src.now long.ensures c.requires.1.0)) (part-passed c.requires.0 a.name.start a.name.end c.requires.1.0 long.ensures c.first_long-i.ensures c.requires.1.1))
+find_from-requires c = let a = c.args in let long = c.length_of-long in record { holds = c.requires.holds; passed = subst (λ (x : List ℕ). Passed (names_of a.src.now a.work.now) x c.first_long-i.result) (sym (part_of a.name.start a.name.end long.result a.src.now long.ensures c.requires.end_in_bounds.0)) (part-passed c.requires.holds a.name.start a.name.end c.requires.end_in_bounds.0 long.ensures c.first_long-i.ensures c.requires.end_in_bounds.1) }
 
 pub returns : goal.returns
-returns c = let a = c.args in let long = c.length_of-long in subst (λ (x : List ℕ). found c.find_from.result ≡ place (same x) 0 (names_of a.src.now a.work.now)) (part_of a.name.start a.name.end long.result a.src.now long.ensures c.requires.1.0) c.find_from.ensures
+returns c = let a = c.args in let long = c.length_of-long in subst (λ (x : List ℕ). found c.find_from.result ≡ place (same x) 0 (names_of a.src.now a.work.now)) (part_of a.name.start a.name.end long.result a.src.now long.ensures c.requires.end_in_bounds.0) c.find_from.ensures

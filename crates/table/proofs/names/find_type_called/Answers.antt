@@ -3,7 +3,7 @@ use Rattle.table.specs.Memos.{passed_none}
 use Rattle.table.proofs.names.find_type_called.Goals as goal
 
 pub find_from-requires : goal.find_from-requires
-find_from-requires c = (c.requires, passed_none _ _)
+find_from-requires c = record { holds = c.requires; passed = passed_none _ _ }
 
 pub returns : goal.returns
 returns c = c.find_from.ensures

@@ -7,4 +7,4 @@ pub returns-then-there-sum : goal.returns-then-there-sum
 returns-then-there-sum c = c.is_name.ensures
 
 pub returns-else-there-sum : goal.returns-else-there-sum
-returns-else-there-sum c = ne_eqb _ _ c.if-there-sum.false ∙ sym (sums-differ _ _ (λ e. c.if-there-sum.false (c.requires.1.0 ∙ e ∙ sym c.requires.1.1)))
+returns-else-there-sum c = ne_eqb _ _ c.if-there-sum.false ∙ sym (sums-differ _ _ (λ e. c.if-there-sum.false (c.requires.there_value ∙ e ∙ sym c.requires.sum_value)))

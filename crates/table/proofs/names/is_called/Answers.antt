@@ -4,7 +4,7 @@ use Rattle.paper.specs.Ledger.{called?, owns?}
 use Rattle.table.proofs.names.is_called.Goals as goal
 
 pub has_name-requires : goal.has_name-requires
-has_name-requires c = c.requires
+has_name-requires c = record { end_in_bounds = c.requires.end_in_bounds; there_value = c.requires.sum_value; sum_value = c.requires.sum_value_2 }
 
 pub returns-then-row-t : goal.returns-then-row-t
 unfolding called? owns?

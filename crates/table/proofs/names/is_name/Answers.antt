@@ -1,7 +1,8 @@
 -- `table::names::is_name` meets its contract. Assumes nothing.
-use Rattle.std.proofs.Common.{sym, inl, inr, zero-le, arith}
+use Rattle.std.proofs.Common.{sym, zero-le, arith}
 use Rattle.table.specs.NameLaws.{name-length, name-start, differs-on, alike-on, alike_end}
 use Rattle.table.proofs.names.is_name.Goals as goal
+use Rattle.table.proofs.names.is_name.Goals.{then-name-i, else-name-i}
 
 pub returns-then-name-length_of : goal.returns-then-name-length_of
 returns-then-name-length_of c = let a = c.args in sym (name-length a.name.now a.src.now a.start a.end c.requires (λ e. c.if-name-length_of.true (omega arith)))
@@ -10,10 +11,10 @@ pub loop-i-init : goal.loop-i-init
 loop-i-init c = let a = c.args in (zero-le, name-start a.name.now a.src.now a.start a.end c.requires)
 
 pub loop-i-preserved : goal.loop-i-preserved
-loop-i-preserved c = let a = c9.args in
+loop-i-preserved c = let a = c.args in
     elim c.if-name-i.branch [
-    | inl w ↦ (omega arith, differs-on a.name.now a.src.now a.start a.end c9.requires c4.loop.i c4.loop.alike c4.loop.invariant.1 (omega arith) (omega arith) w.0.taken w.1)
-    | inr w ↦ (omega arith, alike-on a.name.now a.src.now a.start a.end c9.requires c4.loop.i c4.loop.alike c4.loop.invariant.1 (omega arith) (omega arith) w.0.left w.1)
+    | then-name-i w ↦ (omega arith, differs-on a.name.now a.src.now a.start a.end c.requires c.loop-i.i c.loop-i.alike c.loop-i.invariant.1 (omega arith) (omega arith) w.if-name-i.true w.alike-is)
+    | else-name-i w ↦ (omega arith, alike-on a.name.now a.src.now a.start a.end c.requires c.loop-i.i c.loop-i.alike c.loop-i.invariant.1 (omega arith) (omega arith) w.if-name-i.false w.alike-is)
     ]
 
 pub returns : goal.returns

@@ -12,7 +12,7 @@ pub loop-i-preserved : goal.loop-i-preserved
 loop-i-preserved c = let name = c.args.name.now in
     let sum = c.loop-i.sum in
     let i = c.loop-i.i in
-    (omega arith, omega (arith, c.wrapping_add_u16-sum.ensures), c.loop-i.invariant.2 ∙ sum-on name sum i (omega arith) ∙ rw (c.wrapping_add_u16-sum.ensures, c.weighed.ensures) refl)
+    (omega arith, omega (arith, c.wrapping_add_u16-sum.ensures), c.loop-i.invariant.2 ∙ sum-on name sum i (omega arith) ∙ rw (c.wrapping_add_u16-sum.ensures.value, c.weighed.ensures) refl)
 
 pub returns : goal.returns
 returns c = sym (c.loop-i.invariant.2 ∙ sum-end c.args.name.now c.loop-i.sum c.loop-i.i (omega arith))

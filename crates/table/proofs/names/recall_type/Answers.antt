@@ -4,25 +4,25 @@ use Rattle.table.specs.NameLaws.{known-passed, type-below, recalled-known, recal
 use Rattle.table.proofs.names.recall_type.Goals as goal
 
 pub returns-then-memo-ge33 : goal.returns-then-memo-ge33
-returns-then-memo-ge33 c = recalled-known c.before.before.before.before.before.requires.0 c.memo_at-memo.ensures c.if-memo-ge33.true
+returns-then-memo-ge33 c = recalled-known c.requires.holds c.memo_at-memo.ensures c.if-memo-ge33.true
 
 pub returns-then-memo-n : goal.returns-then-memo-n
-returns-then-memo-n c = recalled-none c.before.before.before.before.before.before.before.before.requires.0 c.slice_known-1.ensures (omega (arith, c.memo_at-memo.false)) (c.if-memo-n.true ∙ c.types-n.ensures)
+returns-then-memo-n c = recalled-none c.requires.holds c.memo_at-memo.ensures (omega (arith, c.if-memo-ge33.false)) (c.if-memo-n.true ∙ c.types-n.ensures)
 
 pub find_part-requires : goal.find_part-requires
-find_part-requires c = (start.requires.0, (c.if-memo-n.ensures.within _ start.requires.0, known-passed start.requires.0 c..ensures (omega (arith, c.shared_slice_known-1.false)) c.if-memo-n.ensures))
+find_part-requires c = record { holds = c.requires.holds; end_in_bounds = (c.string_at-name.ensures.within _ c.requires.holds, known-passed c.requires.holds c.memo_at-memo.ensures (omega (arith, c.if-memo-ge33.false)) c.string_at-name.ensures) }
 
 pub returns-in_default : goal.returns-in_default
-returns-in_default c = recalled-nothing c.before.before.before.before.before.before.before.before.before.before.before.before.before.before.before.before.before.before.requires.0 c.if-memo-n.ensures _ c.find_part.ensures c.in_default.is c.memo_at-memo.ensures c.note.ensures
+returns-in_default c = recalled-nothing c.requires.holds c.string_at-name.ensures _ c.find_part.ensures c.in_default.is c.types-n.ensures c.note.ensures
 
 pub overflow_add-t : goal.overflow_add-t
-overflow_add-t c = omega (arith, type-below c.before.before.before.before.before.before.before.before.before.before.before.before.before.before.before.before.requires.0 c.if-memo-n.ensures _ c.find_part.ensures c.in-At.is)
+overflow_add-t c = omega (arith, type-below c.requires.holds c.string_at-name.ensures _ c.find_part.ensures c.in-At.is)
 
 pub note-requires-2 : goal.note-requires-2
-note-requires-2 c = (start.requires.0.ok, (start.requires.1, omega (arith, type-below start.requires.0 c.if-memo-n.ensures _ c.find_part.ensures c.in-At.is)))
+note-requires-2 c = record { ok = c.requires.holds.ok; i_bound = (c.requires.i_bound, omega (arith, type-below c.requires.holds c.string_at-name.ensures _ c.find_part.ensures c.in-At.is)) }
 
 pub overflow_add-result : goal.overflow_add-result
-overflow_add-result c = omega (arith, type-below c.before.before.before.before.before.before.before.before.before.before.before.before.before.before.before.before.before.before.before.requires.0 c.if-memo-n.ensures _ c.find_part.ensures c.in-At.is)
+overflow_add-result c = omega (arith, type-below c.requires.holds c.string_at-name.ensures _ c.find_part.ensures c.in-At.is)
 
 pub returns : goal.returns
-returns c = recalled-at c.before.before.before.before.before.before.before.before.before.before.before.before.before.before.before.before.before.before.before.requires.0 c.if-memo-n.ensures _ c.find_part.ensures c.in-At.is c.note-2.ensures
+returns c = recalled-at c.requires.holds c.string_at-name.ensures _ c.find_part.ensures c.in-At.is c.note-2.ensures

@@ -5,10 +5,10 @@ use Rattle.table.specs.NameLaws.{part_of}
 use Rattle.table.proofs.names.string_sum.Goals as goal
 
 pub slice_bounds-name_sum-end : goal.slice_bounds-name_sum-end
-slice_bounds-name_sum-end c = omega (arith, c.string_at-name.ensures.within c.args.src.now c.requires.0)
+slice_bounds-name_sum-end c = omega (arith, c.string_at-name.ensures.within c.args.src.now c.requires.holds)
 
 pub returns : goal.returns
 returns c = let src = c.args.src.now in
     let span = c.string_at-name in
     c.name_sum.ensures
-    ∙ ap sum_of (part_of span.result.start span.result.end c.length_of.result src c.length_of.ensures (span.ensures.within src c.requires.0) ∙ sym (span.ensures.is src))
+    ∙ ap sum_of (part_of span.result.start span.result.end c.length_of.result src c.length_of.ensures (span.ensures.within src c.requires.holds) ∙ sym (span.ensures.is src))

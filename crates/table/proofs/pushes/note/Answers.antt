@@ -4,4 +4,4 @@ use Rattle.table.specs.Notes.{note-taken}
 use Rattle.table.proofs.pushes.note.Goals as goal
 
 pub returns : goal.returns
-returns c = note-taken _ _ c.requires.0 c.requires.1.0 refl
+returns c = note-taken _ _ c.requires.ok c.requires.i_bound.0 refl

@@ -1,5 +1,5 @@
 -- `table::pushes::put_field` meets its contract. Assumes nothing.
-use Rattle.std.proofs.Common.{◌∷◌, take}
+use Rattle.std.proofs.Common.{[], ◌∷◌, take}
 use Rattle.table.specs.RowLaws.{sets-two}
 use Rattle.table.specs.Packed.{field_cells}
 use Rattle.table.proofs.pushes.put_field.Goals as goal

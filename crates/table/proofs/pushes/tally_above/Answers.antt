@@ -10,13 +10,13 @@ pub returns-then-up-gt32 : goal.returns-then-up-gt32
 returns-then-up-gt32 c = above-none c.args.up c.args.b c.args.end c.args.work.now (λ p q. omega (arith, c.if-up-gt32.true))
 
 pub returns-then-c-b : goal.returns-then-c-b
-returns-then-c-b c = above-later c.args.up c.args.b c.args.end c.args.work.now c.requires.0 (omega (arith, c.if-up-eq0.false)) (omega (arith, c.if-up-gt32.false)) c.if-c-b.true c.put2.ensures
+returns-then-c-b c = above-later c.args.up c.args.b c.args.end c.args.work.now c.requires.work_len (omega (arith, c.if-up-eq0.false)) (omega (arith, c.if-up-gt32.false)) c.if-c-b.true c.put2.ensures
 
 pub returns-then-c-b-2 : goal.returns-then-c-b-2
-returns-then-c-b-2 c = above_kept c.args.up c.args.b c.args.end c.args.work.now c.requires.0 (omega (arith, c.if-up-eq0.false)) (omega (arith, c.if-up-gt32.false)) (omega (arith, c.if-c-b.false)) (λ e. absurd (c.if-c-b-2.true (sym e)))
+returns-then-c-b-2 c = above_kept c.args.up c.args.b c.args.end c.args.work.now c.requires.work_len (omega (arith, c.if-up-eq0.false)) (omega (arith, c.if-up-gt32.false)) (omega (arith, c.if-c-b.false)) (λ e. absurd (c.if-c-b-2.true (sym e)))
 
 pub returns-then-end-work : goal.returns-then-end-work
-returns-then-end-work c = above_kept c.args.up c.args.b c.args.end c.args.work.now c.requires.0 (omega (arith, c.if-up-eq0.false)) (omega (arith, c.if-up-gt32.false)) (omega (arith, c.if-c-b.false)) (λ e. omega (arith, c.if-end-work.true))
+returns-then-end-work c = above_kept c.args.up c.args.b c.args.end c.args.work.now c.requires.work_len (omega (arith, c.if-up-eq0.false)) (omega (arith, c.if-up-gt32.false)) (omega (arith, c.if-c-b.false)) (λ e. omega (arith, c.if-end-work.true))
 
 pub returns : goal.returns
-returns c = above-end c.args.up c.args.b c.args.end c.args.work.now c.requires.0 (omega (arith, c.if-up-eq0.false)) (omega (arith, c.if-up-gt32.false)) (sym c.if-c-b-2.false) (omega (arith, c.if-end-work.false))
+returns c = above-end c.args.up c.args.b c.args.end c.args.work.now c.requires.work_len (omega (arith, c.if-up-eq0.false)) (omega (arith, c.if-up-gt32.false)) (sym c.if-c-b-2.false) (omega (arith, c.if-end-work.false))

@@ -10,10 +10,10 @@ pub loop-i-init : goal.loop-i-init
 loop-i-init c = (zero-le, refl)
 
 pub returns-then-asked : goal.returns-then-asked
-returns-then-asked c = sym (c.loop-i.invariant.1 ∙ any_here (asks (types_of c.args.work.now) c.args.q) (log_of c.args.work.now) c.loop-i.i no_range (omega arith) c.range_at-r.ensures.0 c.asked.ensures c.if-asked.true)
+returns-then-asked c = sym (c.loop-i.invariant.1 ∙ any_here (asks (types_of c.args.work.now) c.args.q) (log_of c.args.work.now) c.loop-i.i no_range (omega arith) c.range_at-r.ensures.result_value c.asked.ensures c.if-asked.true)
 
 pub loop-i-preserved : goal.loop-i-preserved
-loop-i-preserved c = (omega arith, c.loop-i.invariant.1 ∙ any-on (asks (types_of c.args.work.now) c.args.q) (log_of c.args.work.now) c.loop-i.i no_range (omega arith) c.range_at-r.ensures.0 c.asked.ensures c.if-asked.false)
+loop-i-preserved c = (omega arith, c.loop-i.invariant.1 ∙ any-on (asks (types_of c.args.work.now) c.args.q) (log_of c.args.work.now) c.loop-i.i no_range (omega arith) c.range_at-r.ensures.result_value c.asked.ensures c.if-asked.false)
 
 pub returns : goal.returns
 returns c = sym (c.loop-i.invariant.1 ∙ any-end (asks (types_of c.args.work.now) c.args.q) (log_of c.args.work.now) c.loop-i.i (omega arith))

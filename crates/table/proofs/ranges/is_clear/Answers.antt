@@ -8,12 +8,12 @@ use Rattle.table.proofs.ranges.is_clear.Goals as goal
 
 pub returns-then-r-b : goal.returns-then-r-b
 unfolding clear? here?
-returns-then-r-b c = simp (ne_eqb _ _ c.if-r-b.taken)
+returns-then-r-b c = simp (ne_eqb _ _ c.if-r-b.true)
 
 pub returns-then-super_of-up : goal.returns-then-super_of-up
 unfolding clear? here?
-returns-then-super_of-up c = simp (eq-eqb _ _ c.if-r-b.left, not-below (types_of c.args.work.now) c.args.r.typ (c.args.up - 1) {s = c.super_of.result} c.super_of.ensures (λ e. c.if-super_of-up.taken (omega arith)))
+returns-then-super_of-up c = simp (eq-eqb _ _ c.if-r-b.false, not-below (types_of c.args.work.now) c.args.r.typ (c.args.up - 1) {s = c.super_of.result} c.super_of.ensures (λ e. c.if-super_of-up.true (omega arith)))
 
 pub returns : goal.returns
 unfolding clear? here?
-returns c = simp (eq-eqb _ _ c.if-r-b.left, is_below (types_of c.args.work.now) c.args.r.typ (c.args.up - 1) {s = c.super_of.result} c.super_of.ensures (omega (arith, c.if-super_of-up.left)))
+returns c = simp (eq-eqb _ _ c.if-r-b.false, is_below (types_of c.args.work.now) c.args.r.typ (c.args.up - 1) {s = c.super_of.result} c.super_of.ensures (omega (arith, c.if-super_of-up.false)))

@@ -6,8 +6,8 @@ use Rattle.table.proofs.ranges.is_entry.Goals as goal
 
 pub returns-then-r-b : goal.returns-then-r-b
 unfolding entry_of? here? of?
-returns-then-r-b c = simp (eq-eqb _ _ c.if-r-b.taken)
+returns-then-r-b c = simp (eq-eqb _ _ c.if-r-b.true)
 
 pub returns-else-r-b : goal.returns-else-r-b
 unfolding entry_of? here? of?
-returns-else-r-b c = simp (ne_eqb _ _ c.if-r-b.left)
+returns-else-r-b c = simp (ne_eqb _ _ c.if-r-b.false)

@@ -6,12 +6,12 @@ use Rattle.table.proofs.ranges.is_holding.Goals as goal
 
 pub returns-then-r-t : goal.returns-then-r-t
 unfolding holds? of?
-returns-then-r-t c = simp (ne_eqb _ _ c.if-r-t.taken)
+returns-then-r-t c = simp (ne_eqb _ _ c.if-r-t.true)
 
 pub returns-then-n-first : goal.returns-then-n-first
 unfolding holds? of?
-returns-then-n-first c = simp (eq-eqb _ _ c.if-r-t.left, lt-leb _ _ c.if-n-first.taken)
+returns-then-n-first c = simp (eq-eqb _ _ c.if-r-t.false, lt-leb _ _ c.if-n-first.true)
 
 pub returns : goal.returns
 unfolding holds? of?
-returns c = simp (eq-eqb _ _ c.if-r-t.left, le-leb _ _ c.if-n-first.left)
+returns c = simp (eq-eqb _ _ c.if-r-t.false, le-leb _ _ c.if-n-first.false)

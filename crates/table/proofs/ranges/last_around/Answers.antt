@@ -11,10 +11,10 @@ pub returns-then-u-ge32 : goal.returns-then-u-ge32
 returns-then-u-ge32 c = λ e. absurd (false≢true e)
 
 pub tally_at-i-requires : goal.tally_at-i-requires
-tally_at-i-requires c = (c., (omega arith, omega arith))
+tally_at-i-requires c = record { ok = c.requires; t_bound = (omega arith, omega arith) }
 
 pub returns-then-ranges-i : goal.returns-then-ranges-i
 returns-then-ranges-i c = λ e. absurd (false≢true e)
 
 pub returns : goal.returns
-returns c = λ e. any_at (around? c.args.b c.args.u c.args.start c.args.n) (log_of c.args.work.now) c.tally_at-i.result no_range (omega (arith, c..log-count, c.ranges.ensures, c.if-ranges-i.left)) c.range_at-r.ensures.0 (sym c.is_around.ensures ∙ e)
+returns c = λ e. any_at (around? c.args.b c.args.u c.args.start c.args.n) (log_of c.args.work.now) c.tally_at-i.result no_range (omega (arith, c.requires.log-count, c.ranges-2.ensures, c.if-ranges-i.false)) c.range_at-r.ensures.result_value (sym c.is_around.ensures ∙ e)

@@ -7,4 +7,4 @@ pub returns-then-work-ne1 : goal.returns-then-work-ne1
 returns-then-work-ne1 c = λ e. absurd (false≢true e)
 
 pub returns : goal.returns
-returns c = λ e. (c.if-work-ne1.left, ltb-true _ _ e)
+returns c = λ e. (c.if-work-ne1.false, ltb-true _ _ e)

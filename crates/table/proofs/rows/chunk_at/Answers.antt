@@ -4,4 +4,4 @@ use Rattle.table.specs.RowReads.{chunk_row}
 use Rattle.table.proofs.rows.chunk_at.Goals as goal
 
 pub returns : goal.returns
-returns c = (chunk_row _ _ (omega arith), record { field_fits = omega arith; start_fits = omega (arith, c.shared_slice_known-1.given (7856 + 2 * c.args.i)) })
+returns c = record { result_value = chunk_row _ _ (omega arith); near = record { field_fits = omega arith; start_fits = omega (arith, c.shared_slice_known-1.given (7856 + 2 * c.args.i)) } }

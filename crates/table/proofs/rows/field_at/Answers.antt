@@ -4,4 +4,4 @@ use Rattle.table.specs.RowReads.{field_row, title-stands}
 use Rattle.table.proofs.rows.field_at.Goals as goal
 
 pub returns : goal.returns
-returns c = (field_row _ _ (omega arith) c.wide_at-a.ensures c.wide_at-e.ensures, title-stands _ _ (omega arith))
+returns c = record { result_value = field_row _ _ (omega arith) c.wide_at-a.ensures c.wide_at-e.ensures; named = title-stands _ _ (omega arith) }

@@ -7,4 +7,4 @@ pub returns-then-work-ne1 : goal.returns-then-work-ne1
 returns-then-work-ne1 c = nothing-noted _ _
 
 pub returns : goal.returns
-returns c = string-noted _ _ c.requires.1 c.if-work-ne1.false refl
+returns c = string-noted _ _ c.requires.i_bound c.if-work-ne1.false refl

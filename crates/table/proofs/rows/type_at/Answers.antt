@@ -4,4 +4,4 @@ use Rattle.table.specs.RowReads.{type_row, name-stands}
 use Rattle.table.proofs.rows.type_at.Goals as goal
 
 pub returns : goal.returns
-returns c = (type_row _ _ (omega arith), name-stands _ _ (omega arith))
+returns c = record { result_value = type_row _ _ (omega arith); named = name-stands _ _ (omega arith) }

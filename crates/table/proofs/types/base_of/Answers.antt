@@ -9,4 +9,4 @@ returns-then-types-t c = no-base _ _ (omega arith)
 
 pub returns : goal.returns
 unfolding type_in
-returns c = ap (λ (x : Typ). x.base) c.type_at-row.ensures.0
+returns c = ap (λ (x : Typ). x.base) c.type_at-row.ensures.result_value

@@ -9,4 +9,4 @@ returns-then-types-t c = no-super _ _ (omega arith)
 
 pub returns : goal.returns
 unfolding type_in
-returns c = ap (λ (x : Typ). x.super) c.type_at-row.ensures.0
+returns c = ap (λ (x : Typ). x.super) c.type_at-row.ensures.result_value

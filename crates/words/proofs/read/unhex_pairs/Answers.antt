@@ -1,6 +1,7 @@
-use Rattle.std.proofs.Common.{arith, ⊎_elim, eqb-true}
+use Rattle.std.proofs.Common.{arith, eqb-true}
 use Rattle.words.specs.Pairs.{unpaired-none, unpaired-on, unpaired-other, unpaired-all, values-small, two}
 use Rattle.words.proofs.read.unhex_pairs.Goals as goal
+use Rattle.words.proofs.read.unhex_pairs.Goals.{then-pair-written, else-pair-written}
 
 pub loop-i-init : goal.loop-i-init
 loop-i-init c = unpaired-none _ _ c.requires.1
@@ -21,10 +22,10 @@ pub bounds-bytes-i : goal.bounds-bytes-i
 bounds-bytes-i c = omega (arith, c.loop-i.invariant.long)
 
 pub loop-i-preserved : goal.loop-i-preserved
-loop-i-preserved c = ⊎_elim
-    (λ w. rw w.1 (unpaired-other c.loop-i.invariant c.loop-i-test.true _))
-    (λ w. rw w.1 (unpaired-on c.loop-i.invariant c.loop-i-test.true (two _ c.values_of-values.ensures c.written.ensures w.0.left)))
-    c.if-pair-written.branch
+loop-i-preserved c = elim c.if-pair-written.branch [
+    | then-pair-written w ↦ rw w.others-is (unpaired-other c.loop-i.invariant c.loop-i-test.true _)
+    | else-pair-written w ↦ rw w.others-is (unpaired-on c.loop-i.invariant c.loop-i-test.true (two _ c.values_of-values.ensures c.written.ensures w.if-pair-written.false))
+    ]
 
 pub shape_of-bytes : goal.shape_of-bytes
 shape_of-bytes c = omega (arith, c.loop-i.invariant.long, c.requires.1)

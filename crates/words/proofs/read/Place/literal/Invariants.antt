@@ -3,8 +3,8 @@ use Rattle.paper.specs.Scan.{literal}
 use Rattle.words.proofs.read.Place.literal.Given as goal
 
 pub record Left (t w : List ℕ) (at p i : ℕ) : Type 0 where
-  within : i ≤ length w
-  same : literal (drop i w) t p ≡ literal w t at
+  pub within : i ≤ length w
+  pub same : literal (drop i w) t p ≡ literal w t at
 
 abbrev pub invariant-loop-i : goal.invariant-loop-i
 invariant-loop-i l = Left l.t l.w l.initial.p l.p l.i
