@@ -1,5 +1,3 @@
-#![tactic(auto)]
-
 // Laws of the definitions: this crate has no code of its own.
 #![tactic(auto)]
 

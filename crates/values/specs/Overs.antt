@@ -48,10 +48,10 @@ module _ {n : ℕ} {f : List ℕ} {from count at left : ℕ} (L : Looking n f fr
 -- ── those that are left to read are fewer by as many ──
 
 pub running-over :
-    {f : List ℕ} {m from rest at k e : ℕ} → Running v64 f m from rest at → Over f k at e → k ≤ rest → Running v64 f m from (rest - k) e
+    {f : List ℕ} {m from at rest k e : ℕ} → Running v64 f m from rest at → Over f k at e → k ≤ rest → Running v64 f m from (rest - k) e
 unfolding forget
 running-over {rest = rest} R here h = let same : rest - 0 ≡ rest = omega arith in rw same R
-running-over {f} {m} {from} {rest} {at} R (past {k} {e = e} one others) h =
+running-over {f} {m} {from} {at} {rest} R (past {k} {e = e} one others) h =
     let less : rest - suc k ≡ rest - 1 - k = omega arith in
     rw less (running-over (running-on R (omega arith) e (ended (v64 f at) one.says) (λ i. one.inside)) others (omega arith))
   where

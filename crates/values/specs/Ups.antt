@@ -56,10 +56,10 @@ unfolding forget linked at_most number must
 keeps most f at {x} says low = rw (says, le-leb x most low) refl
 
 pub running-up :
-    {f : List ℕ} {m from rest at most k e : ℕ} → Running (linked (at_most most)) f m from rest at → Up f most k at e → k ≤ rest
+    {f : List ℕ} {m from most at rest k e : ℕ} → Running (linked (at_most most)) f m from rest at → Up f most k at e → k ≤ rest
     → Running (linked (at_most most)) f m from (rest - k) e
 running-up {rest = rest} R here h = let same : rest - 0 ≡ rest = omega arith in rw same R
-running-up {f} {rest = rest} {at} {most} R (past {k} {e = e} says low inside others) h =
+running-up {f} {most = most} {at = at} {rest = rest} R (past {k} {e = e} says low inside others) h =
     let less : rest - suc k ≡ rest - 1 - k = omega arith in
     rw less (running-up (running-on R (omega arith) e (keeps most f at says low) (λ i. inside)) others (omega arith))
 

@@ -1,0 +1,13 @@
+-- `values::chunks::bool_lists` meets its contract. Assumes nothing.
+use Rattle.paper.specs.Reader.{must}
+use Rattle.paper.specs.Numbers.{fixed}
+use Rattle.paper.specs.Rules.{bool_rules}
+use Rattle.values.specs.Chunks.{counted}
+use Rattle.values.specs.Pass.{Running}
+use Rattle.values.proofs.chunks.bool_lists.Given as goal
+
+abbrev pub invariant-loop-rest : goal.invariant-loop-rest
+invariant-loop-rest l = Running (counted (must (fixed 1) bool_rules)) l.part l.n 0 l.rest l.here.at
+
+abbrev pub decreases-loop-rest : goal.decreases-loop-rest
+decreases-loop-rest l = l.rest

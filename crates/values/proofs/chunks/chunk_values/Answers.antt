@@ -1,0 +1,27 @@
+use Rattle.std.proofs.Common.{mul-le-mul_left, arith}
+use Rattle.values.specs.Chunks.{chunk-array, chunk-plain, chunk-lists}
+use Rattle.values.proofs.chunks.chunk_values.Goals as goal
+
+pub overflow_mul-all : goal.overflow_mul-all
+overflow_mul-all c = omega (arith, mul-le-mul_left c.args.n (c.requires.0.length c.in-15.is))
+
+pub elements-requires : goal.elements-requires
+elements-requires c = ((c.requires.0.element c.requires.1 c.requires.2), omega arith, c.requires.3)
+
+pub lists_of-requires : goal.lists_of-requires
+lists_of-requires c = ((c.requires.0.element c.requires.1 c.requires.2), c.requires.3)
+
+pub elements-requires-in_default : goal.elements-requires-in_default
+elements-requires-in_default c = ((c.requires.0.element c.requires.1 c.requires.2), omega arith, c.requires.3)
+
+pub returns-in-15 : goal.returns-in-15
+returns-in-15 c = chunk-array (c.requires.0.element c.requires.1 c.requires.2) c.in-15.is c.elements.ensures
+
+pub returns-in-17-to-19 : goal.returns-in-17-to-19
+returns-in-17-to-19 c = chunk-lists (c.requires.0.element c.requires.1 c.requires.2) (omega arith) (omega arith) c.lists_of.ensures
+
+pub returns-in_default : goal.returns-in_default
+returns-in_default c = chunk-plain (c.requires.0.element c.requires.1 c.requires.2) c.requires.1 c.in_default-1.rest.1 (λ h. elim c.in_default.branch [
+    | inl w ↦ omega arith
+    | inr w ↦ w.1.left
+    ]) c.requires.2 c.elements-in_default.ensures

@@ -1,0 +1,11 @@
+-- `values::chunks::fixed_lists` meets its contract. Assumes nothing.
+use Rattle.paper.specs.Numbers.{fixed}
+use Rattle.values.specs.Chunks.{counted}
+use Rattle.values.specs.Pass.{Running}
+use Rattle.values.proofs.chunks.fixed_lists.Given as goal
+
+abbrev pub invariant-loop-rest : goal.invariant-loop-rest
+invariant-loop-rest l = Running (counted (fixed l.width)) l.part l.n 0 l.rest l.here.at
+
+abbrev pub decreases-loop-rest : goal.decreases-loop-rest
+decreases-loop-rest l = l.rest

@@ -1,0 +1,26 @@
+use Rattle.std.proofs.Common.{refl}
+use Rattle.paper.specs.Reader.{must}
+use Rattle.paper.specs.Numbers.{fixed}
+use Rattle.paper.specs.Rules.{bool_rules}
+use Rattle.values.specs.Pass.{running-start, running-next, running-no, running-done}
+use Rattle.values.specs.Held.{bool-cut, bool_false, bool-true, bool-wrong}
+use Rattle.values.proofs.runs.bools_in_turn.Goals as goal
+use Rattle.values.proofs.runs.bools_in_turn.Goals.{then-b-ne0, else-b-ne0}
+
+pub loop-rest-init : goal.loop-rest-init
+loop-rest-init c = running-start (must (fixed 1) bool_rules) _ _ _
+
+pub returns-in_default : goal.returns-in_default
+returns-in_default c = running-no c.loop-rest.invariant c.loop-rest-test.true (bool-cut c.be1-a.ensures c.in_default.is) c.in_default.is
+
+pub returns-then-b-ne255 : goal.returns-then-b-ne255
+returns-then-b-ne255 c = running-no c.loop-rest.invariant c.loop-rest-test.true (bool-wrong c.be1-a.ensures c.in-Got.is c.if-b-ne0.true c.if-b-ne255.true) refl
+
+pub loop-rest-preserved : goal.loop-rest-preserved
+loop-rest-preserved c = running-next c.loop-rest.invariant c.loop-rest-test.true (elim c.if-b-ne0.branch [
+    | then-b-ne0 w ↦ bool-true c.be1-a.ensures c.in-Got.is w.1.left
+    | else-b-ne0 w ↦ bool_false c.be1-a.ensures c.in-Got.is w.left
+    ]) refl
+
+pub returns : goal.returns
+returns c = running-done c.loop-rest.invariant 0 c.loop-rest-test.false
