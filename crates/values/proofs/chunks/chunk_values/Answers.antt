@@ -23,6 +23,6 @@ returns-in-17-to-19 c = chunk-lists (c.requires.0.element c.requires.1 c.require
 
 pub returns-in_default : goal.returns-in_default
 returns-in_default c = chunk-plain (c.requires.0.element c.requires.1 c.requires.2) c.requires.1 (λ q. omega arith) (λ h. elim c.in_default.branch [
-    | in_default-via-then-k-lt17 w ↦ omega arith
-    | in_default-via-else-k-lt17+else-k-lt20 w ↦ omega arith
-    ]) c.requires.2 c.elements-in_default.ensures
+  | in_default-via-then-k-lt17 w ↦ omega arith
+  | in_default-via-else-k-lt17+else-k-lt20 w ↦ omega arith
+]) c.requires.2 c.elements-in_default.ensures

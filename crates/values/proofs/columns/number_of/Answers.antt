@@ -27,8 +27,8 @@ returns-in-6-to-7 c = let is = bare-byte c.args.k (omega arith) (omega arith) in
 pub returns-in_default : goal.returns-in_default
 returns-in_default c = let low = listed-low c.args.k c.requires in
     let h : 8 ≤ c.args.k = elim c.in_default.branch [
-    | in_default-via-then-k-lt6 w ↦ absurd (omega arith)
-    | in_default-via-else-k-lt6+else-k-lt8 w ↦ omega arith
+      | in_default-via-then-k-lt6 w ↦ absurd (omega arith)
+      | in_default-via-else-k-lt6+else-k-lt8 w ↦ omega arith
     ] in
     let l : 13 < c.args.k = search (rules, links-only c.args.k h) in
     rw (bare-link c.args.k l, bound-link c.args.k l) c.number_up_to.ensures

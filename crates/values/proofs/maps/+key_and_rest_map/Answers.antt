@@ -28,10 +28,10 @@ pub key_and_rest-element-requires : goal.key_and_rest-element-requires
 key_and_rest-element-requires t c = (last-kind c.args.kinds.now c.requires.in_bounds.0 c.requires.in_bounds.1, passed-inside c.element-a.ensures c.in-Got.is c.requires.at_in_bounds.0, c.requires.at_in_bounds.1)
 
 pub key_and_rest-returns-then-kinds-eq2 : goal.key_and_rest-returns-then-kinds-eq2
-key_and_rest-returns-then-kinds-eq2 t c = way-last _ _ _ _ _ _ c.requires.in_bounds.0 c.element-a.ensures c.in-Got.is c.if-kinds-eq2.true c.element.ensures
+key_and_rest-returns-then-kinds-eq2 t c = way-last _ _ _ _ _ _ c.requires.in_bounds.0 c.element-a.ensures c.in-Got.is (omega arith) c.element.ensures
 
 pub key_and_rest-map-requires-2 : goal.key_and_rest-map-requires-2
-key_and_rest-map-requires-2 t c = (rest-falls c.args.kinds.now c.requires.in_bounds.0 c.decreases, (rest-asked 2 c.args.kinds.now (omega (arith, c.if-kinds-eq2.false)) c.requires.in_bounds.1, (passed-inside c.element-a.ensures c.in-Got.is c.requires.at_in_bounds.0, c.requires.at_in_bounds.1)))
+key_and_rest-map-requires-2 t c = (rest-falls c.args.kinds.now c.requires.in_bounds.0 c.decreases, (rest-asked 2 c.args.kinds.now (omega arith) c.requires.in_bounds.1, (passed-inside c.element-a.ensures c.in-Got.is c.requires.at_in_bounds.0, c.requires.at_in_bounds.1)))
 
 pub key_and_rest-returns : goal.key_and_rest-returns
 key_and_rest-returns t c = way-rest _ _ _ _ _ _ c.requires.in_bounds.0 c.element-a.ensures c.in-Got.is c.map-2.ensures
@@ -55,7 +55,7 @@ pub map-loop-rest-init : goal.map-loop-rest-init
 map-loop-rest-init t c = running-start _ _ _ _
 
 pub map-key_and_rest-a-requires : goal.map-key_and_rest-a-requires
-map-key_and_rest-a-requires t c = (omega (arith, c.decreases), ((c.requires.in_bounds.0, c.requires.in_bounds.1), (c.loop-rest.invariant.inside ((was-got c.small-size.ensures c.in-Got.is).inside c.requires.at_in_bounds.0), c.requires.at_in_bounds.1)))
+map-key_and_rest-a-requires t c = (omega arith, ((c.requires.in_bounds.0, c.requires.in_bounds.1), (c.loop-rest.invariant.inside ((was-got c.small-size.ensures c.in-Got.is).inside c.requires.at_in_bounds.0), c.requires.at_in_bounds.1)))
 
 pub map-returns-in_default-a : goal.map-returns-in_default-a
 map-returns-in_default-a t c = way-keys _ _ _ _ _ _ c.requires.in_bounds.0 c.small-size.ensures c.in-Got.is (running-no c.loop-rest.invariant c.loop-rest-test.true c.key_and_rest-a.ensures c.in_default-a.is)
