@@ -9,7 +9,7 @@ unfolding most
 loop-rest-init c = showing-start _ _ _ _ _ _ _ (omega arith) (omega arith) refl
 
 pub put_wide-here-requires : goal.put_wide-here-requires
-put_wide-here-requires c = (c.requires, c.loop-rest.ensures)
+put_wide-here-requires c = (c.requires, c.width_of-width.ensures)
 
 pub loop-rest-preserved : goal.loop-rest-preserved
 loop-rest-preserved c = showing-next c.loop-rest.invariant c.loop-rest-test.true c.put_wide-here.auto.out c.put_wide-here.ensures

@@ -16,7 +16,7 @@ pub put_lists-requires : goal.put_lists-requires
 put_lists-requires c = c.requires.element (omega arith) (λ q. omega arith)
 
 pub put_singles-requires : goal.put_singles-requires
-put_singles-requires c = c.requires.element (omega arith) c.in_default-1.rest.1
+put_singles-requires c = c.requires.element (omega arith) (λ q. omega arith)
 
 pub returns-in-15 : goal.returns-in-15
 returns-in-15 c = chunk-array c.in-15.is c.put_values.ensures
@@ -31,7 +31,4 @@ pub returns-in-17-to-19 : goal.returns-in-17-to-19
 returns-in-17-to-19 c = chunk-lists (omega arith) (omega arith) c.put_lists.ensures
 
 pub returns-in_default : goal.returns-in_default
-returns-in_default c = chunk-plain (omega arith) c.in_default-1.rest.0.1 (λ h. elim c.in_default.branch [
-    | inl w ↦ omega arith
-    | inr w ↦ w.1.left
-    ]) c.in_default-1.rest.1 c.put_singles.ensures
+returns-in_default c = chunk-plain (omega arith) (λ q. omega arith) (λ h. omega arith) (λ q. omega arith) c.put_singles.ensures

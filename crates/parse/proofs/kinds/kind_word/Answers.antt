@@ -6,7 +6,7 @@ pub returns-in_default : goal.returns-in_default
 returns-in_default c = kind-none (rw c.in_default.is at c.natural.ensures)
 
 pub many-requires : goal.many-requires
-many-requires c = (omega (arith, c.in_default-1.rest.1), omega arith)
+many-requires c = (omega arith, omega arith)
 
 pub returns-in-15 : goal.returns-in-15
 returns-in-15 c = kind-is-array (rw c.in-Got.is at c.natural.ensures) c.in-15.is c.array.ensures
@@ -18,16 +18,16 @@ pub returns-in-0-to-4 : goal.returns-in-0-to-4
 returns-in-0-to-4 c = kind-is-constant (rw c.in-Got.is at c.natural.ensures) (omega arith) c.constant.ensures
 
 pub returns-in-5-to-14 : goal.returns-in-5-to-14
-returns-in-5-to-14 c = kind-is-low (rw c.in-Got.is at c.natural.ensures) (omega arith) (omega arith) (omega (arith, c.in_default-1.rest.0.0.1))
+returns-in-5-to-14 c = kind-is-low (rw c.in-Got.is at c.natural.ensures) (omega arith) (omega arith) (omega arith)
 
 pub returns-in-17-to-19 : goal.returns-in-17-to-19
-returns-in-17-to-19 c = kind-is-many (rw c.in-Got.is at c.natural.ensures) (omega (arith, c.in_default-1.rest.1)) (omega arith) c.many.ensures
+returns-in-17-to-19 c = kind-is-many (rw c.in-Got.is at c.natural.ensures) (omega arith) (omega arith) c.many.ensures
 
 pub returns-in-32-to-18446744073709551615 : goal.returns-in-32-to-18446744073709551615
 returns-in-32-to-18446744073709551615 c = kind-is-type (rw c.in-Got.is at c.natural.ensures) (omega arith) (omega arith)
 
 pub returns-in-16 : goal.returns-in-16
-returns-in-16 c = kind-is-gap (rw c.in-Got.is at c.natural.ensures) (omega arith) (omega (arith, c.in-16.in-16-own.keys3)) (omega (arith, c.in-16.in-16-own.keys3)) (λ q. omega (arith, c.in-16.in-16-own.keys3))
+returns-in-16 c = kind-is-gap (rw c.in-Got.is at c.natural.ensures) (omega arith) (omega arith) (omega arith) (λ q. omega arith)
 
 pub returns-in-16-2 : goal.returns-in-16-2
-returns-in-16-2 c = kind-is-gap (rw c.in-Got.is at c.natural.ensures) (omega arith) (omega arith) (omega arith) (λ q. omega (arith, c.in_default-1.rest.0.1))
+returns-in-16-2 c = kind-is-gap (rw c.in-Got.is at c.natural.ensures) (omega arith) (omega arith) (omega arith) (λ q. omega arith)
