@@ -24,7 +24,4 @@ pub returns-in-17-to-19 : goal.returns-in-17-to-19
 returns-in-17-to-19 c = chunk-lists _ _ _ _ _ _ _ _ _ (c.requires.0.element (omega arith) c.requires.1) (omega arith) (omega arith) c.lists_text.ensures
 
 pub returns-in_default : goal.returns-in_default
-returns-in_default c = chunk-plain _ _ _ _ _ _ _ _ _ (c.requires.0.element (omega arith) c.requires.1) (omega arith) c.in_default-1.rest.1 (λ h. elim c.in_default.branch [
-    | inl w ↦ omega arith
-    | inr w ↦ w.1.left
-    ]) c.requires.1 c.values_text-in_default.ensures
+returns-in_default c = chunk-plain _ _ _ _ _ _ _ _ _ (c.requires.0.element (omega arith) c.requires.1) (omega arith) (λ q. omega arith) (λ h. omega arith) c.requires.1 c.values_text-in_default.ensures

@@ -14,9 +14,9 @@ overflow_add-n c = omega (arith, c.loop-at.invariant.few)
 
 pub loop-at-preserved : goal.loop-at-preserved
 loop-at-preserved c = elim c.if-b-eq-TAB.branch [
-    | then-b-eq-TAB w ↦ rw w.1 (counting-tab c.loop-at.invariant c.peek-b.ensures w.if-b-eq-TAB.true)
-    | else-b-eq-TAB w ↦ rw w.1 (counting-quiet c.loop-at.invariant c.peek-b.ensures c.if-b-eq-NEWLINE.false w.if-b-eq-TAB.false)
-    ]
+  | then-b-eq-TAB w ↦ rw w.n-is (counting-tab c.loop-at.invariant c.peek-b.ensures w.if-b-eq-TAB.true)
+  | else-b-eq-TAB w ↦ rw w.n-is (counting-quiet c.loop-at.invariant c.peek-b.ensures c.if-b-eq-NEWLINE.false w.if-b-eq-TAB.false)
+]
 
 pub returns : goal.returns
 returns c = counting-end c.loop-at.invariant (omega arith)

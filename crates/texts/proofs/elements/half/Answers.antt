@@ -16,4 +16,4 @@ unfolding whole_width if◌then◌else◌
 returns-in-9 c = rw c.in-9.is (refl, omega arith)
 
 pub returns-in_default : goal.returns-in_default
-returns-in_default c = rw (width-last c.args.e (omega (arith, c.in_default.in_default-own.rest.1, c.in_default.in_default-own.rest.0.1, c.in_default.in_default-own.rest.0.0.1)) (omega arith)) (refl, omega arith)
+returns-in_default c = rw (width-last c.args.e (omega arith) (omega arith)) (refl, omega arith)

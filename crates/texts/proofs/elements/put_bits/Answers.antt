@@ -1,4 +1,4 @@
-use Rattle.std.proofs.Common.{sym, arith}
+use Rattle.std.proofs.Common.{sym, arith, rules}
 use Rattle.paper.specs.Reader.{if◌then◌else◌}
 use Rattle.lay.specs.Laid.{laid_as}
 use Rattle.texts.specs.Elements.{in_bytes, bound_in, one_byte, four_bytes, eight-bytes, v64-kind, v64-bytes}
@@ -28,7 +28,4 @@ pub returns-in-6-to-7 : goal.returns-in-6-to-7
 returns-in-6-to-7 c = laid_as c.put_be1.ensures (sym ((one_byte _ c.requires.0 (omega arith)).0 _))
 
 pub returns-in_default : goal.returns-in_default
-returns-in_default c = laid_as c.put_v64.ensures (sym (v64-bytes _ _ (v64-kind _ (elim c.in_default.branch [
-    | inl w ↦ omega (arith, c.requires.0)
-    | inr w ↦ omega (arith, w.1.left)
-    ]) c.in_default-1.rest.0.0.1 c.in_default-1.rest.0.1 c.in_default-1.rest.1)))
+returns-in_default c = laid_as c.put_v64.ensures (sym (v64-bytes _ _ (search (rules, v64-kind c.args.e (omega (arith, c.requires.0))))))

@@ -9,7 +9,7 @@ pub returns-in_default-natural : goal.returns-in_default-natural
 returns-in_default-natural c = size-no-word _ _ (rw c.in-To.is at c.byte.ensures) (rw c.in_default-natural.is at c.natural.ensures)
 
 pub returns-then-not-is_small : goal.returns-then-not-is_small
-returns-then-not-is_small c = size-large _ _ (rw c.in-To.is at c.byte.ensures) (rw c.in-Got.is at c.natural.ensures) (beyond c.is_small.ensures c.if-not-is_small.true-raw)
+returns-then-not-is_small c = size-large _ _ (rw c.in-To.is at c.byte.ensures) (rw c.in-Got.is at c.natural.ensures) (beyond c.is_small.ensures (rw c.if-not-is_small.true))
 
 pub returns : goal.returns
-returns c = size-taken _ _ (rw c.in-To.is at c.byte.ensures) (rw c.in-Got.is at c.natural.ensures) (within c.is_small.ensures c.if-not-is_small.false-raw)
+returns c = size-taken _ _ (rw c.in-To.is at c.byte.ensures) (rw c.in-Got.is at c.natural.ensures) (within c.is_small.ensures (rw c.if-not-is_small.false))
