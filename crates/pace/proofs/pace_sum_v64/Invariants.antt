@@ -4,6 +4,3 @@ use Rattle.pace.proofs.pace_sum_v64.Given as goal
 
 abbrev pub invariant-loop : goal.invariant-loop
 invariant-loop l = (l.counter ≤ l.end) × (l.end ≡ length l.s) × Summing l.s l.sum l.c.at (l.end - l.counter)
-
-abbrev pub decreases-loop : goal.decreases-loop
-decreases-loop l = l.end - l.counter
