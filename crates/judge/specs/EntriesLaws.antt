@@ -58,7 +58,7 @@ module _ {f l l₁ : List ℕ} {at : ℕ} {a : HeadText} (told : HeadTold f l at
               S.says ∙ ap (λ (u : ℕ). fields_step u top.count n (said f l₁) f c.at) (same ∙ E.placed.name.typ)
               ∙ ap (λ (s : Said). fields_step (type_of (view f l) top.name.number) top.count n s f c.at) E.now.says
               ∙ sym (entry-is (said f l) f at ∙ rw headed refl);
-          sound = after r S.still_Open;
+          sound = after r S.still_open;
         }
       where
         after : (r : Step) → OpenAfter f l₂ t r → SoundAfter f l₂ r

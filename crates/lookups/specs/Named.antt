@@ -67,7 +67,7 @@ module _ {f l l' : List ℕ} {i m : ℕ} (R : Recalled f l i m l') where
   unfolding pool_of base_pool objects_of
   pool-some le {r} q =
       let was : r ≡ base_pool (types_of l) (log_of l) (m - 33) = q ∙ ap (λ (s : Said). base_pool s.state.types s.state.log (m - 33)) R.now.says in
-      record { now = R.now; is = rw (its-type (R.one_Has le)) was }
+      record { now = R.now; is = rw (its-type (R.one_has le)) was }
 
 -- ── all strings ──
 

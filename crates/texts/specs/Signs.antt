@@ -5,7 +5,6 @@ use Rattle.std.proofs.Common.{◌∙◌, arith, add-zero, lt_of_not-le}
 use Prim.Native.Nat.{ℕ, zero, suc, ◌+◌, ◌-◌, ◌^◌, ◌≤◌, ◌<◌}
 use Rattle.std.proofs.Math.Decide.{dec_le}
 use Rattle.paper.specs.Reader.{got, no as bad}
-use Rattle.paper.specs.Numbers.{signed}
 use Rattle.paper.specs.Scan.{natural, integer, negative, positive}
 use Rattle.words.specs.Answers.{Peeked}
 use Rattle.words.specs.ReadSigns.{minus, plus, negative-nought, negative-large, negative-bits, positive-large, positive-bits}

@@ -1,7 +1,7 @@
 -- What a reading of text gives, laid down as bytes: one reading, and so many of them. Assumes nothing.
 use Rattle.std.specs.Prelude.{◌≡◌, refl, List, [], ◌∷◌, ◌++◌, ℕ, ◌-◌, ◌≤◌, ◌<◌, length}
 use Rattle.std.proofs.Common.{sym, ap, ◌∙◌, append_assoc, append-nil, arith}
-use Rattle.paper.specs.Reader.{Reader, Out, got, no as bad, and_then, repeat}
+use Rattle.paper.specs.Reader.{Reader, got, no as bad, and_then, repeat}
 use Rattle.paper.specs.Lists.{flat}
 use Rattle.lay.specs.Laid.{most, Laid, laid_none, laid_then, laid-long, laid_as}
 use Rattle.laws.specs.Loops.{alone, one_on}

@@ -1,11 +1,10 @@
 -- An annotation by numbers alone: for each string, how many objects the base type of that name has. Assumes nothing.
-use Rattle.std.specs.Prelude.{◌≡◌, ℕ, ◌-◌, ◌^◌, ◌<◌, ◌≤◌, Bool, true, false, ◌&&◌, List, [], ◌∷◌, length, ◌==◌, ◌≢◌, nat_le, slice_index, refl}
+use Rattle.std.specs.Prelude.{◌≡◌, ℕ, ◌-◌, ◌^◌, ◌<◌, ◌≤◌, Bool, true, false, ◌&&◌, List, [], ◌∷◌, length, ◌==◌, ◌≢◌, nat_le, slice_index}
 use Rattle.std.proofs.Math.Path.{sym}
-use Rattle.std.proofs.Common.{ap, ◌∙◌}
 use native.Mathlib.Omega.{arith}
 use Rattle.std.proofs.Math.ListN.{get_or-eq_default}
-use borrow.Author.Tests.{eq-eqb, ne_eqb, le-leb, lt-leb}
-use Rattle.paper.specs.Reader.{if◌then◌else◌, Reader, Out, got, no, and_then, ◌>>=◌, give, hold, must, ◌or_no◌}
+use borrow.Author.Tests.{ne_eqb, le-leb, lt-leb}
+use Rattle.paper.specs.Reader.{if◌then◌else◌, Reader, ◌>>=◌, give, must, ◌or_no◌}
 use Rattle.paper.specs.Numbers.{v64}
 use Rattle.paper.specs.File.{two_numbers}
 use Rattle.numbers.specs.Cursors.{Read, was-got, was-refused}

@@ -8,7 +8,7 @@ use borrow.Author.Tests.{le-leb, lt-leb, ne_eqb}
 use Rattle.paper.specs.Reader.{if◌then◌else◌, Reader, got, ◌>>=◌, give, repeat}
 use Rattle.paper.specs.Numbers.{put_fixed}
 use Rattle.paper.specs.Lists.{all}
-use Rattle.paper.specs.Ledger.{plain, array, many, mapping, State}
+use Rattle.paper.specs.Ledger.{plain, array, many, State}
 use Rattle.paper.specs.Rules.{element_kind?}
 use Rattle.paper.specs.File.{small, element, value}
 use Rattle.table.specs.View.{kind_from}

@@ -9,7 +9,7 @@ use borrow.Author.Tests.{leb-false, eqb-true, eqb-false, le-leb, lt-leb, lt-ltb,
 use Rattle.paper.specs.Reader.{if◌then◌else◌, Reader, ◌>>=◌, give, must, ◌or_no◌, repeat}
 use Rattle.paper.specs.Numbers.{signed, fixed, v64, number}
 use Rattle.paper.specs.Ledger.{flag, whole, float, link, annotation, State, object?}
-use Rattle.paper.specs.Rules.{single_kind?, element_kind?, bool_rules, link?, link_rules, annotation?, annotation_rules}
+use Rattle.paper.specs.Rules.{element_kind?, bool_rules, link?, link_rules, annotation?, annotation_rules}
 use Rattle.paper.specs.File.{whole_of, two_numbers, element}
 use Rattle.numbers.specs.Cursors.{out_of}
 use Rattle.numbers.specs.declared.Number.{Number}

@@ -1,16 +1,15 @@
 -- The values of a chunk of maps. Assumes nothing.
-use Rattle.std.specs.Prelude.{◌≡◌, ℕ, ◌≤◌, true, List, [], ◌∷◌, map, length, refl}
+use Rattle.std.specs.Prelude.{◌≡◌, ℕ, ◌≤◌, true, List, [], ◌∷◌, length}
 use Rattle.std.proofs.Common.{sym, ◌∙◌, arith}
-use Rattle.paper.specs.Reader.{Reader, give, refuse, repeat}
+use Rattle.paper.specs.Reader.{give, refuse, repeat}
 use Rattle.paper.specs.Lists.{all}
-use Rattle.paper.specs.Maps.{map_of}
 use Rattle.paper.specs.Ledger.{mapping, keys, State}
 use Rattle.paper.specs.Rules.{element_kind?}
-use Rattle.paper.specs.File.{small, element, value}
+use Rattle.paper.specs.File.{element, value}
 use Rattle.laws.specs.Bools.{and_split}
 use Rattle.numbers.specs.Cursors.{out_of, place_of}
 use Rattle.numbers.specs.declared.Number.{Number}
-use Rattle.values.specs.Pass.{forget, Passed, Alike, alike-repeat}
+use Rattle.values.specs.Pass.{forget, Passed, alike-repeat}
 use Rattle.values.specs.Items.{Known, alike-item}
 use Rattle.values.specs.Maps.{AllAlike, alike-maps}
 use Rattle.values.specs.Spans.{ranges, item_in}

@@ -1,12 +1,12 @@
 -- A map of several types as code goes over it, once over the number of types. Assumes nothing.
-use Rattle.std.specs.Prelude.{◌≡◌, ℕ, zero, suc, ◌+◌, ◌-◌, ◌<◌, ◌≤◌, List, [], ◌∷◌, map, length, take, drop, slice_index}
+use Rattle.std.specs.Prelude.{◌≡◌, ℕ, ◌-◌, ◌≤◌, List, [], ◌∷◌, map, length, take, drop, slice_index}
 use Rattle.std.proofs.Math.Path.{refl, sym}
-use Rattle.std.proofs.Common.{ap, ◌∙◌, arith, length-drop, take_all}
+use Rattle.std.proofs.Common.{◌∙◌, arith, length-drop, take_all}
 use Rattle.paper.specs.Reader.{Reader, Out, got, no, and_then, ◌>>=◌, give, repeat}
 use Rattle.paper.specs.Lists.{flat}
 use Rattle.paper.specs.Maps.{key_and_rest, map_of}
 use Rattle.paper.specs.File.{small}
-use Rattle.numbers.specs.Cursors.{out_of, place_of, Read, was-got, was-refused}
+use Rattle.numbers.specs.Cursors.{Read, was-got, was-refused}
 use Rattle.numbers.specs.declared.Cursor.{Cursor}
 use Rattle.numbers.specs.declared.Refusal.{Refusal}
 use Rattle.numbers.specs.declared.Number.{Number}

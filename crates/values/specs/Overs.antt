@@ -1,5 +1,5 @@
 -- Numbers of which nothing is asked, passed over many at a time. Assumes nothing.
-use Rattle.std.specs.Prelude.{◌≡◌, ℕ, zero, suc, ◌+◌, ◌-◌, ◌*◌, ◌<◌, ◌≤◌, List}
+use Rattle.std.specs.Prelude.{◌≡◌, ℕ, suc, ◌+◌, ◌-◌, ◌*◌, ◌<◌, ◌≤◌, List}
 use Rattle.std.proofs.Common.{sym, ◌∙◌, arith}
 use Rattle.paper.specs.Reader.{Reader, Out, got, no, and_then, repeat}
 use Rattle.paper.specs.Numbers.{v64}

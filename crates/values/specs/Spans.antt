@@ -1,13 +1,12 @@
 -- The ranges of all types in one list, one type after the other: those of type t stand from the t-th start up to the next.
 -- Assumes nothing.
-use Rattle.std.specs.Prelude.{◌≡◌, ℕ, zero, suc, ◌+◌, ◌-◌, ◌*◌, ◌<◌, ◌≤◌, Bool, true, false, ◌&&◌, ◌⊎◌, List, [], ◌∷◌, length, take, drop, nat_le, nat_lt, slice_index, slice_range}
+use Rattle.std.specs.Prelude.{◌≡◌, ℕ, ◌+◌, ◌-◌, ◌<◌, ◌≤◌, Bool, true, false, ◌&&◌, ◌⊎◌, List, length, take, drop, nat_le, nat_lt, slice_index, slice_range}
 use Rattle.std.proofs.Math.Path.{refl}
-use Rattle.std.proofs.Common.{sym, ap, ◌∙◌, inl, inr, length-take, length-drop}
+use Rattle.std.proofs.Common.{ap, ◌∙◌, inl, inr, length-take, length-drop}
 use native.Mathlib.Omega.{arith}
 use borrow.Author.Tests.{leb-true, ltb-true, le-leb, lt-leb, lt-ltb, le-ltb}
-use Rattle.paper.specs.Reader.{if◌then◌else◌, Reader, must, repeat}
+use Rattle.paper.specs.Reader.{if◌then◌else◌, Reader, repeat}
 use Rattle.paper.specs.Numbers.{fixed}
-use Rattle.paper.specs.Rules.{bool_rules}
 use Rattle.numbers.specs.declared.Number.{Number}
 use Rattle.values.specs.Pass.{Passed, passed-as, alike-back}
 use Rattle.values.specs.Maps.{alike-one}

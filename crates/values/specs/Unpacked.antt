@@ -1,6 +1,6 @@
 -- The element kinds of a map, taken from the number in which a table keeps them. Assumes nothing.
 use Rattle.std.specs.Prelude.{◌≡◌, ℕ, zero, suc, ◌+◌, ◌-◌, ◌*◌, ◌/◌, ◌%◌, ◌^◌, ◌<◌, ◌≤◌, List, length, slice_set, refl}
-use Rattle.std.proofs.Common.{sym, ap, ◌∙◌, arith, pow-suc}
+use Rattle.std.proofs.Common.{sym, ◌∙◌, arith, pow-suc}
 use Rattle.std.proofs.Math.Numerals.{add-one}
 use Rattle.std.proofs.Math.Nat.{one-le-pow, pow-le-pow_right}
 use Rattle.std.proofs.Math.ListN.{length-set}

@@ -16,14 +16,14 @@ pub returns-in-14 : goal.returns-in-14
 returns-in-14 c = checked-by c.requires.0 _ (item-string _ _ _ _ _ c.in-14.is) c.string_numbers.ensures
 
 pub returns-in-7-to-10 : goal.returns-in-7-to-10
-returns-in-7-to-10 c = let is : Fixed c.args.k = record { low = omega (arith, c.in_default-1.rest.0.0.1); high = omega arith; not-v64 = c.in_default-1.rest.0.1 } in
+returns-in-7-to-10 c = let is : Fixed c.args.k = record { low = omega arith; high = omega arith; not-v64 = λ q. omega arith } in
     checked-by c.requires.0 _ (rw c.width.ensures.0 (item-fixed _ _ _ _ _ is)) c.fixed_widths.ensures
 
 pub returns-in-32-to-18446744073709551615 : goal.returns-in-32-to-18446744073709551615
-returns-in-32-to-18446744073709551615 c = checked-by c.requires.0 _ (item-object _ _ _ _ _ c.if-k-lt32.false) c.guided_references.ensures
+returns-in-32-to-18446744073709551615 c = checked-by c.requires.0 _ (item-object _ _ _ _ _ (omega arith)) c.guided_references.ensures
 
 pub returns-in-0-to-4 : goal.returns-in-0-to-4
 returns-in-0-to-4 c = absurd (omega (arith, listed-low c.args.k (other-single c.args.k c.requires.0 (λ q. omega arith))))
 
 pub returns-in-0-to-4-2 : goal.returns-in-0-to-4-2
-returns-in-0-to-4-2 c = absurd (omega (arith, listed-object c.args.k (other-single c.args.k c.requires.0 (λ q. omega arith)) c.if-k-lt14.false c.in_default-1.rest.1))
+returns-in-0-to-4-2 c = absurd (omega (arith, listed-object c.args.k (other-single c.args.k c.requires.0 (λ q. omega arith)) (omega arith) (λ q. omega arith)))

@@ -15,8 +15,8 @@ pub returns-in-14 : goal.returns-in-14
 returns-in-14 c = lists-by _ (item-string _ _ _ _ _ c.in-14.is) c.string_lists.ensures
 
 pub returns-in-7-to-10 : goal.returns-in-7-to-10
-returns-in-7-to-10 c = let is : Fixed c.args.e = record { low = omega (arith, c.in_default-1.rest.0.0); high = omega arith; not-v64 = c.in_default-1.rest.0.1 } in
+returns-in-7-to-10 c = let is : Fixed c.args.e = record { low = omega arith; high = omega arith; not-v64 = λ q. omega arith } in
     lists-by _ (rw c.width.ensures.0 (item-fixed _ _ _ _ _ is)) c.fixed_lists.ensures
 
 pub returns-in-32-to-18446744073709551615 : goal.returns-in-32-to-18446744073709551615
-returns-in-32-to-18446744073709551615 c = lists-by _ (item-object _ _ _ _ _ c.if-e-lt32.false) c.reference_lists.ensures
+returns-in-32-to-18446744073709551615 c = lists-by _ (item-object _ _ _ _ _ (omega arith)) c.reference_lists.ensures

@@ -1,4 +1,4 @@
-use Rattle.std.proofs.Common.{sym, ap, ⊎_elim, arith}
+use Rattle.std.proofs.Common.{sym, ap, ⊎_elim, arith, rules}
 use Rattle.paper.specs.Reader.{if◌then◌else◌}
 use Rattle.values.specs.Listed.{width_of, width-most}
 use Rattle.values.proofs.chunks.width.Goals as goal
@@ -16,4 +16,4 @@ unfolding width_of if◌then◌else◌
 returns-in-9 c = (⊎_elim (λ e. sym (ap width_of e)) (λ e. sym (ap width_of e)) c.in-9.is, omega arith)
 
 pub returns-in_default : goal.returns-in_default
-returns-in_default c = (width-most c.requires c.in_default.rest.0.0.1 c.in_default.rest.0.1 c.in_default.rest.1, omega arith)
+returns-in_default c = (search (rules, width-most), omega arith)

@@ -1,3 +1,4 @@
+use Rattle.std.proofs.Common.{rules}
 use Rattle.values.specs.Listed.{listed-low}
 use Rattle.values.specs.Rows.{filled_none, objects-only}
 use Rattle.values.proofs.columns.fill.Goals as goal
@@ -30,4 +31,4 @@ pub returns-in-13 : goal.returns-in-13
 returns-in-13 c = rw c.in-13.is c.fill_f64s.ensures
 
 pub returns-in_default : goal.returns-in_default
-returns-in_default c = c.fill_objects.ensures c.args.k (objects-only _ (listed-low _ c.requires) c.in_default.rest.0.0.0.0.0.0.0.1 c.in_default.rest.0.0.0.0.0.0.1 c.in_default.rest.0.0.0.0.0.1 c.in_default.rest.0.0.0.0.1 c.in_default.rest.0.0.0.1 c.in_default.rest.0.0.1 c.in_default.rest.0.1 c.in_default.rest.1)
+returns-in_default c = c.fill_objects.ensures c.args.k (search (rules, objects-only, listed-low _ c.requires))

@@ -23,9 +23,9 @@ unfolding element_of Storable
 returns-in-7-to-11 c = (ap whole (to_z-of_z {w = w64} (record { sfits = c.whole.type_inv }) ∙ c.whole.ensures) ∙ sym (made-whole c.args.k c.args.n (omega arith) (omega arith)), rw (to_z-of_z {w = w64} (record { sfits = c.whole.type_inv })) c.whole.type_inv)
 
 pub returns-in_default : goal.returns-in_default
-returns-in_default c = absurd (omega (arith, listed-low c.args.k c.requires.0, c.in_default-1.rest.0.0.1))
+returns-in_default c = absurd (omega (arith, listed-low c.args.k c.requires.0))
 
 pub returns-in_default-2 : goal.returns-in_default-2
 unfolding element_of Storable
-returns-in_default-2 c = let h : 13 < c.args.k = omega (arith, c.in_default-1.rest.1, c.in_default-1.rest.0.1) in
+returns-in_default-2 c = let h : 13 < c.args.k = omega arith in
     (sym (made-link c.args.k h c.args.n), rw (bound-link c.args.k h) at c.requires.1)

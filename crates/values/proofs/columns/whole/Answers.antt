@@ -28,4 +28,4 @@ unfolding whole_made if◌then◌else◌
 returns-in-9 c = rw c.in-9.is (to_z-of_z {w = w64} (record { sfits = c.signed4.type_inv }) ∙ c.signed4.ensures)
 
 pub returns-in_default : goal.returns-in_default
-returns-in_default c = to_z-of_z {w = w64} (record { sfits = c.signed8.type_inv }) ∙ c.signed8.ensures ∙ sym (whole-8 c.args.k c.args.n (omega (arith, c.in_default.rest.1, c.in_default.rest.0.1, c.in_default.rest.0.0.1)))
+returns-in_default c = to_z-of_z {w = w64} (record { sfits = c.signed8.type_inv }) ∙ c.signed8.ensures ∙ sym (whole-8 c.args.k c.args.n (omega arith))

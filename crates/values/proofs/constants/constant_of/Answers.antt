@@ -21,4 +21,4 @@ pub returns-in-2 : goal.returns-in-2
 returns-in-2 c = constant-i32 _ _ c.in-2.is c.at_most-in-2.ensures (to_z-of_z {w = w64} (record { sfits = c.signed4.type_inv }) ∙ c.signed4.ensures)
 
 pub returns-in_default : goal.returns-in_default
-returns-in_default c = constant_wide _ _ (omega (arith, c.in_default.rest.1, c.in_default.rest.0.1, c.in_default.rest.0.0.1)) c.requires (to_z-of_z {w = w64} (record { sfits = c.signed8.type_inv }) ∙ c.signed8.ensures)
+returns-in_default c = constant_wide _ _ (omega arith) c.requires (to_z-of_z {w = w64} (record { sfits = c.signed8.type_inv }) ∙ c.signed8.ensures)

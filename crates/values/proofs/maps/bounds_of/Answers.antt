@@ -1,4 +1,4 @@
-use Rattle.std.proofs.Common.{refl, arith}
+use Rattle.std.proofs.Common.{refl, arith, rules}
 use Rattle.values.specs.Listed.{others-linked}
 use Rattle.values.specs.Items.{item-v64}
 use Rattle.values.specs.Spans.{item-1, item-2, item-4, item-8}
@@ -6,7 +6,7 @@ use Rattle.values.specs.Quick.{quick-none, quick-fixed, quick-any, quick-item, q
 use Rattle.values.proofs.maps.bounds_of.Goals as goal
 
 pub linked_bounds-requires : goal.linked_bounds-requires
-linked_bounds-requires c = (others-linked c.args.k c.requires.0 c.in_default.rest.0.0.0.0.0.0.0.1 c.in_default.rest.0.0.0.0.0.0.1 c.in_default.rest.0.0.0.0.0.1 c.in_default.rest.0.0.0.0.1 c.in_default.rest.0.0.0.1 c.in_default.rest.0.0.1 c.in_default.rest.0.1 c.in_default.rest.1, c.requires.1)
+linked_bounds-requires c = (search (rules, others-linked c.args.k c.requires.0), c.requires.1)
 
 pub returns-in-5 : goal.returns-in-5
 returns-in-5 c pools = quick-none _ (omega (arith, c.wide_bounds.ensures))

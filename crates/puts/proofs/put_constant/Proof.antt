@@ -1,7 +1,0 @@
-use Rattle.lay.specs.Laid.{laid_then}
-use borrow.Author.Rules.{rules}
-use Rattle.puts.proofs.put_constant.Statement.{statement}
-use Rattle.puts.proofs.put_constant.Tie as tie
-
-pub put-constant-spec : {M : Type 1} → statement M
-put-constant-spec = tie.close (tie.spec (λ c κs. search rules) (λ c κs. search rules) (λ c. search rules) (λ c. laid_then c.before.before.before.before.before.before.put-v64.ensures c.before.before.put_whole.ensures))

@@ -1,0 +1,67 @@
+use Rattle.std.proofs.Common.{refl, arith}
+use Rattle.numbers.specs.Cursors.{was-got}
+use Rattle.values.specs.Pass.{running-start, running-next, running-no, running-done}
+use Rattle.values.specs.Maps.{passed-inside}
+use Rattle.values.specs.Quick.{skips-passed, paired-passed, key-steps}
+use Rattle.values.specs.Ways.{first_kind, last-kind, rest-asked, rest-falls, way_no, way-keys, way-key-no, way-rest, way-last}
+use Rattle.values.proofs.maps.+key_and_rest_map.Goals as goal
+
+pub key_and_rest-bounds-kinds-0 : goal.key_and_rest-bounds-kinds-0
+key_and_rest-bounds-kinds-0 t c = omega arith
+
+pub key_and_rest-element_behind-behind-requires : goal.key_and_rest-element_behind-behind-requires
+key_and_rest-element_behind-behind-requires t c = (first_kind c.args.kinds.now (omega arith) c.requires.in_bounds.1, c.requires.at_in_bounds.0, c.requires.at_in_bounds.1)
+
+pub key_and_rest-map-requires : goal.key_and_rest-map-requires
+key_and_rest-map-requires t c = (rest-falls c.args.kinds.now c.requires.in_bounds.0 c.decreases, (rest-asked 2 c.args.kinds.now c.if-kinds-gt2.true c.requires.in_bounds.1, (c.if-behind-part.true, c.requires.at_in_bounds.1)))
+
+pub key_and_rest-returns-then-behind-part : goal.key_and_rest-returns-then-behind-part
+key_and_rest-returns-then-behind-part t c = way-rest _ _ _ _ _ _ c.requires.in_bounds.0 (skips-passed (c.element_behind-behind.ensures c.if-behind-part.true _)) refl c.map.ensures
+
+pub key_and_rest-element-a-requires : goal.key_and_rest-element-a-requires
+key_and_rest-element-a-requires t c = (first_kind c.args.kinds.now (omega arith) c.requires.in_bounds.1, c.requires.at_in_bounds.0, c.requires.at_in_bounds.1)
+
+pub key_and_rest-returns-in_default : goal.key_and_rest-returns-in_default
+key_and_rest-returns-in_default t c = way-key-no _ _ _ _ _ _ c.requires.in_bounds.0 c.element-a.ensures c.in_default.is
+
+pub key_and_rest-element-requires : goal.key_and_rest-element-requires
+key_and_rest-element-requires t c = (last-kind c.args.kinds.now c.requires.in_bounds.0 c.requires.in_bounds.1, passed-inside c.element-a.ensures c.in-Got.is c.requires.at_in_bounds.0, c.requires.at_in_bounds.1)
+
+pub key_and_rest-returns-then-kinds-eq2 : goal.key_and_rest-returns-then-kinds-eq2
+key_and_rest-returns-then-kinds-eq2 t c = way-last _ _ _ _ _ _ c.requires.in_bounds.0 c.element-a.ensures c.in-Got.is (omega arith) c.element.ensures
+
+pub key_and_rest-map-requires-2 : goal.key_and_rest-map-requires-2
+key_and_rest-map-requires-2 t c = (rest-falls c.args.kinds.now c.requires.in_bounds.0 c.decreases, (rest-asked 2 c.args.kinds.now (omega arith) c.requires.in_bounds.1, (passed-inside c.element-a.ensures c.in-Got.is c.requires.at_in_bounds.0, c.requires.at_in_bounds.1)))
+
+pub key_and_rest-returns : goal.key_and_rest-returns
+key_and_rest-returns t c = way-rest _ _ _ _ _ _ c.requires.in_bounds.0 c.element-a.ensures c.in-Got.is c.map-2.ensures
+
+pub map-returns-in_default : goal.map-returns-in_default
+map-returns-in_default t c = way_no _ _ _ _ _ _ c.requires.in_bounds.0 c.small-size.ensures c.in_default.is
+
+pub map-bounds_of-key-requires : goal.map-bounds_of-key-requires
+map-bounds_of-key-requires t c = (first_kind c.args.kinds.now (omega arith) c.requires.in_bounds.1, c.requires.at_in_bounds.1)
+
+pub map-bounds_of-value-requires : goal.map-bounds_of-value-requires
+map-bounds_of-value-requires t c = (last-kind c.args.kinds.now c.requires.in_bounds.0 c.requires.in_bounds.1, c.requires.at_in_bounds.1)
+
+pub map-pairs_behind-end-requires : goal.map-pairs_behind-end-requires
+map-pairs_behind-end-requires t c = (was-got c.small-size.ensures c.in-Got.is).inside c.requires.at_in_bounds.0
+
+pub map-returns-then-end-part : goal.map-returns-then-end-part
+map-returns-then-end-part t c = way-keys _ _ _ _ _ _ c.requires.in_bounds.0 c.small-size.ensures c.in-Got.is (paired-passed (c.pairs_behind-end.ensures c.if-end-part.true) (key-steps _ _ _ _ _ _ (omega arith) (c.bounds_of-key.ensures _) (c.bounds_of-value.ensures _)))
+
+pub map-loop-rest-init : goal.map-loop-rest-init
+map-loop-rest-init t c = running-start _ _ _ _
+
+pub map-key_and_rest-a-requires : goal.map-key_and_rest-a-requires
+map-key_and_rest-a-requires t c = (omega arith, ((c.requires.in_bounds.0, c.requires.in_bounds.1), (c.loop-rest.invariant.inside ((was-got c.small-size.ensures c.in-Got.is).inside c.requires.at_in_bounds.0), c.requires.at_in_bounds.1)))
+
+pub map-returns-in_default-a : goal.map-returns-in_default-a
+map-returns-in_default-a t c = way-keys _ _ _ _ _ _ c.requires.in_bounds.0 c.small-size.ensures c.in-Got.is (running-no c.loop-rest.invariant c.loop-rest-test.true c.key_and_rest-a.ensures c.in_default-a.is)
+
+pub map-loop-rest-preserved : goal.map-loop-rest-preserved
+map-loop-rest-preserved t c = running-next c.loop-rest.invariant c.loop-rest-test.true c.key_and_rest-a.ensures c.in-Got-a.is
+
+pub map-returns : goal.map-returns
+map-returns t c = way-keys _ _ _ _ _ _ c.requires.in_bounds.0 c.small-size.ensures c.in-Got.is (running-done c.loop-rest.invariant 0 c.loop-rest-test.false)
