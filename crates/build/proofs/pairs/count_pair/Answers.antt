@@ -19,4 +19,4 @@ pub next_block-requires : goal.next_block-requires
 next_block-requires c = record { ok = c.size_chunks.ensures.holds.ok; work_bound = omega (arith, (sized-ready c.requires c.front_text.ensures c.in-Got.is c.size_chunks.ensures c.in-To.is).sound.block) }
 
 pub returns : goal.returns
-returns c = pair-done c.requires c.front_text.ensures c.in-Got.is c.size_chunks.ensures c.in-To.is c.region_size-size.ensures (fits-so c.region_size-size.ensures c.if-not-fits.false-raw) c.strings-known.ensures c.put_front-values.ensures c.add_up-end.ensures c.next_block.ensures
+returns c = pair-done c.requires c.front_text.ensures c.in-Got.is c.size_chunks.ensures c.in-To.is c.region_size-size.ensures (fits-so c.fits.ensures c.if-not-fits.false-raw) c.strings-known.ensures c.put_front-values.ensures c.add_up-end.ensures c.next_block.ensures
