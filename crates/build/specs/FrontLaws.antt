@@ -1,20 +1,20 @@
 -- The ways out of reading the front of a listed pair, on plain values. Assumes nothing.
-use Rattle.std.specs.Prelude.{◌≡◌, Bool, true, false, ◌&&◌, ℕ, zero, suc, ◌+◌, ◌-◌, ◌≤◌, ◌<◌, drop}
+use Rattle.std.specs.Prelude.{◌≡◌, Bool, true, false, ◌&&◌, ℕ, ◌+◌, ◌≤◌, ◌<◌, drop}
 use Rattle.std.proofs.Math.Path.{refl, sym, ap, subst}
 use Rattle.std.proofs.Common.{◌∙◌, arith, length-take, length-drop}
-use mathlib.Core.List.{List, [], ◌∷◌, ◌++◌, map, map-append, append-nil}
+use mathlib.Core.List.{List, [], ◌∷◌, ◌++◌, map, map-append}
 use Rattle.std.proofs.Math.ListN.{length}
 use Rattle.std.proofs.lemmas.List.{length-map}
 use Rattle.std.proofs.Math.Seq.{drop-append_seam}
-use Rattle.paper.specs.Reader.{Out, got, no, times, repeat}
+use Rattle.paper.specs.Reader.{got, no, times}
 use Rattle.paper.specs.Bounds.{most_types}
 use Rattle.paper.specs.Lists.{flat, fold, all}
-use Rattle.paper.specs.Ledger.{New, Entry, Pair, Range, Field, Due, State}
+use Rattle.paper.specs.Ledger.{New, Entry, State}
 use Rattle.paper.specs.Rules.{small_rules, strings_rules, with_strings, after_head, after_new, after_entry, dues, kinds_stand?, after_front}
 use Rattle.paper.specs.Listing.{hex, string_line}
-use Rattle.paper.specs.Keeps.{number?, bytes?, in_turn, entry?}
+use Rattle.paper.specs.Keeps.{number?, bytes?}
 use Rattle.paper.specs.Scan.{read_pair, read_string, entry_text, pair_text}
-use Rattle.laws.specs.Says.{Bytes, span}
+use Rattle.laws.specs.Says.{Bytes}
 use Rattle.laws.specs.Lines.{pair-says, string-kept}
 use Rattle.laws.specs.Values.{repeat-kept}
 use Rattle.laws.specs.Built.{entries-kept}
@@ -31,9 +31,9 @@ use Rattle.walk.specs.Stand.{stands?, AllStand, new-fields-stand}
 use Rattle.walk.specs.PairLaws.{Steady}
 use Rattle.judge.specs.Fields.{unsized}
 use Rattle.puts.specs.Strings.{lines-longer}
-use Rattle.build.specs.Strings.{Strung, StringsTold}
+use Rattle.build.specs.Strings.{Strung}
 use Rattle.build.specs.Spelling.{entries_text-hexed}
-use Rattle.build.specs.Fronts.{with_values, pair-no-line, pair-many, pair-no-strings, pair-no-entries, pair-no-kinds, pair-fronted}
+use Rattle.build.specs.Fronts.{with_values, pair-no-entries, pair-no-kinds, pair-fronted}
 
 -- what a pair asks of the text and of the table that the pairs before it left: there is a state that the table tells in hex
 pub record PairAsks (t l : List ℕ) (at : ℕ) : Type 0 where

@@ -1,17 +1,17 @@
 -- The answer of reading the front of a listed pair. Assumes nothing.
-use Rattle.std.specs.Prelude.{◌≡◌, refl, Bool, true, false, ◌&&◌, not, List, [], ◌∷◌, ◌++◌, map, ℕ, ◌+◌, ◌-◌, ◌^◌, ◌≤◌, ◌<◌, leb, ltb, length}
+use Rattle.std.specs.Prelude.{◌≡◌, refl, Bool, true, false, ◌&&◌, not, List, ℕ, ◌+◌, ◌-◌, ◌^◌, ◌≤◌, ◌<◌, leb, length}
 use Rattle.std.proofs.Common.{sym, ap, ◌∙◌, subst, arith, lt_of_not-le, leb-true, le-leb, lt-ltb}
 use Rattle.std.proofs.Math.Decide.{dec_le}
 use Rattle.std.proofs.lemmas.Bool.{not-true, not-false, lt-leb}
-use Rattle.paper.specs.Reader.{Out, got, no as bad, times, repeat}
+use Rattle.paper.specs.Reader.{got, no as bad}
 use Rattle.paper.specs.Bounds.{most_strings, most_objects}
 use Rattle.paper.specs.Ledger.{State}
-use Rattle.paper.specs.Rules.{small_rules, strings_rules, after_entry}
+use Rattle.paper.specs.Rules.{small_rules, strings_rules}
 use Rattle.paper.specs.Keeps.{hold?, number?}
-use Rattle.paper.specs.Scan.{read_pair, read_string, entry_text, pair_text}
+use Rattle.paper.specs.Scan.{read_pair, pair_text}
 use Rattle.laws.specs.Bools.{number-split, and_split}
 use Rattle.laws.specs.Hexed.{hexed, Spelt}
-use Rattle.table.specs.View.{view, said, Said, Holds, strings_in, fields_in}
+use Rattle.table.specs.View.{view, said, Holds, strings_in, fields_in}
 use Rattle.reader.specs.Sound.{Sound}
 use Rattle.reader.specs.StringLaws.{strings-sound}
 use Rattle.walk.specs.Blocks.{begins}
@@ -26,7 +26,6 @@ use Rattle.words.specs.declared.read.Step.TheVariants as step
 use Rattle.build.specs.Strings.{Strung, StringsTold, StrungBy}
 use Rattle.build.specs.Fronts.{pair-no-line, pair-many, pair-no-strings}
 use Rattle.build.specs.FrontLaws.{PairAsks, Fronted, few-hexed, fronted-no-entries, fronted-no-kinds, fronted}
-use Rattle.build.specs.declared.front.Front.{Front}
 use Rattle.build.specs.declared.front.FrontRead.{FrontRead}
 use Rattle.build.specs.declared.front.FrontRead.TheVariants.{Got, Bad}
 

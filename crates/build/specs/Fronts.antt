@@ -1,13 +1,11 @@
 -- The front of a listed pair: its line, its strings and its entries, read into the table. Assumes nothing.
-use Rattle.std.specs.Prelude.{◌≡◌, Bool, true, false, ◌&&◌, List, [], ◌∷◌, ◌++◌, map, ℕ, zero, suc, ◌+◌, ◌-◌, ◌≤◌, ◌<◌, length, get_or, drop}
+use Rattle.std.specs.Prelude.{◌≡◌, Bool, true, false, ◌&&◌, List, ℕ}
 use Rattle.std.proofs.Math.Path.{refl}
-use Rattle.std.proofs.Common.{sym, ap, ◌∙◌, subst, arith}
+use Rattle.std.proofs.Common.{◌∙◌, arith}
 use Rattle.paper.specs.Reader.{if◌then◌else◌, Reader, Out, got, no, and_then, ◌>>=◌, ◌>>◌, give, each, times, repeat}
-use Rattle.paper.specs.Lists.{flat, fold, all}
-use Rattle.paper.specs.Ledger.{Entry, Chunk, Pair, Due, State}
+use Rattle.paper.specs.Ledger.{Entry, Chunk, Pair, State}
 use Rattle.paper.specs.Rules.{small_rules, strings_rules, with_strings, after_entry, dues, kinds_stand?, after_front}
-use Rattle.paper.specs.Listing.{hex, string_line}
-use Rattle.paper.specs.Keeps.{number?, bytes?, in_turn, entry?}
+use Rattle.paper.specs.Keeps.{number?}
 use Rattle.paper.specs.Scan.{heed, read_pair, read_string, entry_text, chunk_text, pair_text}
 
 -- the values of a pair, behind its strings and entries

@@ -1,5 +1,5 @@
 -- A pair laid down, or counted: its front, and with its values what was read of it. Assumes nothing.
-use Rattle.std.specs.Prelude.{◌≡◌, refl, true, List, [], ◌∷◌, ◌++◌, map, ℕ, ◌+◌, ◌-◌, ◌^◌, ◌≤◌, ◌<◌, min, length, drop}
+use Rattle.std.specs.Prelude.{◌≡◌, refl, true, List, ◌++◌, map, ℕ, ◌+◌, ◌^◌, ◌≤◌, ◌<◌, min, length, drop}
 use Rattle.std.proofs.Common.{ap, ◌∙◌, subst, arith}
 use Rattle.paper.specs.Reader.{got, times}
 use Rattle.paper.specs.Bounds.{most_bytes}

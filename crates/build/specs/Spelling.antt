@@ -1,15 +1,15 @@
 -- A text is read the same whether the names that are known stand in bytes or in hex. Assumes nothing.
-use Rattle.std.specs.Prelude.{◌≡◌, Bool, ◌&&◌, List, [], ◌∷◌, ◌++◌, ltb, length}
+use Rattle.std.specs.Prelude.{◌≡◌, Bool, ◌&&◌, List, [], ◌∷◌, ltb, length}
 use Rattle.std.proofs.Math.Path.{refl, ap, fun_ext}
 use Rattle.std.proofs.Common.{sym, ◌∙◌}
 use Prim.Native.Nat.{ℕ, zero, suc, ◌-◌, ◌^◌}
 use Rattle.paper.specs.Reader.{Reader, Out, got, no, and_then, ◌>>=◌, ◌>>◌, give, each, times, repeat}
-use Rattle.paper.specs.Ledger.{Kind, Element, New, Head, Entry, Chunk, Due, State, field_at}
+use Rattle.paper.specs.Ledger.{Element, New, Head, Entry, Chunk, Due, State, field_at}
 use Rattle.paper.specs.Rules.{type_of, after_head, known_due, field_count_rules, after_new, after_entry}
 use Rattle.paper.specs.Listing.{old_line}
 use Rattle.paper.specs.Pieces.{chunk_pieces}
 use Rattle.paper.specs.Encode.{put_chunk, put_chunks}
-use Rattle.paper.specs.Keeps.{number?, hold?, head?, new-field?, value?}
+use Rattle.paper.specs.Keeps.{number?, hold?, head?}
 use Rattle.paper.specs.Scan.{heed, literal, read_type, read_new, read_line, new_text, entry_text, value_text, chunk_text}
 use Rattle.laws.specs.Hexed.{hexed, Spelt, head-hexed, known_due-hexed, type_of-hexed, after_head-hexed, field_count_rules-hexed, new-field-hexed, after_new-hexed, after_entry-hexed, spelt-head, spelt-new, spelt-entry, field_at-hexed, value-hexed}
 

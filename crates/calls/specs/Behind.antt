@@ -1,7 +1,7 @@
 -- What each call replies behind the reading of the file. Assumes nothing.
 use Rattle.std.specs.Prelude.{◌≡◌, List, ℕ, ℤ, length}
 use Rattle.std.proofs.Math.Path.{sym}
-use Rattle.std.proofs.Common.{ap, ◌∙◌, subst}
+use Rattle.std.proofs.Common.{◌∙◌, subst}
 use Rattle.paper.specs.Reader.{no}
 use Rattle.paper.specs.Ledger.{State}
 use Rattle.paper.specs.File.{file}

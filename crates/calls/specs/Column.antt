@@ -11,7 +11,7 @@ use Rattle.laws.specs.Columns.{Grows}
 use Rattle.laws.specs.Asked.{Asks, Taken}
 use Rattle.laws.specs.Lengths.{column-length}
 use Rattle.laws.specs.Refill.{file-fills}
-use Rattle.table.specs.View.{kind_from, flds_of, chunks_of, view, said, Said, Holds}
+use Rattle.table.specs.View.{kind_from, flds_of, chunks_of, view, Said, Holds}
 use Rattle.table.specs.Answers.{field_in}
 use Rattle.values.specs.Listed.{other-single}
 use Rattle.walk.specs.Few.{linkable-below}

@@ -1,7 +1,7 @@
 -- Each call's contract fixes its reply and all that is lent: any two that meet it are equal. Assumes nothing.
-use Rattle.std.specs.Prelude.{◌≡◌, refl, List, [], ℕ, ℤ}
+use Rattle.std.specs.Prelude.{◌≡◌, List, [], ℕ, ℤ}
 use Rattle.std.proofs.Common.{sym, ap, ◌∙◌, arith}
-use Rattle.paper.specs.Calls.{Answer, done, refused, Left, after_check, after_objects, after_count, after_fill}
+use Rattle.paper.specs.Calls.{Left, after_check, after_objects, after_count, after_fill}
 use Rattle.calls.specs.Told.{answer_of, after}
 use Rattle.calls.specs.declared.replies.Reply.{Reply}
 use Rattle.calls.specs.declared.replies.Reply.TheVariants.{Done, Refused}

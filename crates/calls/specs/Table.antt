@@ -1,36 +1,13 @@
 -- The four calls, by the length of the lent work table. Assumes nothing.
-use Rattle.std.specs.Prelude.{◌≡◌, refl, List, [], ◌∷◌, ◌++◌, ℕ, ◌≤◌, ◌<◌, ℤ, length, take, drop}
-use Rattle.std.proofs.Common.{sym, ap, ◌∙◌, length-take-le, le-leb}
+use Rattle.std.specs.Prelude.{◌≡◌, List, [], ◌++◌, ℕ, ◌≤◌, ◌<◌, ℤ, length, take, drop}
+use Rattle.std.proofs.Common.{length-take-le, le-leb}
 use Rattle.std.proofs.lemmas.Bool.{lt-leb}
 use Rattle.paper.specs.Reader.{if◌then◌else◌}
-use Rattle.paper.specs.Bounds.{table_length}
-use Rattle.paper.specs.Ledger.{Ledger}
-use Rattle.paper.specs.Calls.{
-  Answer,
-  refused,
-  ◌>>=◌,
-  ◌>>◌,
-  need,
-  read,
-  check,
-  objects,
-  count_values,
-  fill_values,
-  cleared,
-  left_in,
-  how_many,
-  Left,
-  tells,
-  writes,
-  after_check,
-  after_objects,
-  after_count,
-  after_fill,
-}
+use Rattle.paper.specs.Calls.{refused, ◌>>=◌, ◌>>◌, need, read, check, objects, count_values, fill_values, cleared, left_in, how_many, tells, writes, after_check, after_objects, after_count, after_fill}
 use Rattle.table.specs.Counts.{noughts}
 use Rattle.calls.specs.Told.{answer_of, after, Wrote}
 use Rattle.calls.specs.declared.replies.Reply.{Reply}
-use Rattle.calls.specs.declared.replies.Reply.TheVariants.{Done, Refused}
+use Rattle.calls.specs.declared.replies.Reply.TheVariants.{Refused}
 
 -- ── a table that is too short ──
 

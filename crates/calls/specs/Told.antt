@@ -1,10 +1,9 @@
 -- What a reply says, and what each call replies to a file that is accepted or refused. Assumes nothing.
-use Rattle.std.specs.Prelude.{◌≡◌, refl, Bool, true, false, ◌&&◌, List, [], ◌∷◌, ◌++◌, ℕ, ◌≤◌, ◌<◌, leb, eqb, ℤ, length, drop}
-use Rattle.std.proofs.Common.{sym, ap, ◌∙◌, arith, le-leb}
-use Rattle.std.proofs.Math.Option.{Option, none, some}
+use Rattle.std.specs.Prelude.{◌≡◌, refl, false, ◌&&◌, List, [], ◌∷◌, ◌++◌, ℕ, ◌≤◌, ◌<◌, leb, eqb, ℤ, length, drop}
+use Rattle.std.proofs.Common.{arith, le-leb}
+use Rattle.std.proofs.Math.Option.{none, some}
 use Rattle.std.proofs.lemmas.Bool.{lt-leb}
-use Rattle.paper.specs.Reader.{if◌then◌else◌, Out, got, no}
-use Rattle.paper.specs.Bounds.{table_length}
+use Rattle.paper.specs.Reader.{got, no}
 use Rattle.paper.specs.Ledger.{Ledger, State, type_named, field_named, field_at, objects_of}
 use Rattle.paper.specs.File.{file}
 use Rattle.paper.specs.Calls.{

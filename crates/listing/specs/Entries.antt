@@ -1,19 +1,19 @@
 -- The lines of an entry, and of all entries of a block. Assumes nothing.
-use Rattle.std.specs.Prelude.{◌≡◌, refl, Bool, true, false, ℕ, zero, suc, ◌+◌, ◌-◌, ◌≤◌, ◌<◌, leb, eqb, replicate}
+use Rattle.std.specs.Prelude.{◌≡◌, refl, true, false, ℕ, zero, suc, ◌+◌, ◌-◌, ◌≤◌, ◌<◌, leb, eqb}
 use Rattle.std.proofs.Math.Path.{sym, ap}
-use Rattle.std.proofs.Common.{◌∙◌, subst, arith, leb-true}
-use mathlib.Core.List.{List, [], ◌∷◌, ◌++◌, map, append_assoc}
-use Rattle.std.proofs.Math.Option.{Option, none, some}
+use Rattle.std.proofs.Common.{◌∙◌, arith, leb-true}
+use mathlib.Core.List.{List, [], ◌++◌, map, append_assoc}
+use Rattle.std.proofs.Math.Option.{none, some}
 use Rattle.std.proofs.Math.ListN.{length, length-map}
-use Rattle.paper.specs.Reader.{if◌then◌else◌, Reader, Out, got, no, Rule, ◌or_no◌, ◌>>=◌, times}
+use Rattle.paper.specs.Reader.{if◌then◌else◌, got, times}
 use Rattle.paper.specs.Numbers.{v64, number}
 use Rattle.paper.specs.Bounds.{most_fields}
-use Rattle.paper.specs.Lists.{flat, given?, places}
+use Rattle.paper.specs.Lists.{given?, places}
 use Rattle.paper.specs.Ledger.{New, Head, Entry, State, Field, fields_of, owns?}
 use Rattle.paper.specs.Rules.{any_type, type_of, after_head, known_due, field_count_rules, after_entry}
 use Rattle.paper.specs.Keeps.{hold?}
-use Rattle.paper.specs.File.{Upto, end_offset, new_field, upto_new, what, ends, head, fields, entry, upto_entry}
-use Rattle.paper.specs.Listing.{type_line, old_line, new_line, print_entry, print_entries}
+use Rattle.paper.specs.File.{Upto, end_offset, new_field, upto_new, what, head, fields, entry, upto_entry}
+use Rattle.paper.specs.Listing.{type_line, print_entry, print_entries}
 use Rattle.laws.specs.Bools.{and_split}
 use Rattle.laws.specs.Laws.{not-got, bind_inv}
 use Rattle.lay.specs.Laid.{most, Laid, laid_then, laid_as, Leads, leads-start, leads-on, leads-end}

@@ -1,23 +1,22 @@
 -- The lines of what stands in a pair before its values. Assumes nothing.
 use Rattle.std.specs.Prelude.{◌≡◌, false, ℕ, ◌+◌, ◌-◌, ◌≤◌, ◌<◌, take}
 use Rattle.std.proofs.Math.Path.{refl, sym, ap}
-use Rattle.std.proofs.Common.{◌∙◌, subst, arith, add-one, drop_of_length-le}
+use Rattle.std.proofs.Common.{◌∙◌, arith, add-one, drop_of_length-le}
 use mathlib.Core.List.{List, [], ◌∷◌, ◌++◌, map}
 use Rattle.std.proofs.Math.ListN.{length, drop, length-append}
 use Rattle.std.proofs.lemmas.List.{length-map}
 use Rattle.std.proofs.Math.Seq.{slice, drop-cons, drop_at}
-use Rattle.paper.specs.Reader.{Out, got, no, turned, ◌>>=◌, times}
+use Rattle.paper.specs.Reader.{Out, got, no, turned, times}
 use Rattle.paper.specs.Lists.{flat}
 use Rattle.paper.specs.Ledger.{Entry, State}
 use Rattle.paper.specs.Rules.{any_type, with_strings}
-use Rattle.paper.specs.File.{Upto, Front, what, ends, small, string_block, entry, upto_entry, front}
+use Rattle.paper.specs.File.{Front, what, ends, small, string_block, entry, upto_entry, front}
 use Rattle.paper.specs.Listing.{pair_line, string_line, print_entries}
 use Rattle.laws.specs.Laws.{not-got, bind_inv}
 use Rattle.lay.specs.Laid.{most, Laid, laid_then, laid_as, Leads, leads-start, leads-on, leads-end}
 use Rattle.table.specs.View.{strs_of, view, said, Said, Holds, strings_in}
 use Rattle.table.specs.Answers.{Stands}
 use Rattle.table.specs.NameLaws.{part_of}
-use Rattle.table.specs.declared.rows.Span.{Span}
 use Rattle.numbers.specs.Cursors.{Read, was-got, was-refused, no_step, out_step}
 use Rattle.numbers.specs.declared.Cursor.{Cursor}
 use Rattle.numbers.specs.declared.Refusal.{Refusal}
@@ -25,12 +24,10 @@ use Rattle.numbers.specs.declared.Number.{Number}
 use Rattle.numbers.specs.declared.Number.TheVariants.{Got, No}
 use Rattle.numbers.specs.declared.Step.{Step}
 use Rattle.numbers.specs.declared.Step.TheVariants as step
-use Rattle.reader.specs.Sound.{Sound}
 use Rattle.reader.specs.Kinds.{named_by}
-use Rattle.reader.specs.Fields.{going}
 use Rattle.reader.specs.Strings.{Did, add_strings}
-use Rattle.reader.specs.Entries.{entries_go, front_go}
-use Rattle.reader.specs.EntryLaws.{Passed, still-sound, front-unstrung, front-uncounted, front-got}
+use Rattle.reader.specs.Entries.{front_go}
+use Rattle.reader.specs.EntryLaws.{Passed, front-unstrung, front-uncounted, front-got}
 use Rattle.reader.specs.Runs.{times-many}
 use Rattle.listing.specs.declared.entries.Printed.{Printed}
 use Rattle.listing.specs.Prints.{give-got}

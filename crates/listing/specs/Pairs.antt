@@ -1,33 +1,29 @@
 -- The lines of a pair, and of all pairs of an accepted file. Assumes nothing.
-use Rattle.std.specs.Prelude.{◌≡◌, refl, false, ◌⊎◌, ℕ, zero, suc, ◌+◌, ◌-◌, ◌≤◌, ◌<◌, length}
+use Rattle.std.specs.Prelude.{◌≡◌, refl, ◌⊎◌, ℕ, zero, suc, ◌+◌, ◌-◌, ◌≤◌, ◌<◌, length}
 use Rattle.std.proofs.Math.Path.{sym, ap}
-use Rattle.std.proofs.Common.{◌∙◌, subst, inl, inr, arith}
+use Rattle.std.proofs.Common.{◌∙◌, inl, inr, arith}
 use mathlib.Core.List.{List, [], ◌∷◌, ◌++◌, append-nil}
-use Rattle.paper.specs.Reader.{Out, got, no, turned, part, refuse, to_end}
-use Rattle.paper.specs.Bounds.{most_pairs}
+use Rattle.paper.specs.Reader.{got, part, refuse, to_end}
 use Rattle.paper.specs.Lists.{flat, last_or}
-use Rattle.paper.specs.Ledger.{Entry, Pair, Ledger, Chunk, Due, State}
+use Rattle.paper.specs.Ledger.{Entry, Pair, Ledger, Due, State}
 use Rattle.paper.specs.Places.{Spot}
 use Rattle.paper.specs.Rules.{any_type, with_strings, dues, closed, after_front, after_pair}
-use Rattle.paper.specs.File.{Front, sized, data_region, front, pair, pairs}
+use Rattle.paper.specs.File.{Front, data_region, front, pair, pairs}
 use Rattle.paper.specs.Listing.{print_chunk, print_pair, print_pairs}
 use Rattle.laws.specs.Laws.{not-got, part-inv}
-use Rattle.laws.specs.Says.{Bytes}
 use Rattle.laws.specs.Longer.{AtEnd, Before, unless_end-inv}
 use Rattle.laws.specs.Damage.{Parts, parts, Went, went-through}
 use Rattle.lay.specs.Laid.{most, Laid, laid_then, laid_as, Leads, leads-start, leads-on, leads-end}
-use Rattle.table.specs.View.{dues_of, chunks_of, view, said, Said, Ok, Holds, block_in}
+use Rattle.table.specs.View.{dues_of, chunks_of, view, said, Said, Ok, block_in}
 use Rattle.table.specs.Counts.{next_block, Next}
 use Rattle.numbers.specs.declared.Cursor.{Cursor}
 use Rattle.numbers.specs.declared.Refusal.{Refusal}
-use Rattle.numbers.specs.declared.Number.{Number}
 use Rattle.numbers.specs.declared.Number.TheVariants.{Got, No}
 use Rattle.reader.specs.Sound.{Sound}
 use Rattle.reader.specs.Kinds.{named_by}
-use Rattle.reader.specs.Going.{Going}
 use Rattle.reader.specs.Fields.{out_going}
 use Rattle.reader.specs.Entries.{go_front, front_go}
-use Rattle.walk.specs.Region.{chunks_at, sizes, region-is}
+use Rattle.walk.specs.Region.{chunks_at, region-is}
 use Rattle.walk.specs.Blocks.{front-block}
 use Rattle.walk.specs.RegionTurns.{RegionReady}
 use Rattle.walk.specs.PairTurns.{WalkReady}

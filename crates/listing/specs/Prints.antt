@@ -1,6 +1,5 @@
 -- What is read, printed: for a reading that succeeds, its text StandsBy there and the cursor is behind it. Assumes nothing.
-use Rattle.std.specs.Prelude.{◌≡◌, refl, Bool, true, false, ◌&&◌, List, [], ◌∷◌, replicate}
-use Rattle.std.proofs.Common.{sym, ap, ◌∙◌}
+use Rattle.std.specs.Prelude.{◌≡◌, refl, true, false, List, [], ◌∷◌, replicate}
 use Prim.Native.Nat.{ℕ, zero, suc, ◌-◌, ◌≤◌, ◌<◌}
 use native.Mathlib.Omega.{arith}
 use Rattle.paper.specs.Reader.{Reader, Out, got, no, and_then, hold, must, Rule, ◌or_no◌, give, each, times}

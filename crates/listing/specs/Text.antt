@@ -1,22 +1,22 @@
 -- The call: a file as text. Assumes nothing.
-use Rattle.std.specs.Prelude.{◌≡◌, refl, Bool, true, false, List, [], ◌∷◌, ◌++◌, ℕ, ◌+◌, ◌^◌, ◌≤◌, ◌<◌, min, leb, drop}
-use Rattle.std.proofs.Common.{sym, ◌∙◌, leb-true, le-leb}
+use Rattle.std.specs.Prelude.{◌≡◌, refl, Bool, true, false, List, [], ◌++◌, ℕ, ◌^◌, ◌≤◌, ◌<◌, leb, drop}
+use Rattle.std.proofs.Common.{sym, ◌∙◌, leb-true}
 use Rattle.std.proofs.Math.Path.{ap, subst}
 use native.Mathlib.Omega.{arith}
 use Rattle.std.proofs.Math.ListN.{length}
 use Rattle.std.proofs.lemmas.Bool.{lt-leb}
-use Rattle.paper.specs.Reader.{if◌then◌else◌, Out, got, no}
+use Rattle.paper.specs.Reader.{if◌then◌else◌, got, no}
 use Rattle.paper.specs.Bounds.{most_bytes, most_pairs}
 use Rattle.paper.specs.Ledger.{Ledger, State, nothing}
 use Rattle.paper.specs.File.{pairs, file}
 use Rattle.paper.specs.Listing.{print, print_pairs}
-use Rattle.paper.specs.Calls.{known, Answer, done, refused, ◌>>=◌, ◌>>◌, need, read, fitted, listing, over_front, left_in, how_many, writes, after_listing}
+use Rattle.paper.specs.Calls.{known, ◌>>=◌, ◌>>◌, need, fitted, listing, left_in, how_many, writes, after_listing}
 use Rattle.laws.specs.Laws.{not-got}
 use Rattle.laws.specs.Longer.{file-inv}
 use Rattle.laws.specs.Says.{Bytes}
 use Rattle.laws.specs.Promises.{fitted-done}
 use Rattle.lay.specs.Laid.{most, Laid}
-use Rattle.table.specs.View.{view, said, Said, Ok}
+use Rattle.table.specs.View.{view, Said, Ok}
 use Rattle.table.specs.Counts.{noughts, begun, Begun}
 use Rattle.numbers.specs.declared.Cursor.{Cursor}
 use Rattle.numbers.specs.declared.Refusal.{Refusal}

@@ -12,7 +12,7 @@ use Rattle.paper.specs.Rules.{annotation?}
 use Rattle.paper.specs.Encode.{put_chunk}
 use Rattle.laws.specs.Put.{put_value, put-chunk}
 use Rattle.paper.specs.Scan.{value_text, chunk_text}
-use Rattle.table.specs.View.{kind_from, flds_of, log_of, view, Holds, strings_in}
+use Rattle.table.specs.View.{kind_from, flds_of, view, Holds, strings_in}
 use Rattle.table.specs.Answers.{field_in, due_in}
 use Rattle.table.specs.declared.rows.DueRow.{DueRow}
 use Rattle.table.specs.declared.rows.FieldRow.{FieldRow}
