@@ -5,7 +5,7 @@ use Rattle.std.proofs.Common.{◌∙◌, append-nil, arith, drop_of_length-le}
 use Rattle.std.proofs.Math.Option.{none, some}
 use Rattle.std.proofs.Math.ListN.{length}
 use Rattle.std.proofs.lemmas.List.Edits.{sets}
-use Rattle.paper.specs.Reader.{if◌then◌else◌, got}
+use Rattle.paper.specs.Reader.{when◌then◌else◌, got}
 use Rattle.paper.specs.Bounds.{most_bytes, most_pairs}
 use Rattle.paper.specs.Lists.{fold}
 use Rattle.paper.specs.Ledger.{Pair, Ledger, State, nothing}
@@ -93,8 +93,8 @@ module _ {t l : List ℕ} {at p q : ℕ} (G : PairGiven t l at p q) {a : FrontRe
 pub record Filled (t out m : List ℕ) : Type 0 where
   pub told : (f : List ℕ) → file_of t ≡ some f → length f ≡ length out → m ≡ f
 
-picked : (b : Bool) {f g : List ℕ} → (if b then some f else none) ≡ some g → f ≡ g
-unfolding if◌then◌else◌
+picked : (b : Bool) {f g : List ℕ} → (when b then some f else none) ≡ some g → f ≡ g
+unfolding when◌then◌else◌
 picked true q = cc q
 picked false q = let z : ◌≡◌ {A = ℕ} 0 1 = cc q in absurd (omega arith)
 

@@ -6,7 +6,7 @@ use mathlib.Core.List.{List, [], ◌++◌}
 use Rattle.std.proofs.Math.Option.{Option, none, some}
 use Rattle.std.proofs.Math.ListN.{length, drop}
 use borrow.Author.Tests.{le-leb, lt-leb, leb-true}
-use Rattle.paper.specs.Reader.{if◌then◌else◌}
+use Rattle.paper.specs.Reader.{when◌then◌else◌}
 use Rattle.paper.specs.Bounds.{most_bytes, most_pairs, table_length}
 use Rattle.paper.specs.Ledger.{Ledger}
 use Rattle.paper.specs.Encode.{encode}
@@ -72,7 +72,7 @@ module _ {t : List ℕ} {n : ℕ} (B : FileBuilt t [] [] n) where
   file-over h = rw B.reads (not_short B.ledger B.end (omega (arith, B.laid.next)))
 
   file-fits : n ≤ most_bytes → file_of t ≡ some (encode B.ledger)
-  unfolding file_of short if◌then◌else◌ most
+  unfolding file_of short when◌then◌else◌ most
   file-fits h = rw (B.reads, le-leb (length (encode B.ledger)) most_bytes (omega (arith, B.laid.next)))
 
   file-length : n ≤ most_bytes → length (encode B.ledger) ≡ n

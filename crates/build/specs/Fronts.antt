@@ -2,7 +2,7 @@
 use Rattle.std.specs.Prelude.{◌≡◌, Bool, true, false, ◌&&◌, List, ℕ}
 use Rattle.std.proofs.Math.Path.{refl}
 use Rattle.std.proofs.Common.{◌∙◌, arith}
-use Rattle.paper.specs.Reader.{if◌then◌else◌, Reader, Out, got, no, and_then, ◌>>=◌, ◌>>◌, give, each, times, repeat}
+use Rattle.paper.specs.Reader.{when◌then◌else◌, Reader, Out, got, no, and_then, ◌>>=◌, ◌>>◌, give, each, times, repeat}
 use Rattle.paper.specs.Ledger.{Entry, Chunk, Pair, State}
 use Rattle.paper.specs.Rules.{small_rules, strings_rules, with_strings, after_entry, dues, kinds_stand?, after_front}
 use Rattle.paper.specs.Keeps.{number?}
@@ -19,16 +19,16 @@ with_values s strings entries t at = and_then (region_text s strings entries t a
 -- ── a pair, by what each of its readings gives ──
 
 abbrev both : {A : Type 0} → Bool → Bool → (Unit {0} → ℕ → Out A) → ℕ → Out A
-both a b k e = and_then (if a then got (tt {0}) e else no 20 0) (λ u e. and_then (if b then got (tt {0}) e else no 20 0) k)
+both a b k e = and_then (when a then got (tt {0}) e else no 20 0) (λ u e. and_then (when b then got (tt {0}) e else no 20 0) k)
 
 not-both : {A : Type 0} (a b : Bool) (k : Unit {0} → ℕ → Out A) (e : ℕ) → (a && b) ≡ false → both a b k e ≡ no 20 0
-unfolding if◌then◌else◌
+unfolding when◌then◌else◌
 not-both true true k e q = let z : ◌≡◌ {A = ℕ} 0 1 = cc q in absurd (omega arith)
 not-both true false k e q = refl
 not-both false b k e q = refl
 
 so-both : {A : Type 0} (a b : Bool) (k : Unit {0} → ℕ → Out A) (e : ℕ) → (a && b) ≡ true → both a b k e ≡ k tt e
-unfolding if◌then◌else◌
+unfolding when◌then◌else◌
 so-both true true k e q = refl
 so-both true false k e q = let z : ◌≡◌ {A = ℕ} 0 1 = cc q in absurd (omega arith)
 so-both false b k e q = let z : ◌≡◌ {A = ℕ} 0 1 = cc q in absurd (omega arith)
@@ -66,9 +66,9 @@ module _ (s : State) (t : List ℕ) (at : ℕ) where
 
         module _ {es : List Entry} {e₃ : ℕ} (h₄ : times m entry_text after_entry (with_strings s ss) t e₂ ≡ got es e₃) where
           pub pair-no-kinds : kinds_stand? (after_front s ss es) es ≡ false → pair_text s t at ≡ no 20 0
-          unfolding strung heed if◌then◌else◌
+          unfolding strung heed when◌then◌else◌
           pair-no-kinds h = few ∙ rw (h₃, h₄, h)
 
           pub pair-fronted : kinds_stand? (after_front s ss es) es ≡ true → pair_text s t at ≡ with_values s ss es t e₃
-          unfolding strung heed if◌then◌else◌
+          unfolding strung heed when◌then◌else◌
           pair-fronted h = few ∙ rw (h₃, h₄, h)

@@ -6,7 +6,7 @@ use Rattle.std.proofs.Math.Option.{none}
 use Prim.Native.Nat.{ℕ, zero, suc, ◌+◌, ◌-◌, ◌≤◌, ◌<◌}
 use native.Mathlib.Omega.{arith}
 use borrow.Author.Tests.{leb-true, leb-false, not-true, not-false, le-leb, lt-leb}
-use Rattle.paper.specs.Reader.{if◌then◌else◌, Out, got, no, and_then, ◌>>=◌, give, unless_end, to_end}
+use Rattle.paper.specs.Reader.{when◌then◌else◌, Out, got, no, and_then, ◌>>=◌, give, unless_end, to_end}
 use Rattle.paper.specs.Bounds.{most_bytes, most_pairs}
 use Rattle.paper.specs.Lists.{fold}
 use Rattle.paper.specs.Ledger.{Pair, Ledger, State, nothing}
@@ -44,19 +44,19 @@ pub record Built (s : State) (t l : List ℕ) (from : ℕ) (out : List ℕ) (at 
 
 module _ (s : State) (t : List ℕ) (at : ℕ) where
   to-end-done : (n : ℕ) → length t ≤ at → to_end n bad pair_text after_pair s t at ≡ got [] at
-  unfolding to_end unless_end if◌then◌else◌
+  unfolding to_end unless_end when◌then◌else◌
   to-end-done zero le = rw (le-leb (length t) at le)
   to-end-done (suc n) le = rw (le-leb (length t) at le)
 
   module _ (lt : at < length t) where
     to-end-over : (n : ℕ) → n ≡ 0 → to_end n bad pair_text after_pair s t at ≡ no 20 0
-    unfolding to_end unless_end if◌then◌else◌ bad
+    unfolding to_end unless_end when◌then◌else◌ bad
     to-end-over n z = rw (z, lt-leb (length t) at lt)
 
     to-end-step :
         (n : ℕ) → 0 < n
         → to_end n bad pair_text after_pair s t at ≡ and_then (pair_text s t at) (λ p e. and_then (to_end (n - 1) bad pair_text after_pair (after_pair s p) t e) (λ l q. got (p ∷ l) q))
-    unfolding to_end unless_end if◌then◌else◌ ◌>>=◌ give
+    unfolding to_end unless_end when◌then◌else◌ ◌>>=◌ give
     to-end-step zero pos = absurd (omega arith)
     to-end-step (suc n) pos = let z : suc n - 1 ≡ n = omega arith in rw (lt-leb (length t) at lt, z) refl
 
@@ -81,7 +81,7 @@ too-long done p more h =
     rw (puts-more nothing done (p ∷ more), length-append (put_pairs nothing done) (put_pairs (fold after_pair nothing done) (p ∷ more)), length-append) (omega arith)
 
 pub not_short : (l : Ledger) (e : ℕ) → most_bytes < length (encode l) → short (got l e) ≡ none
-unfolding short if◌then◌else◌
+unfolding short when◌then◌else◌
 not_short l e h = rw (lt-leb (length (encode l)) most_bytes h)
 
 -- by the answer of the code

@@ -4,7 +4,7 @@ use Rattle.std.proofs.Common.{arith}
 use Rattle.std.proofs.Math.Nat.{lt_of_not-le}
 use Rattle.std.proofs.Math.Decide.{dec_le}
 use borrow.Author.Tests.{le-leb, lt-ltb, le-ltb, ne_eqb}
-use Rattle.paper.specs.Reader.{if◌then◌else◌}
+use Rattle.paper.specs.Reader.{when◌then◌else◌}
 use Rattle.paper.specs.Ledger.{plain}
 use Rattle.paper.specs.Calls.{asked}
 use Rattle.table.specs.View.{kind_from}
@@ -12,7 +12,7 @@ use Rattle.values.specs.Chunks.{kind-array, kind-many, kind-plain}
 
 module _ (k e : ℕ) where
   pub asked-constant : k ≤ 4 → (a : ℕ) → k ≡ asked (kind_from k a e)
-  unfolding kind_from if◌then◌else◌ asked
+  unfolding kind_from when◌then◌else◌ asked
   asked-constant h a =
       elim (dec_le k 3) [
         | yes d ↦ rw (le-leb k 3 d)
@@ -28,7 +28,7 @@ module _ (k e : ℕ) where
   asked-many h l a = rw (kind-many k a e h l)
 
   pub asked-map : k ≡ 20 → (a : ℕ) → 33 ≡ asked (kind_from k a e)
-  unfolding kind_from if◌then◌else◌ asked
+  unfolding kind_from when◌then◌else◌ asked
   asked-map h a = rw h
 
   -- arrays and maps
@@ -45,13 +45,13 @@ module _ (k e : ℕ) where
 
 module _ (e : ℕ) where
   pub asked-annotation : e ≡ 5 → 33 ≡ asked (plain e)
-  unfolding asked if◌then◌else◌
+  unfolding asked when◌then◌else◌
   asked-annotation h = rw h
 
   pub asked-plain : (e ≡ 5 → ⊥) → e < 32 → e ≡ asked (plain e)
-  unfolding asked if◌then◌else◌
+  unfolding asked when◌then◌else◌
   asked-plain other lt = rw (ne_eqb e 5 other, lt-ltb e 32 lt)
 
   pub asked-type : 32 ≤ e → 32 ≡ asked (plain e)
-  unfolding asked if◌then◌else◌
+  unfolding asked when◌then◌else◌
   asked-type le = rw (ne_eqb e 5 (λ q. omega arith), le-ltb e 32 le)

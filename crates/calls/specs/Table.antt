@@ -2,7 +2,7 @@
 use Rattle.std.specs.Prelude.{◌≡◌, List, [], ◌++◌, ℕ, ◌≤◌, ◌<◌, ℤ, length, take, drop}
 use Rattle.std.proofs.Common.{length-take-le, le-leb}
 use Rattle.std.proofs.lemmas.Bool.{lt-leb}
-use Rattle.paper.specs.Reader.{if◌then◌else◌}
+use Rattle.paper.specs.Reader.{when◌then◌else◌}
 use Rattle.paper.specs.Calls.{refused, ◌>>=◌, ◌>>◌, need, read, check, objects, count_values, fill_values, cleared, left_in, how_many, tells, writes, after_check, after_objects, after_count, after_fill}
 use Rattle.table.specs.Counts.{noughts}
 use Rattle.calls.specs.Told.{answer_of, after, Wrote}
@@ -13,7 +13,7 @@ use Rattle.calls.specs.declared.replies.Reply.TheVariants.{Refused}
 
 module _ (f w : List ℕ) (lt : length w < 16384) where
   pub untouched : cleared w ≡ w
-  unfolding cleared if◌then◌else◌
+  unfolding cleared when◌then◌else◌
   untouched = rw (lt-leb 16384 (length w) lt)
 
   pub read_short : read (length w) f ≡ refused 15
@@ -45,7 +45,7 @@ front_long w le = length-take-le 16384 w le
 
 module _ (f w : List ℕ) (le : 16384 ≤ length w) where
   pub noughts-first : cleared w ≡ noughts ++ drop 16384 w
-  unfolding cleared if◌then◌else◌ noughts
+  unfolding cleared when◌then◌else◌ noughts
   noughts-first = rw (le-leb 16384 (length w) le)
 
   pub read-long : read (length w) f ≡ read 16384 f

@@ -9,15 +9,15 @@ use mir.Syntax.{w64}
 use mir.Val.{SFits, to_z, of_z}
 use mir.Facts.{to_z-of_z, to_z_pos}
 use borrow.Author.Tests.{le-leb, lt-leb, lt-ltb}
-use Rattle.paper.specs.Reader.{if◌then◌else◌}
+use Rattle.paper.specs.Reader.{when◌then◌else◌}
 use Rattle.capi.specs.Coded.{up_to_top}
 
 pub top-low : (n : ℕ) → n ≤ 9223372036854775807 → up_to_top n ≡ n
-unfolding up_to_top if◌then◌else◌
+unfolding up_to_top when◌then◌else◌
 top-low n h = rw (le-leb n 9223372036854775807 h)
 
 pub top-high : (n : ℕ) → 9223372036854775807 < n → up_to_top n ≡ 9223372036854775807
-unfolding up_to_top if◌then◌else◌
+unfolding up_to_top when◌then◌else◌
 top-high n h = rw (lt-leb n 9223372036854775807 h)
 
 -- what the code gives on each side

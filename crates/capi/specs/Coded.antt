@@ -3,7 +3,7 @@ use Rattle.std.specs.Prelude.{◌≡◌, List, ℕ, zero, suc, ◌≤◌, ◌<�
 use Rattle.std.proofs.Math.Path.{refl, ap}
 use Rattle.std.proofs.Common.{sym, ◌∙◌, arith, le-leb}
 use Rattle.std.proofs.Math.ListN.{length}
-use Rattle.paper.specs.Reader.{if◌then◌else◌}
+use Rattle.paper.specs.Reader.{when◌then◌else◌}
 use Rattle.paper.specs.Calls.{Answer, done, refused, check, objects, count_values, fill_values, listing, build, how_many, Left, tells, writes, after_check, after_objects, after_count, after_fill, after_listing, after_build}
 use Rattle.laws.specs.Says.{Bytes}
 use Rattle.paper.specs.Listing.{print}
@@ -53,7 +53,7 @@ some-coded left h = record { number = refl; back = decoded-back left.answer h; t
 -- ── in code no number passes the top of the range, and none comes near it ──
 
 unfoldable pub up_to_top : ℕ → ℕ
-up_to_top n = if leb n 9223372036854775807 then n else 9223372036854775807
+up_to_top n = when leb n 9223372036854775807 then n else 9223372036854775807
 
 unfoldable pub coded_up_to : Answer ℕ → ℤ
 coded_up_to (done n) = pos (up_to_top n)
@@ -64,7 +64,7 @@ Small (done n) = n ≤ 9223372036854775807
 Small (refused n) = n ≤ 9223372036854775807
 
 up_to : (n : ℕ) → n ≤ 9223372036854775807 → up_to_top n ≡ n
-unfolding up_to_top if◌then◌else◌
+unfolding up_to_top when◌then◌else◌
 up_to n h = rw (le-leb n 9223372036854775807 h)
 
 small-code : (a : Answer ℕ) → Small a → coded_up_to a ≡ coded a

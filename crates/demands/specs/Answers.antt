@@ -3,7 +3,7 @@ use Rattle.std.specs.Prelude.{◌≡◌, refl, List, [], ◌∷◌, ◌++◌, �
 use Rattle.std.proofs.Common.{sym, ap, ◌∙◌, arith, length-append, le-leb}
 use Rattle.std.proofs.lemmas.List.{length-replicate}
 use Rattle.std.proofs.lemmas.Bool.{lt-leb}
-use Rattle.paper.specs.Reader.{if◌then◌else◌}
+use Rattle.paper.specs.Reader.{when◌then◌else◌}
 use Rattle.paper.specs.Bounds.{table_length}
 use Rattle.paper.specs.Calls.{Answer, done, refused, Left, cleared, writes, tells, after_check, after_objects, after_count, after_fill, after_listing, after_build}
 use Rattle.laws.specs.Answers.{Refusal, check-refusals, objects-refusals, count-refusals, fill-refusals, listing-refusals, build-refusals}
@@ -78,12 +78,12 @@ module _ (n : ℕ) {w : List ℕ} where
 
 -- the first 16,384 numbers are 0 and the rest as lent
 pub cleared-long : (work : List ℕ) → table_length ≤ length work → cleared work ≡ replicate table_length 0 ++ drop table_length work
-unfolding cleared if◌then◌else◌
+unfolding cleared when◌then◌else◌
 cleared-long work h = rw (le-leb table_length (length work) h)
 
 -- a shorter one is untouched
 pub cleared-short : (work : List ℕ) → length work < table_length → cleared work ≡ work
-unfolding cleared if◌then◌else◌
+unfolding cleared when◌then◌else◌
 cleared-short work h = rw (lt-leb table_length (length work) h)
 
 -- a long one stays long

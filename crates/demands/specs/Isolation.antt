@@ -4,7 +4,7 @@ use Rattle.std.proofs.Math.Path.{sym, ap}
 use Rattle.std.proofs.Common.{◌∙◌, arith, eqb-true}
 use Rattle.std.proofs.Math.Option.{Option, none, some}
 use Rattle.std.proofs.Math.ListN.{length}
-use Rattle.paper.specs.Reader.{if◌then◌else◌}
+use Rattle.paper.specs.Reader.{when◌then◌else◌}
 use Rattle.paper.specs.Bounds.{table_length}
 use Rattle.paper.specs.Lists.{same, place, place_named}
 use Rattle.paper.specs.Ledger.{Ledger, State, Field, no_field, type_named, field_named, field_at, objects_of, called?, owns?}
@@ -35,12 +35,12 @@ same_bytes (x ∷ a) (y ∷ b) h =
 
 -- what is found passes
 place-passes : {A : Type 0} (p : A → Bool) (d : A) (i t : ℕ) (xs : List A) → place p i xs ≡ some t → (k : ℕ) × (t ≡ i + k) × (p (get_or xs k d) ≡ true)
-unfolding place if◌then◌else◌
+unfolding place when◌then◌else◌
 place-passes p d i t [] h = let z : ◌≡◌ {A = ℕ} 0 1 = cc h in absurd (omega arith)
 place-passes p d i t (x ∷ xs) h = go (place-passes p d (suc i) t xs) (p x) refl h
   where
     go :
-        (place p (suc i) xs ≡ some t → (k : ℕ) × (t ≡ suc i + k) × (p (get_or xs k d) ≡ true)) → (b : Bool) → p x ≡ b → (if b then some i else place p (suc i) xs) ≡ some t
+        (place p (suc i) xs ≡ some t → (k : ℕ) × (t ≡ suc i + k) × (p (get_or xs k d) ≡ true)) → (b : Bool) → p x ≡ b → (when b then some i else place p (suc i) xs) ≡ some t
         → (k : ℕ) × (t ≡ i + k) × (p (get_or (x ∷ xs) k d) ≡ true)
     go ih true e q = let z : i ≡ t = cc q in (0, omega arith, e)
     go ih false e q = let (k, y, z) = ih q in (suc k, omega arith, z)
@@ -48,14 +48,14 @@ place-passes p d i t (x ∷ xs) h = go (place-passes p d (suc i) t xs) (p x) ref
 named-passes :
     {A B : Type 0} (p : A → B → Bool) (d : A) (c : B) (i t : ℕ) (xs : List A) (ys : List B) → place_named p i xs ys ≡ some t
     → (k : ℕ) × (t ≡ i + k) × (p (get_or xs k d) (get_or ys k c) ≡ true)
-unfolding place_named if◌then◌else◌
+unfolding place_named when◌then◌else◌
 named-passes p d c i t [] ys h = let z : ◌≡◌ {A = ℕ} 0 1 = cc h in absurd (omega arith)
 named-passes p d c i t (x ∷ xs) [] h = let z : ◌≡◌ {A = ℕ} 0 1 = cc h in absurd (omega arith)
 named-passes p d c i t (x ∷ xs) (y ∷ ys) h = go (named-passes p d c (suc i) t xs ys) (p x y) refl h
   where
     go :
         (place_named p (suc i) xs ys ≡ some t → (k : ℕ) × (t ≡ suc i + k) × (p (get_or xs k d) (get_or ys k c) ≡ true)) → (b : Bool) → p x y ≡ b
-        → (if b then some i else place_named p (suc i) xs ys) ≡ some t → (k : ℕ) × (t ≡ i + k) × (p (get_or (x ∷ xs) k d) (get_or (y ∷ ys) k c) ≡ true)
+        → (when b then some i else place_named p (suc i) xs ys) ≡ some t → (k : ℕ) × (t ≡ i + k) × (p (get_or (x ∷ xs) k d) (get_or (y ∷ ys) k c) ≡ true)
     go ih true e q = let z : i ≡ t = cc q in (0, omega arith, e)
     go ih false e q = let (k, u, v) = ih q in (suc k, omega arith, v)
 

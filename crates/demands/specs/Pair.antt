@@ -9,7 +9,7 @@ use Rattle.std.proofs.Math.ListN.{length}
 use Rattle.std.proofs.lemmas.List.{length-replicate}
 use Rattle.std.proofs.Math.Seq.{length-take-le}
 use borrow.Author.Tests.{le-leb, lt-leb, leb-true}
-use Rattle.paper.specs.Reader.{if◌then◌else◌}
+use Rattle.paper.specs.Reader.{when◌then◌else◌}
 use Rattle.paper.specs.Bounds.{table_length}
 use Rattle.paper.specs.Calls.{Answer, done, refused, ◌>>=◌, ◌>>◌, need, read, column_of, count_values, fill_values, how_many, left_in, over_front, cleared, Left, writes, tells, after_count, after_fill}
 use Rattle.laws.specs.Says.{Bytes}
@@ -25,7 +25,7 @@ use Rattle.demands.specs.Exact.{Counted, Filled, count-says}
 
 -- what the second call replies, by the first one's reply and the room that it is lent
 unfoldable pub then_fill : Reply → ℕ → Reply
-then_fill (Done n) room = if leb n room then Done n else Refused 19
+then_fill (Done n) room = when leb n room then Done n else Refused 19
 then_fill (Refused n) room = Refused n
 
 -- ── a table that is long enough is as good as another ──
@@ -42,11 +42,11 @@ module _ (f type field : List ℕ) (k table table' : ℕ) (h : table_length ≤ 
 -- ── the replies ──
 
 reply-then : (r q : Reply) (room : ℕ) → answer_of q ≡ (answer_of r >>= λ n. need (leb n room) 19 >> done n) → q ≡ then_fill r room
-unfolding answer_of then_fill need ◌>>=◌ ◌>>◌ if◌then◌else◌
+unfolding answer_of then_fill need ◌>>=◌ ◌>>◌ when◌then◌else◌
 reply-then (Refused n) q room h = said-refused q n h
 reply-then (Done n) q room h = go (leb n room) h
   where
-    go : (fits : Bool) → answer_of q ≡ (need fits 19 >> done n) → q ≡ (if fits then Done n else Refused 19)
+    go : (fits : Bool) → answer_of q ≡ (need fits 19 >> done n) → q ≡ (when fits then Done n else Refused 19)
     go true h = said-done q n h
     go false h = said-refused q 19 h
 

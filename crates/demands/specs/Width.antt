@@ -1,7 +1,7 @@
 -- Full width: the number that a column holds determines the value, whatever the kind of the column. Assumes nothing.
 use Rattle.std.specs.Prelude.{◌≡◌, refl, Bool, true, false, ◌&&◌, not, ℕ, zero, suc, ◌+◌, ◌-◌, ◌*◌, ◌^◌, ◌≤◌, ◌<◌, leb, ltb, eqb, ℤ, pos, negsuc}
 use Rattle.std.proofs.Common.{sym, ap, ◌∙◌, arith, leb-true, leb-false, ltb-true, eqb-true}
-use Rattle.paper.specs.Reader.{if◌then◌else◌}
+use Rattle.paper.specs.Reader.{when◌then◌else◌}
 use Rattle.paper.specs.Numbers.{signed, unsigned}
 use Rattle.paper.specs.Ledger.{plain, Element, flag, whole, float, link, annotation, keys, State}
 use Rattle.paper.specs.Keeps.{element?, whole?, signed?}
@@ -39,14 +39,14 @@ unfolding element?
 link-kind s k n h = let (a, _) = and_split (not (leb k 13)) _ h in leb-false k 13 (not-true (leb k 13) a)
 
 float-bits : (w n : ℕ) → ℤ
-float-bits w n = if eqb w 8 then signed 8 n else pos n
+float-bits w n = when eqb w 8 then signed 8 n else pos n
 
 -- a float's bits are those that its number says
 bits-same : (w n m : ℕ) → n < 256 ^ w → m < 256 ^ w → float-bits w n ≡ float-bits w m → n ≡ m
-unfolding float-bits if◌then◌else◌
+unfolding float-bits when◌then◌else◌
 bits-same w n m a b = go (eqb w 8) refl
   where
-    go : (c : Bool) → eqb w 8 ≡ c → (if c then signed 8 n else pos n) ≡ (if c then signed 8 m else pos m) → n ≡ m
+    go : (c : Bool) → eqb w 8 ≡ c → (when c then signed 8 n else pos n) ≡ (when c then signed 8 m else pos m) → n ≡ m
     go true e q =
         let z = eqb-true w 8 e in
         let a₈ : n < 256 ^ 8 = rw z at a in
@@ -56,7 +56,7 @@ bits-same w n m a b = go (eqb w 8) refl
 
 -- annotations have no column
 no-annotation : (s : State) (k m n : ℕ) → asked (plain k) ≤ 32 → element? s k (annotation m n) ≡ true → ⊥
-unfolding element? asked if◌then◌else◌
+unfolding element? asked when◌then◌else◌
 no-annotation s k m n c h =
     let (five, _) = and_split (eqb k 5) _ h in
     let most : 33 ≤ 32 = rw five at c in

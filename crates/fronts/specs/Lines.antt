@@ -5,7 +5,7 @@ use Rattle.std.proofs.Common.{sym, ap, ◌∙◌, append_assoc, arith, zero-add,
 use Rattle.std.proofs.Math.Option.{Option, none, some}
 use Rattle.std.proofs.lemmas.List.{length-map, length-replicate}
 use Rattle.std.proofs.Math.Seq.{take-nil, drop-nil}
-use Rattle.paper.specs.Reader.{if◌then◌else◌, Reader, Out, got, no, and_then, ◌>>=◌, ◌>>◌, give, each, times, repeat}
+use Rattle.paper.specs.Reader.{when◌then◌else◌, Reader, Out, got, no, and_then, ◌>>=◌, ◌>>◌, give, each, times, repeat}
 use Rattle.paper.specs.Numbers.{put}
 use Rattle.paper.specs.Lists.{flat}
 use Rattle.paper.specs.Ledger.{New, Head, Entry, State}
@@ -86,10 +86,10 @@ all_lines s (e ∷ es) = lines_of (length (known_due s e.head)) e ∷ all_lines 
 
 -- a byte is one and no other
 byte-is : (b : ℕ) (t : List ℕ) (at : ℕ) {u : Unit {0}} {e : ℕ} → byte_is b t at ≡ got u e → get_or t at 256 ≡ b
-unfolding byte_is if◌then◌else◌
+unfolding byte_is when◌then◌else◌
 byte-is b t at {u} {e} h = go (eqb (get_or t at 256) b) refl h
   where
-    go : (x : Bool) → eqb (get_or t at 256) b ≡ x → (if x then got tt (at + 1) else no 20 0) ≡ got u e → get_or t at 256 ≡ b
+    go : (x : Bool) → eqb (get_or t at 256) b ≡ x → (when x then got tt (at + 1) else no 20 0) ≡ got u e → get_or t at 256 ≡ b
     go true s q = eqb-true (get_or t at 256) b s
     go false s q = not-got q
 
@@ -99,7 +99,7 @@ literal-first b bs t at {u} {e} h = byte-is b t at (then-inv (byte_is b) (litera
 
 -- a rule that is kept
 pub heed-then : {B : Type 0} (b : Bool) (r : Reader B) (t : List ℕ) (at : ℕ) (v : B) (e : ℕ) → (heed b >> r) t at ≡ got v e → (b ≡ true) × (r t at ≡ got v e)
-unfolding heed if◌then◌else◌ ◌>>◌
+unfolding heed when◌then◌else◌ ◌>>◌
 heed-then true r t at v e h = (refl, h)
 heed-then false r t at v e h = not-got h
 
@@ -121,7 +121,7 @@ old-line t at h = rw h
 
 -- a line that was read as a new field's does not begin as a known one's
 pub new_line : (t : List ℕ) (at : ℕ) {g : New} {e : ℕ} → read_new t at ≡ got g e → kind_kept? g.kind ≡ true → field_line t at ≡ got (some g) e
-unfolding field_line old_or kept_new heed if◌then◌else◌ give ◌>>=◌ ◌>>◌
+unfolding field_line old_or kept_new heed when◌then◌else◌ give ◌>>=◌ ◌>>◌
 new_line t at {g} {e} h kept = go (literal old_line t at) refl
   where
     go : (o : Out (Unit {0})) → literal old_line t at ≡ o → old_or o (kept_new t at) ≡ got (some g) e

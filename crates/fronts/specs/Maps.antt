@@ -5,7 +5,7 @@ use Rattle.std.proofs.Math.Path.{sym, ap}
 use Rattle.std.proofs.Common.{◌∙◌, append_assoc, ne_eqb}
 use native.Mathlib.Omega.{arith}
 use Rattle.std.proofs.lemmas.List.{length-map}
-use Rattle.paper.specs.Reader.{if◌then◌else◌, Reader, got, no, ◌>>=◌, ◌>>◌, give, repeat}
+use Rattle.paper.specs.Reader.{when◌then◌else◌, Reader, got, no, ◌>>=◌, ◌>>◌, give, repeat}
 use Rattle.paper.specs.Numbers.{signed, put_fixed, put}
 use Rattle.paper.specs.Lists.{flat}
 use Rattle.paper.specs.Ledger.{Kind, constant, plain, array, many, mapping, New}
@@ -46,12 +46,12 @@ noted-whole (many c k) h = refl
 noted-whole (mapping ks) h = not_so (sym h)
 
 not-map : (k a e : ℕ) → (k ≡ 20 → ⊥) → map? (kind_from k a e) ≡ false
-unfolding kind_from map? if◌then◌else◌
+unfolding kind_from map? when◌then◌else◌
 not-map k a e other = rw (ne_eqb k 20 other) (go (leb k 3) (eqb k 4) (eqb k 15) (leb 17 k && leb k 19))
   where
     go :
         (b c d f : Bool)
-        → map? (if b then constant k (signed (2 ^ k) a) else if c then constant k (signed 8 a) else if d then array a e else if f then many k e else plain e) ≡ false
+        → map? (when b then constant k (signed (2 ^ k) a) else when c then constant k (signed 8 a) else when d then array a e else when f then many k e else plain e) ≡ false
     go true c d f = refl
     go false true d f = refl
     go false false true f = refl
@@ -68,7 +68,7 @@ pub record MapKind (x : Kind) (n : ℕ) : Type 0 where
   pub long : length kinds ≡ n
 
 map-kind : (n e : ℕ) (x : Kind) → kind_from 20 n e ≡ noted x → MapKind x n
-unfolding kind_from noted map? if◌then◌else◌
+unfolding kind_from noted map? when◌then◌else◌
 map-kind n e (constant k v) is = not_so (sym (ap map? is))
 map-kind n e (plain k) is = not_so (sym (ap map? is))
 map-kind n e (array m k) is = not_so (sym (ap map? is))
@@ -112,7 +112,7 @@ ended-got c r t at h b = rw (h, b)
 -- and a map's kind has them
 kind_at :
     (t : List ℕ) (at p : ℕ) (ks : List ℕ) (e : ℕ) → literal (ascii "new\t") t at ≡ got tt p → read_kind t p ≡ got (mapping ks) e → MapAt t at ks
-unfolding read_kind map? if◌then◌else◌
+unfolding read_kind map? when◌then◌else◌
 kind_at t at p ks e begins h =
     let A = bind_inv natural _ t p (mapping ks) e h in
     go A.value A.next A.first (leb A.value 4) (eqb A.value 15) (leb 17 A.value && leb A.value 19) (eqb A.value 20) A.rest
@@ -142,10 +142,10 @@ kind_at t at p ks e begins h =
 
     go :
         (k q : ℕ) → natural t p ≡ got k q → (a b c d : Bool)
-        → (if a then (byte_is comma >> (integer >>= λ v. give (constant k v))) else
-        if b then (byte_is comma >> (ended comma natural >>= λ n. natural >>= λ e. give (array n e))) else
-        if c then (byte_is comma >> (natural >>= λ e. give (many k e))) else
-        if d then (byte_is comma >> (natural >>= λ n. repeat n behind_comma >>= λ ks. give (mapping ks))) else
+        → (when a then (byte_is comma >> (integer >>= λ v. give (constant k v))) else
+        when b then (byte_is comma >> (ended comma natural >>= λ n. natural >>= λ e. give (array n e))) else
+        when c then (byte_is comma >> (natural >>= λ e. give (many k e))) else
+        when d then (byte_is comma >> (natural >>= λ n. repeat n behind_comma >>= λ ks. give (mapping ks))) else
         give (plain k)) t q ≡ got (mapping ks) e
         → MapAt t at ks
     go k q first true b c d r =

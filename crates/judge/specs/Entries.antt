@@ -3,7 +3,7 @@ use Rattle.std.specs.Prelude.{◌≡◌, Bool, List, [], ◌∷◌, ◌++◌, ma
 use Rattle.std.proofs.Math.Path.{refl, sym}
 use Rattle.std.proofs.Common.{ap, ◌∙◌, append_assoc, append-nil}
 use Rattle.std.proofs.lemmas.List.{map-append}
-use Rattle.paper.specs.Reader.{if◌then◌else◌, Reader, Out, got, no, and_then, turned, ◌>>=◌, ◌>>◌, give, times, repeat}
+use Rattle.paper.specs.Reader.{when◌then◌else◌, Reader, Out, got, no, and_then, turned, ◌>>=◌, ◌>>◌, give, times, repeat}
 use Rattle.paper.specs.Lists.{fold}
 use Rattle.paper.specs.Ledger.{New, Head, Entry, State, field_at, fields_of}
 use Rattle.paper.specs.Rules.{type_of, after_head, known_due, field_count_rules, after_new, after_entry, old_due, entry_dues, dues}
@@ -45,7 +45,7 @@ module _ (s : State) (f : List ℕ) where
   known h = length (known_due s h)
 
   abbrev rule : Bool → ℕ → Out (Unit {0})
-  rule b e = if b then got tt e else no 20 0
+  rule b e = when b then got tt e else no 20 0
 
   abbrev counted : Head × ℕ → ℕ → Out (Unit {0})
   counted h e = rule (number? (field_count_rules (after_head s h.0) (known h.0)) h.1) e

@@ -2,7 +2,7 @@
 use Rattle.std.proofs.Math.Path.{◌≡◌, refl, ap}
 use Rattle.std.proofs.Common.{sym, ◌∙◌, arith}
 use Rattle.std.specs.Prelude.{List, ℕ, ◌-◌, ◌≤◌, ◌<◌, length}
-use Rattle.paper.specs.Reader.{if◌then◌else◌, Out, got, no, and_then, turned, ◌>>=◌, ◌>>◌, give, times}
+use Rattle.paper.specs.Reader.{when◌then◌else◌, Out, got, no, and_then, turned, ◌>>=◌, ◌>>◌, give, times}
 use Rattle.paper.specs.Lists.{fold}
 use Rattle.paper.specs.Ledger.{Head, Entry}
 use Rattle.paper.specs.Rules.{type_of, after_entry}
@@ -44,7 +44,7 @@ module _ {f l l₁ : List ℕ} {at : ℕ} {a : HeadText} (told : HeadTold f l at
 
   module _ {top : Top} {n : ℕ} {c : Place} (is : a ≡ text.Got top n c) where
     headed : kept_type (view f l) f at ≡ got (head_of top, n) c.at
-    unfolding kept_type heed ◌>>=◌ ◌>>◌ give if◌then◌else◌
+    unfolding kept_type heed ◌>>=◌ ◌>>◌ give when◌then◌else◌
     headed = let G = (rw is at told).told in rw (G.read, G.keeps) (ap (λ (h : Head). got (h, n) c.at) (sym G.same))
 
     pub entry-got :

@@ -1,6 +1,6 @@
 -- The fields of an entry, read from a text, as steps of all that the table says. No chunk has a size yet. Assumes nothing.
 use Rattle.std.specs.Prelude.{◌≡◌, List, [], ◌∷◌, ◌++◌, map, ℕ, ◌+◌, ◌-◌, length}
-use Rattle.paper.specs.Reader.{if◌then◌else◌, Reader, Out, got, no, turned, ◌>>=◌, ◌>>◌, times, repeat}
+use Rattle.paper.specs.Reader.{when◌then◌else◌, Reader, Out, got, no, turned, ◌>>=◌, ◌>>◌, times, repeat}
 use Rattle.paper.specs.Lists.{fold}
 use Rattle.paper.specs.Ledger.{New, Due, State, owns?, field_at, objects_of}
 use Rattle.paper.specs.Rules.{field_count_rules, after_new, old_due, new_dues}
@@ -25,7 +25,7 @@ add_old added s i = record { state = s.state; due = s.due ++ unsized (old_due s.
 
 -- field i, where it is one of type t
 unfoldable pub old_step : ℕ → ℕ → ℕ → Said → Said
-old_step added t i s = if owns? t (field_at s.state i) then add_old added s i else s
+old_step added t i s = when owns? t (field_at s.state i) then add_old added s i else s
 
 -- those at these places
 unfoldable pub add_olds : ℕ → Said → List ℕ → Said

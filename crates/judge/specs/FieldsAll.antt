@@ -3,7 +3,7 @@ use Rattle.std.proofs.Math.Path.{◌≡◌, refl, ap}
 use Rattle.std.proofs.Common.{sym, ◌∙◌, append_assoc, append-nil, arith, length-append, leb-true}
 use Rattle.std.specs.Prelude.{true, false, List, [], ◌∷◌, ◌++◌, map, ℕ, suc, ◌+◌, ◌-◌, ◌≤◌, length}
 use Rattle.std.proofs.lemmas.List.{map-append}
-use Rattle.paper.specs.Reader.{if◌then◌else◌, Out, got, no, and_then, turned, ◌>>=◌, ◌>>◌, times, repeat}
+use Rattle.paper.specs.Reader.{when◌then◌else◌, Out, got, no, and_then, turned, ◌>>=◌, ◌>>◌, times, repeat}
 use Rattle.paper.specs.Lists.{fold, total}
 use Rattle.paper.specs.Ledger.{New, State, of?, size, objects_of}
 use Rattle.paper.specs.Rules.{field_count_rules, after_new, old_due, new_dues}
@@ -52,14 +52,14 @@ module _ (t added n : ℕ) (s : Said) (f : List ℕ) (at : ℕ) where
   known_of = length (olds_of added s.state t)
 
   fields-refused : number? (field_count_rules s.state known_of) n ≡ false → fields_step t added n s f at ≡ no 20 0
-  unfolding fields_step fields_text heed ◌>>◌ if◌then◌else◌
+  unfolding fields_step fields_text heed ◌>>◌ when◌then◌else◌
   fields-refused broken = rw broken
 
   fields-are :
       number? (field_count_rules s.state known_of) n ≡ true
       → fields_step t added n s f at
       ≡ and_then (forget (repeat known_of (literal old_line) f at)) (λ u e. news_step t (objects_of s.state t) (n - known_of) (add_olds added s (olds_of added s.state t)) f e)
-  unfolding fields_step fields_text heed forget news_step add_olds ◌>>=◌ ◌>>◌ if◌then◌else◌
+  unfolding fields_step fields_text heed forget news_step add_olds ◌>>=◌ ◌>>◌ when◌then◌else◌
   fields-are kept = rw kept (go (repeat known_of (literal old_line) f at))
     where
       news : (o : Out (List New)) → turned (add_fields added t s) o ≡ turned (fold (add_text t (objects_of s.state t)) (add_olds added s (olds_of added s.state t))) o

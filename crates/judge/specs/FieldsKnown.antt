@@ -3,7 +3,7 @@ use Rattle.std.specs.Prelude.{◌≡◌, Bool, true, false, List, [], ◌∷◌,
 use Rattle.std.proofs.Math.Path.{refl}
 use Rattle.std.proofs.Common.{sym, ap, ◌∙◌, append_assoc, append-nil, arith, le_refl}
 use borrow.Author.Tests.{eq-eqb, ne_eqb}
-use Rattle.paper.specs.Reader.{if◌then◌else◌}
+use Rattle.paper.specs.Reader.{when◌then◌else◌}
 use Rattle.paper.specs.Ledger.{State, Field, no_field, field_at, owns?}
 use Rattle.paper.specs.Rules.{values_due, old_due}
 use Rattle.table.specs.View.{flds_of, view, Holds, Said, said, fields_in, dues_in}
@@ -24,7 +24,7 @@ use Rattle.judge.specs.Fields.{unsized, add_old, old_step, add_olds, Ready, Open
 module _ (l : List ℕ) {t i : ℕ} (lt : i < fields_in l) {d : Field} (is : d ≡ get_or (flds_of l) i no_field) (added : ℕ) where
   -- it is of another type
   pub old-other : (d.owner ≡ t → ⊥) → OldTold t i added l l
-  unfolding old_step owns? field_at if◌then◌else◌
+  unfolding old_step owns? field_at when◌then◌else◌
   old-other not-mine =
       record { says = λ f h o. record { now = record { holds = h; says = rw (← is, ne_eqb d.owner t not-mine) }; still_open = open-later o (omega arith) } }
 
@@ -41,7 +41,7 @@ module _ (l : List ℕ) {t i : ℕ} (lt : i < fields_in l) {d : Field} (is : d �
 
     module _ {v : ℕ} (v-is : v ≡ values_due d.kind added) {l' : List ℕ} (p : Pushed 4 7344 4 (due_cells i v 0) l l') where
       is-step : (f : List ℕ) → add_due (said f l) (record { field = i; values = v }) 0 ≡ old_step added t i (said f l)
-      unfolding add_due old_step add_old unsized old_due owns? field_at if◌then◌else◌
+      unfolding add_due old_step add_old unsized old_due owns? field_at when◌then◌else◌
       is-step f = rw (← is, eq-eqb d.owner t mine, v-is)
 
       told : (f : List ℕ) → Holds f l → Open (said f l) t i → Opens f l' t (i + 1) (old_step added t i (said f l))
@@ -68,22 +68,22 @@ unfolding add_olds add_old
 olds-one added s i is = rw append_assoc refl
 
 old-keeps : (added t i : ℕ) (s : Said) → (old_step added t i s).state ≡ s.state
-unfolding old_step add_old if◌then◌else◌
+unfolding old_step add_old when◌then◌else◌
 old-keeps added t i s = go (owns? t (field_at s.state i))
   where
-    go : (b : Bool) → (if b then add_old added s i else s).state ≡ s.state
+    go : (b : Bool) → (when b then add_old added s i else s).state ≡ s.state
     go true = refl
     go false = refl
 
 -- what is left at place i is field i and what is left then
 olds-step : (added t i : ℕ) (s : Said) → i < length s.state.fields → add_olds added s (own_from t i s.state.fields) ≡ add_olds added (old_step added t i s) (own_from t (i + 1) s.state.fields)
-unfolding old_step field_at if◌then◌else◌
+unfolding old_step field_at when◌then◌else◌
 olds-step added t i s lt = ap (add_olds added s) (own-step t i s.state.fields lt) ∙ go (owns? t (get_or s.state.fields i no_field))
   where
     after : List ℕ
     after = own_from t (i + 1) s.state.fields
 
-    go : (b : Bool) → add_olds added s (if b then i ∷ after else after) ≡ add_olds added (if b then add_old added s i else s) after
+    go : (b : Bool) → add_olds added s (when b then i ∷ after else after) ≡ add_olds added (when b then add_old added s i else s) after
     go true = olds-one added s i after
     go false = refl
 

@@ -3,7 +3,7 @@ use Rattle.std.proofs.Math.Path.{◌≡◌, refl, sym, ap}
 use Rattle.std.proofs.Common.{subst, ◌∙◌, arith, length-append, leb-true}
 use Rattle.std.specs.Prelude.{Bool, true, false, ◌&&◌, List, [], ◌∷◌, ℕ, ◌+◌, ◌-◌, ◌≤◌, ◌<◌}
 use Rattle.std.proofs.Math.ListN.{length}
-use Rattle.paper.specs.Reader.{if◌then◌else◌, Out, got, no, and_then, turned, ◌>>=◌, ◌>>◌, give, times}
+use Rattle.paper.specs.Reader.{when◌then◌else◌, Out, got, no, and_then, turned, ◌>>=◌, ◌>>◌, give, times}
 use Rattle.paper.specs.Lists.{fold}
 use Rattle.paper.specs.Ledger.{New, State, a_string?}
 use Rattle.paper.specs.Rules.{field_name_rules, noted, after_new}
@@ -40,25 +40,25 @@ pub new-first : {f : List ℕ} {at : ℕ} {a : NewRead} → NewReads f at a → 
 new-first line is = (rw is at line).told
 
 -- the line, whose kind keeps its rules, and then the rules of the name
-new_is : (t : ℕ) (s : State) (f : List ℕ) (at : ℕ) → new_text t s f at ≡ and_then (kept_new f at) (λ g e. if number? (field_name_rules t s) g.name then got g e else no 20 0)
-unfolding new_text kept_new heed new-field? ◌>>=◌ ◌>>◌ give if◌then◌else◌
+new_is : (t : ℕ) (s : State) (f : List ℕ) (at : ℕ) → new_text t s f at ≡ and_then (kept_new f at) (λ g e. when number? (field_name_rules t s) g.name then got g e else no 20 0)
+unfolding new_text kept_new heed new-field? ◌>>=◌ ◌>>◌ give when◌then◌else◌
 new_is t s f at = go (read_new f at)
   where
-    last : (g : New) (e : ℕ) (b : Bool) → and_then (if b then got (tt {0}) e else no 20 0) (λ u e. got g e) ≡ (if b then got g e else no 20 0)
+    last : (g : New) (e : ℕ) (b : Bool) → and_then (when b then got (tt {0}) e else no 20 0) (λ u e. got g e) ≡ (when b then got g e else no 20 0)
     last g e true = refl
     last g e false = refl
 
     held :
         (g : New) (e : ℕ) (a : Bool)
-        → and_then (if a && number? (field_name_rules t s) g.name then got (tt {0}) e else no 20 0) (λ u e. got g e)
-        ≡ and_then (and_then (if a then got (tt {0}) e else no 20 0) (λ u e. got g e)) (λ g e. if number? (field_name_rules t s) g.name then got g e else no 20 0)
+        → and_then (when a && number? (field_name_rules t s) g.name then got (tt {0}) e else no 20 0) (λ u e. got g e)
+        ≡ and_then (and_then (when a then got (tt {0}) e else no 20 0) (λ u e. got g e)) (λ g e. when number? (field_name_rules t s) g.name then got g e else no 20 0)
     held g e true = last g e (number? (field_name_rules t s) g.name)
     held g e false = refl
 
     go :
         (o : Out New)
-        → and_then o (λ g e. and_then (if kind_kept? g.kind && number? (field_name_rules t s) g.name then got (tt {0}) e else no 20 0) (λ u e. got g e))
-        ≡ and_then (and_then o (λ g e. and_then (if kind_kept? g.kind then got (tt {0}) e else no 20 0) (λ u e. got g e))) (λ g e. if number? (field_name_rules t s) g.name then got g e else no 20 0)
+        → and_then o (λ g e. and_then (when kind_kept? g.kind && number? (field_name_rules t s) g.name then got (tt {0}) e else no 20 0) (λ u e. got g e))
+        ≡ and_then (and_then o (λ g e. and_then (when kind_kept? g.kind then got (tt {0}) e else no 20 0) (λ u e. got g e))) (λ g e. when number? (field_name_rules t s) g.name then got g e else no 20 0)
     go (got g e) = held g e (kind_kept? g.kind)
     go (no k p) = refl
 
@@ -67,7 +67,7 @@ unfolding add_text add_new after_new
 fields-more t n s x = length-append s.state.fields (record { owner = t; kind = noted x.kind } ∷ [])
 
 module _ {f l : List ℕ} (h : Holds f l) (t n : ℕ) {at : ℕ} {a : NewRead} (line : NewReads f at a) where
-  step_is : new_step t n (said f l) f at ≡ turned (add_text t n (said f l)) (and_then (kept_new f at) (λ g e. if number? (field_name_rules t (view f l)) g.name then got g e else no 20 0))
+  step_is : new_step t n (said f l) f at ≡ turned (add_text t n (said f l)) (and_then (kept_new f at) (λ g e. when number? (field_name_rules t (view f l)) g.name then got g e else no 20 0))
   unfolding new_step
   step_is = ap (turned (add_text t n (said f l))) (new_is t (view f l) f at)
 
@@ -85,12 +85,12 @@ module _ {f l : List ℕ} (h : Holds f l) (t n : ℕ) {at : ℕ} {a : NewRead} (
     called = ap (λ (g : New). g.name) read.is
 
     pub new-unnamed : number? (field_name_rules t (view f l)) x.name ≡ false → Stepped f l t Bad (new_step t n (said f l) f at)
-    unfolding if◌then◌else◌
+    unfolding when◌then◌else◌
     new-unnamed broken = record { holds = h; says = sym (step_is ∙ rw (← read.first, ← called, broken)); still_open = tt }
 
     module _ (kept : number? (field_name_rules t (view f l)) x.name ≡ true) {l' : List ℕ} (added : FieldAdded f t n x.name (record { first = x.k; bits = x.a; last = x.e }) 0 l l') where
       got-is : new_step t n (said f l) f at ≡ got (add_text t n (said f l) read.value) c.at
-      unfolding if◌then◌else◌
+      unfolding when◌then◌else◌
       got-is = step_is ∙ rw (← read.first, ← called, kept)
 
       now-says : Now f l' (add_new t n (said f l) read.value 0)

@@ -5,7 +5,7 @@ use Rattle.std.specs.Prelude.{Bool, ◌&&◌, List, [], ◌∷◌, ℕ, ◌≤�
 use Rattle.std.proofs.Math.Bool.{true, false}
 use Rattle.std.proofs.Math.Option.{Option, none, some}
 use Rattle.std.proofs.lemmas.Bool.{lt-leb}
-use Rattle.paper.specs.Reader.{if◌then◌else◌, got, no, ◌>>=◌, ◌>>◌, turned, hold, Rule, ◌or_no◌}
+use Rattle.paper.specs.Reader.{when◌then◌else◌, got, no, ◌>>=◌, ◌>>◌, turned, hold, Rule, ◌or_no◌}
 use Rattle.paper.specs.Lists.{given?, or}
 use Rattle.paper.specs.Ledger.{State, Head, type_in}
 use Rattle.paper.specs.Rules.{small_rules, type_name_rules, super_name_rules, super_named, super_of, count_rules}
@@ -290,7 +290,7 @@ module _ {t l : List ℕ} (holds : Holds t l) (at : ℕ) {a : TypeRead} (read : 
     line_read = sym read ∙ ap out_type is
 
     pub bad-head : b ≡ head.Bad → HeadTold t l at text.Bad l
-    unfolding kept_type ◌>>=◌ ◌>>◌ heed if◌then◌else◌
+    unfolding kept_type ◌>>=◌ ◌>>◌ heed when◌then◌else◌
     bad-head isb =
         let S : HeadJudged (view t l) (listed line) head.Bad = rw isb at judged in
         record { told = record { read = rw (line_read, S.told) refl; holds = holds } }

@@ -3,7 +3,7 @@
 use Rattle.std.specs.Prelude.{◌≡◌, refl, Bool, true, false, ◌&&◌, ◌||◌, not, ◌⊎◌, List, ℕ, ◌≤◌, leb, eqb, ℤ, length}
 use Rattle.std.proofs.Common.{ap, inl, inr, arith, leb-true, le-leb, eqb-true, ne_eqb}
 use Rattle.std.proofs.Math.Option.{Option, none, some}
-use Rattle.paper.specs.Reader.{if◌then◌else◌, Out, got, no}
+use Rattle.paper.specs.Reader.{when◌then◌else◌, Out, got, no}
 use Rattle.paper.specs.Bounds.{most_bytes, most_objects, table_length}
 use Rattle.paper.specs.Ledger.{Ledger, objects_of}
 use Rattle.paper.specs.File.{file}
@@ -165,11 +165,11 @@ fill-most type field k room table f c b q = count_most type field k table f (len
 -- ── what is built is a file, and has no more bytes than one may have ──
 
 short-most : (o : Out Ledger) (f : List ℕ) → short o ≡ some f → length f ≤ most_bytes
-unfolding short if◌then◌else◌
+unfolding short when◌then◌else◌
 short-most (no n p) f q = let z : ◌≡◌ {A = ℕ} 0 1 = cc q in absurd (omega arith)
 short-most (got l e) f q = go (leb (length (encode l)) most_bytes) refl q
   where
-    go : (b : Bool) → leb (length (encode l)) most_bytes ≡ b → (if b then some (encode l) else none) ≡ some f → length f ≤ most_bytes
+    go : (b : Bool) → leb (length (encode l)) most_bytes ≡ b → (when b then some (encode l) else none) ≡ some f → length f ≤ most_bytes
     go true h q = let z : encode l ≡ f = cc q in omega (arith, leb-true (length (encode l)) most_bytes h, ap length z)
     go false h q = let z : ◌≡◌ {A = ℕ} 0 1 = cc q in absurd (omega arith)
 

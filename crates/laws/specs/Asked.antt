@@ -71,7 +71,7 @@ module _ (type field : List ℕ) (k table : ℕ) (f : List ℕ) where
   unfolding fill_values ◌>>=◌
   fill-unread x room = rw x
 
-  -- where the first call answers n, n values are there for the second one to write, if there is room for so many
+  -- where the first call answers n, n values are there for the second one to write, when there is room for so many
   pub count-done :
       (n : ℕ) → count_values type field k table f ≡ done n
       → (T : Taken type field k f) ×

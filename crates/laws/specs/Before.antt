@@ -4,7 +4,7 @@ use Rattle.std.proofs.Common.{sym, ◌∙◌, ap, append_assoc, append-nil, arit
 use Rattle.std.proofs.Math.Decide.{dec_le}
 use Rattle.std.proofs.Math.ListN.{get_or-eq_default}
 use Rattle.std.proofs.Math.Seq.{take-append_seam}
-use Rattle.paper.specs.Reader.{if◌then◌else◌, Reader, Out, got, no as refused, ◌>>=◌, ◌>>◌, give, each, times, repeat}
+use Rattle.paper.specs.Reader.{when◌then◌else◌, Reader, Out, got, no as refused, ◌>>=◌, ◌>>◌, give, each, times, repeat}
 use Rattle.paper.specs.Keeps.{bytes?}
 use Rattle.paper.specs.Lists.{all, flat}
 use Rattle.paper.specs.Scan.{bad, heed, byte_is, literal, ended}
@@ -57,12 +57,12 @@ seen f p b l q =
     rw (add-one, ← q) (drop-cons f p 256 i)
 
 pub byte_is-says : (b : ℕ) → b < 256 → Says (byte_is b) (λ u cs. b ∷ [] ≡ cs)
-unfolding byte_is if◌then◌else◌
+unfolding byte_is when◌then◌else◌
 byte_is-says b l = record { at = λ f at v e c h q. go f at v e h (eqb (get_or f at 256) b) refl q }
   where
     go :
         (f : List ℕ) (at : ℕ) (v : Unit {0}) (e : ℕ) → at ≤ length f → (t : Bool) → eqb (get_or f at 256) b ≡ t
-        → (if t then got tt (at + 1) else refused 20 0) ≡ got v e → Said (λ u cs. b ∷ [] ≡ cs) f at v e
+        → (when t then got tt (at + 1) else refused 20 0) ≡ got v e → Said (λ u cs. b ∷ [] ≡ cs) f at v e
     go f at v e h true t q =
         let z : at + 1 ≡ e = cc q in
         front-said f at h (record { word = b ∷ []; rest = drop (at + 1) f; same = seen f at b l (eqb-true (get_or f at 256) b t); place = sym z; says = refl })
@@ -82,7 +82,7 @@ literal-says bs h = go bs (bytes_back bs h)
     go (b ∷ bs) h = then-says _ (byte_is-says b h.0) λ u cs p. weaker _ (λ v ds q. rw (← p, q)) (go bs h.1)
 
 pub heed-says : (b : Bool) → Says (heed b) (λ u cs. (cs ≡ []) × (b ≡ true))
-unfolding heed if◌then◌else◌ give
+unfolding heed when◌then◌else◌ give
 heed-says true = give-says tt _ (refl, refl)
 heed-says false = record { at = λ f at v e b h q. not-got q }
 
@@ -105,14 +105,14 @@ word-says w c l R = ended-says c l _ (λ a cs p. ap (λ (z : List ℕ). z ++ c �
 
 -- after the byte b one reading, and else another
 abbrev pub peek : {A : Type 0} → ℕ → Reader A → Reader A → Reader A
-peek b r q t at = if eqb (get_or t at 256) b then r t (at + 1) else q t at
+peek b r q t at = when eqb (get_or t at 256) b then r t (at + 1) else q t at
 
 peek-yes : {A : Type 0} (b : ℕ) (r q : Reader A) (f : List ℕ) (at : ℕ) → eqb (get_or f at 256) b ≡ true → peek b r q f at ≡ (byte_is b >> r) f at
-unfolding byte_is ◌>>◌ if◌then◌else◌
+unfolding byte_is ◌>>◌ when◌then◌else◌
 peek-yes b r q f at t = rw t
 
 peek-no : {A : Type 0} (b : ℕ) (r q : Reader A) (f : List ℕ) (at : ℕ) → eqb (get_or f at 256) b ≡ false → peek b r q f at ≡ q f at
-unfolding if◌then◌else◌
+unfolding when◌then◌else◌
 peek-no b r q f at t = rw t
 
 pub peek-says :
@@ -175,14 +175,14 @@ turn-before {F} g {cs} {a} R = before-as (append-nil cs) (bind-before _ R (takes
 
 pub if-before-true :
     {A : Type 0} {F : List ℕ → Type 0} {b : Bool} {r : Reader A} (q : Reader A) {cs : List ℕ} {v : A} → b ≡ true → TakesBefore F r cs v
-    → TakesBefore F (if b then r else q) cs v
-unfolding if◌then◌else◌
+    → TakesBefore F (when b then r else q) cs v
+unfolding when◌then◌else◌
 if-before-true q t R = rw t R
 
 pub if-before-false :
     {A : Type 0} {F : List ℕ → Type 0} {b : Bool} (r : Reader A) {q : Reader A} {cs : List ℕ} {v : A} → b ≡ false → TakesBefore F q cs v
-    → TakesBefore F (if b then r else q) cs v
-unfolding if◌then◌else◌
+    → TakesBefore F (when b then r else q) cs v
+unfolding when◌then◌else◌
 if-before-false r t R = rw t R
 
 -- a reader that looks only at what comes next
@@ -196,7 +196,7 @@ pub first_of : (f : List ℕ) (p : ℕ) (ts : List ℕ) → drop p f ≡ ts → 
 first_of f p ts q = rw (← q, get_or-drop, add-zero)
 
 pub byte_is-takes : (b : ℕ) → b < 256 → Takes (byte_is b) (b ∷ []) tt
-unfolding byte_is if◌then◌else◌
+unfolding byte_is when◌then◌else◌
 byte_is-takes b l = record { bytes = (l, tt); at = λ f p rest h q. rw (eq-eqb (get_or f p 256) b (first_of f p _ q)) }
 
 pub literal-takes : (bs : List ℕ) → bytes? bs ≡ true → Takes (literal bs) bs tt
@@ -208,7 +208,7 @@ literal-takes bs h = go bs (bytes_back bs h)
     go (b ∷ bs) h = then-takes (byte_is-takes b h.0) (go bs h.1)
 
 pub heed-takes : {b : Bool} → b ≡ true → Takes (heed b) [] tt
-unfolding heed if◌then◌else◌ give
+unfolding heed when◌then◌else◌ give
 heed-takes h = rw h (give-takes tt)
 
 pub ended-takes :

@@ -2,7 +2,7 @@
 use Rattle.std.specs.Prelude.{◌≡◌, refl, Bool, true, not, List, [], ◌∷◌, ℕ, ◌+◌, ◌-◌, ◌≤◌, length}
 use Rattle.std.proofs.Common.{◌∙◌, arith, length-append, leb-true, ltb-true}
 use Rattle.std.proofs.Math.Option.{Option, none, some}
-use Rattle.paper.specs.Reader.{if◌then◌else◌}
+use Rattle.paper.specs.Reader.{when◌then◌else◌}
 use Rattle.paper.specs.Bounds.{most_strings, most_types, most_fields}
 use Rattle.paper.specs.Ledger.{New, Entry, Pair, Ledger, Typ, State, nothing, text, type_named}
 use Rattle.paper.specs.Lists.{fold, given?}
@@ -29,8 +29,8 @@ turn-keeps ok after I step (a ∷ l) s h i = let (p, q) = and_split (ok s a) _ h
 
 -- a new type finds room for its name, and has a name
 one_more : {A B : Type 0} (s : State) (o : Option ℕ) (x : A) (y : B) → length s.type_names ≤ most_types → Held (place_rules s o)
-    → (length s.type_names + length (if not (given? o) then x ∷ [] else []) ≤ most_types) × (length (if not (given? o) then x ∷ [] else []) ≡ length (if not (given? o) then y ∷ [] else []))
-unfolding place_rules given? if◌then◌else◌
+    → (length s.type_names + length (when not (given? o) then x ∷ [] else []) ≤ most_types) × (length (when not (given? o) then x ∷ [] else []) ≡ length (when not (given? o) then y ∷ [] else []))
+unfolding place_rules given? when◌then◌else◌
 one_more s none x y le h = (omega (arith, ltb-true (length s.type_names) most_types h.0), refl)
 one_more s (some t) x y le h = (omega arith, refl)
 

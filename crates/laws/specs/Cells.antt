@@ -3,7 +3,7 @@ use Rattle.std.specs.Prelude.{◌≡◌, refl, Bool, true, false, ◌&&◌, ◌|
 use Rattle.std.proofs.Common.{sym, ap, append_assoc, append-nil, arith, leb-true, leb-false, le-leb, eqb-true, ne_eqb, ltb-true, lt-ltb}
 use Rattle.std.proofs.Math.Nat.{pow-le-pow_right, pow-succ'}
 use Rattle.std.proofs.lemmas.Bool.{lt-leb, not-true}
-use Rattle.paper.specs.Reader.{if◌then◌else◌, ◌>>◌, give, repeat}
+use Rattle.paper.specs.Reader.{when◌then◌else◌, ◌>>◌, give, repeat}
 use Rattle.paper.specs.Lists.{all, flat}
 use Rattle.paper.specs.Ledger.{annotation, keys, mapping, Kind, constant, plain, array, many, Element, flag, whole, float, link, State}
 use Rattle.paper.specs.Rules.{types_rules, small_rules, single_kind?, element_kind?, element_kind_rules, any_type, link_rules}
@@ -93,10 +93,10 @@ wider w le (negsuc n) h = less w n le h
 
 -- a number of fewer bytes is one of eight
 pub whole-64 : (k : ℕ) (v : ℤ) → whole? k v ≡ true → signed? 8 v ≡ true
-unfolding whole? if◌then◌else◌
+unfolding whole? when◌then◌else◌
 whole-64 k v h = go (ltb k 4) refl h
   where
-    go : (b : Bool) → ltb k 4 ≡ b → signed? (if b then 2 ^ k else 8) v ≡ true → signed? 8 v ≡ true
+    go : (b : Bool) → ltb k 4 ≡ b → signed? (when b then 2 ^ k else 8) v ≡ true → signed? 8 v ≡ true
     go true t h =
         let lt = ltb-true k 4 t in
         wider (2 ^ k) (pow-le-pow_right {n = 2} (omega arith) {i = k} {j = 3} (omega arith)) v h

@@ -3,7 +3,7 @@ use Rattle.std.specs.Prelude.{◌≡◌, refl, Bool, true, false, List, [], ◌�
 use Rattle.std.proofs.Common.{ap, append-nil, arith, div-add-mod', mod-lt, div-lt_iff_lt-mul, le-leb, ltb-true, lt-ltb}
 use Rattle.std.proofs.Math.Nat.{one-le-pow, pow-succ'}
 use Rattle.std.proofs.lemmas.Bool.{lt-leb}
-use Rattle.paper.specs.Reader.{if◌then◌else◌, Rule}
+use Rattle.paper.specs.Reader.{when◌then◌else◌, Rule}
 use Rattle.paper.specs.Numbers.{high_first, fixed, put_fixed, coding, low_first, v64, put_v64, number}
 use Rattle.paper.specs.Pieces.{free}
 use Rattle.paper.specs.Spell.{Coding, ninth, last, more}
@@ -43,11 +43,11 @@ byte-takes b lt = takes-is (omega arith) (bind-takes _ (bytes-takes 1 (b ∷ [])
 -- ── v64 ──
 
 pub v64-cons : (k n : ℕ) → (b : ℕ) × (bs : List ℕ) × (put_v64 k n ≡ b ∷ bs)
-unfolding put_v64 if◌then◌else◌
+unfolding put_v64 when◌then◌else◌
 v64-cons zero n = (n, [], refl)
 v64-cons (suc k) n = go (ltb n 128)
   where
-    go : (t : Bool) → (b : ℕ) × (bs : List ℕ) × ((if t then n ∷ [] else (128 + n % 128) ∷ put_v64 k (n / 128)) ≡ b ∷ bs)
+    go : (t : Bool) → (b : ℕ) × (bs : List ℕ) × ((when t then n ∷ [] else (128 + n % 128) ∷ put_v64 k (n / 128)) ≡ b ∷ bs)
     go true = (n, [], refl)
     go false = (128 + n % 128, put_v64 k (n / 128), refl)
 
@@ -56,21 +56,21 @@ unfolding low_first
 low-more b cs q = rw q refl
 
 pub put_low : (k n : ℕ) → low_first (put_v64 k n) ≡ n
-unfolding put_v64 if◌then◌else◌ low_first
+unfolding put_v64 when◌then◌else◌ low_first
 put_low zero n = refl
 put_low (suc k) n = go (put_low k (n / 128)) (ltb n 128) refl
   where
-    go : low_first (put_v64 k (n / 128)) ≡ n / 128 → (t : Bool) → ltb n 128 ≡ t → low_first (if t then n ∷ [] else (128 + n % 128) ∷ put_v64 k (n / 128)) ≡ n
+    go : low_first (put_v64 k (n / 128)) ≡ n / 128 → (t : Bool) → ltb n 128 ≡ t → low_first (when t then n ∷ [] else (128 + n % 128) ∷ put_v64 k (n / 128)) ≡ n
     go ih true t = refl
     go ih false t = rw (low-more (128 + n % 128) (put_v64 k (n / 128)) (v64-cons k (n / 128)).2, ih) (omega arith)
 
 -- what is written is a coding
 pub put-coding : (k n : ℕ) → Coding k (put_v64 k n)
-unfolding put_v64 if◌then◌else◌
+unfolding put_v64 when◌then◌else◌
 put-coding zero n = ninth
 put-coding (suc k) n = go (put-coding k (n / 128)) (ltb n 128) refl
   where
-    go : Coding k (put_v64 k (n / 128)) → (t : Bool) → ltb n 128 ≡ t → Coding (suc k) (if t then n ∷ [] else (128 + n % 128) ∷ put_v64 k (n / 128))
+    go : Coding k (put_v64 k (n / 128)) → (t : Bool) → ltb n 128 ≡ t → Coding (suc k) (when t then n ∷ [] else (128 + n % 128) ∷ put_v64 k (n / 128))
     go ih true t = last (ltb-true n 128 t)
     go ih false t = more' (put_v64 k (n / 128)) (omega arith) (omega arith) ih
 
@@ -102,12 +102,12 @@ number-reads rules n lt h = must-reads rules h (v64-reads n lt)
 
 -- no coding of a number is shorter than what is written of it, or of one below it
 pub put-short : {k : ℕ} (n : ℕ) (bs : List ℕ) → Coding k bs → n ≤ low_first bs → length (put_v64 k n) ≤ length bs
-unfolding put_v64 low_first if◌then◌else◌
+unfolding put_v64 low_first when◌then◌else◌
 put-short {k = k} n [] x h = elim x [ ]
 put-short n (b ∷ []) ninth h = omega arith
 put-short n (b ∷ []) (last l) h = rw (lt-ltb n 128 (omega arith)) (omega arith)
 put-short n (b ∷ c ∷ bs) (more {k = k} l l' r) h = go (put-short (n / 128) (c ∷ bs) r (omega arith)) (ltb n 128)
   where
-    go : length (put_v64 k (n / 128)) ≤ length (c ∷ bs) → (t : Bool) → length (if t then n ∷ [] else (128 + n % 128) ∷ put_v64 k (n / 128)) ≤ length (b ∷ c ∷ bs)
+    go : length (put_v64 k (n / 128)) ≤ length (c ∷ bs) → (t : Bool) → length (when t then n ∷ [] else (128 + n % 128) ∷ put_v64 k (n / 128)) ≤ length (b ∷ c ∷ bs)
     go ih true = omega arith
     go ih false = omega arith

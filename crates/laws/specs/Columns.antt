@@ -4,7 +4,7 @@ use Rattle.std.proofs.Common.{sym, ◌∙◌, ap, inl, inr, append_assoc, append
 use Rattle.std.proofs.Math.Option.{Option, none, some}
 use Rattle.std.proofs.lemmas.List.{replicate-append-replicate}
 use Rattle.std.proofs.Math.ListN.{get_or-append}
-use Rattle.paper.specs.Reader.{if◌then◌else◌, Out, got, no}
+use Rattle.paper.specs.Reader.{when◌then◌else◌, Out, got, no}
 use Rattle.paper.specs.Ledger.{mapping, Kind, constant, plain, array, many, New, Head, Entry, Pair, Ledger, State, nothing, type_named, field_named, field_at, no_field, objects_of, of?, size, called?}
 use Rattle.paper.specs.Lists.{place, total, fold, place_named}
 use Rattle.paper.specs.Rules.{with_strings, new_type, new_range, after_head, after_new, after_entry, dues, closed, after_front, after_pair, new_name}
@@ -24,32 +24,32 @@ begins-trans {A} {l} a b =
     record { rest = a.rest ++ b.rest; is = b.is ∙ ap (λ (z : List A). z ++ b.rest) a.is ∙ append_assoc l a.rest b.rest }
 
 place-append : {A : Type 0} (p : A → Bool) (i t : ℕ) (xs ys : List A) → place p i xs ≡ some t → place p i (xs ++ ys) ≡ some t
-unfolding place if◌then◌else◌
+unfolding place when◌then◌else◌
 place-append p i t [] ys h = let z : ◌≡◌ {A = ℕ} 0 1 = cc h in absurd (omega arith)
 place-append p i t (x ∷ xs) ys h = go (place-append p (suc i) t xs ys) (p x) h
   where
-    go : (place p (suc i) xs ≡ some t → place p (suc i) (xs ++ ys) ≡ some t) → (b : Bool) → (if b then some i else place p (suc i) xs) ≡ some t → (if b then some i else place p (suc i) (xs ++ ys)) ≡ some t
+    go : (place p (suc i) xs ≡ some t → place p (suc i) (xs ++ ys) ≡ some t) → (b : Bool) → (when b then some i else place p (suc i) xs) ≡ some t → (when b then some i else place p (suc i) (xs ++ ys)) ≡ some t
     go ih true q = q
     go ih false q = ih q
 
 pub place-lt : {A : Type 0} (p : A → Bool) (i t : ℕ) (xs : List A) → place p i xs ≡ some t → t < i + length xs
-unfolding place if◌then◌else◌
+unfolding place when◌then◌else◌
 place-lt p i t [] h = let z : ◌≡◌ {A = ℕ} 0 1 = cc h in absurd (omega arith)
 place-lt p i t (x ∷ xs) h = go (place-lt p (suc i) t xs) (p x) h
   where
-    go : (place p (suc i) xs ≡ some t → t < suc i + length xs) → (b : Bool) → (if b then some i else place p (suc i) xs) ≡ some t → t < i + suc (length xs)
+    go : (place p (suc i) xs ≡ some t → t < suc i + length xs) → (b : Bool) → (when b then some i else place p (suc i) xs) ≡ some t → t < i + suc (length xs)
     go ih true q = let z : i ≡ t = cc q in omega arith
     go ih false q = omega (arith, ih q)
 
 named-append : {A B : Type 0} (p : A → B → Bool) (i t : ℕ) (xs xs' : List A) (ys ys' : List B) → place_named p i xs ys ≡ some t → place_named p i (xs ++ xs') (ys ++ ys') ≡ some t
-unfolding place_named if◌then◌else◌
+unfolding place_named when◌then◌else◌
 named-append p i t [] xs' ys ys' h = let z : ◌≡◌ {A = ℕ} 0 1 = cc h in absurd (omega arith)
 named-append p i t (x ∷ xs) xs' [] ys' h = let z : ◌≡◌ {A = ℕ} 0 1 = cc h in absurd (omega arith)
 named-append p i t (x ∷ xs) xs' (y ∷ ys) ys' h = go (named-append p (suc i) t xs xs' ys ys') (p x y) h
   where
     go :
         (place_named p (suc i) xs ys ≡ some t → place_named p (suc i) (xs ++ xs') (ys ++ ys') ≡ some t) → (b : Bool)
-        → (if b then some i else place_named p (suc i) xs ys) ≡ some t → (if b then some i else place_named p (suc i) (xs ++ xs') (ys ++ ys')) ≡ some t
+        → (when b then some i else place_named p (suc i) xs ys) ≡ some t → (when b then some i else place_named p (suc i) (xs ++ xs') (ys ++ ys')) ≡ some t
     go ih true q = q
     go ih false q = ih q
 
@@ -57,25 +57,25 @@ named-append p i t (x ∷ xs) xs' (y ∷ ys) ys' h = go (named-append p (suc i) 
 pub named-found :
     {A B : Type 0} (p : A → B → Bool) (d : A) (i t : ℕ) (xs : List A) (ys : List B) → place_named p i xs ys ≡ some t
     → (k : ℕ) × (t ≡ i + k) × (k < length xs) × ((name : B) × (p (get_or xs k d) name ≡ true))
-unfolding place_named if◌then◌else◌
+unfolding place_named when◌then◌else◌
 named-found p d i t [] ys h = let z : ◌≡◌ {A = ℕ} 0 1 = cc h in absurd (omega arith)
 named-found p d i t (x ∷ xs) [] h = let z : ◌≡◌ {A = ℕ} 0 1 = cc h in absurd (omega arith)
 named-found {A} {B} p d i t (x ∷ xs) (y ∷ ys) h = go (named-found p d (suc i) t xs ys) (p x y) refl h
   where
     go :
         (place_named p (suc i) xs ys ≡ some t → (k : ℕ) × (t ≡ suc i + k) × (k < length xs) × ((name : B) × (p (get_or xs k d) name ≡ true))) → (b : Bool) → p x y ≡ b
-        → (if b then some i else place_named p (suc i) xs ys) ≡ some t → (k : ℕ) × (t ≡ i + k) × (k < suc (length xs)) × ((name : B) × (p (get_or (x ∷ xs) k d) name ≡ true))
+        → (when b then some i else place_named p (suc i) xs ys) ≡ some t → (k : ℕ) × (t ≡ i + k) × (k < suc (length xs)) × ((name : B) × (p (get_or (x ∷ xs) k d) name ≡ true))
     go ih true e h = let z : i ≡ t = cc h in (0, omega arith, omega arith, (y, e))
     go ih false e h = let (k, q, l, r) = ih h in (suc k, omega arith, omega arith, r)
 
 pub total-append : {A : Type 0} (p : A → Bool) (n : A → ℕ) (xs ys : List A) → total p n (xs ++ ys) ≡ total p n xs + total p n ys
-unfolding total if◌then◌else◌
+unfolding total when◌then◌else◌
 total-append p n [] ys = omega arith
 total-append p n (x ∷ xs) ys = go (total-append p n xs ys) (p x)
   where
     go :
         total p n (xs ++ ys) ≡ total p n xs + total p n ys → (b : Bool)
-        → (if b then n x + total p n (xs ++ ys) else total p n (xs ++ ys)) ≡ (if b then n x + total p n xs else total p n xs) + total p n ys
+        → (when b then n x + total p n (xs ++ ys) else total p n (xs ++ ys)) ≡ (when b then n x + total p n xs else total p n xs) + total p n ys
     go ih true = omega arith
     go ih false = ih
 

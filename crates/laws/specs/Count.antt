@@ -13,7 +13,7 @@ use Rattle.std.proofs.Math.ListN.{length, get_or, get_or-append}
 use Rattle.std.proofs.lemmas.List.{length-map}
 use Rattle.std.proofs.Math.Seq.{get_or-append-add}
 use Rattle.std.proofs.lemmas.Bool.{eqb-false}
-use Rattle.paper.specs.Reader.{if◌then◌else◌}
+use Rattle.paper.specs.Reader.{when◌then◌else◌}
 use Rattle.paper.specs.Ledger.{mapping, Kind, constant, plain, array, many, New, Head, Entry, Field, Due, Chunk, Pair, Ledger, State, nothing, field_at, no_field, fields_of, objects_of, of?, size, owns?}
 use Rattle.paper.specs.Lists.{fold, total, places}
 use Rattle.paper.specs.Rules.{type_of, new_range, after_head, known_due, noted, after_new, after_entry, values_due, old_due, new_dues, entry_dues, dues, with_strings, after_front, closed, after_pair}
@@ -33,7 +33,7 @@ sum-append n [] ys = omega arith
 sum-append n (x ∷ xs) ys = omega (arith, sum-append n xs ys)
 
 abbrev share : ℕ → Due → ℕ
-share j d = if eqb d.field j then d.values else 0
+share j d = when eqb d.field j then d.values else 0
 
 owed : ℕ → List Due → ℕ
 owed j ds = sum (share j) ds
@@ -60,61 +60,61 @@ owed-append j ds es = sum-append (share j) ds es
 -- how often i stands in a list
 occurs : ℕ → List ℕ → ℕ
 occurs j [] = 0
-occurs j (i ∷ is) = (if eqb i j then 1 else 0) + occurs j is
+occurs j (i ∷ is) = (when eqb i j then 1 else 0) + occurs j is
 
 module _ {A : Type 0} (p : A → Bool) (d : A) where
   -- a place of the list, counted from i, stands among the places just where the test passes
   occurs-before : (xs : List A) (i j : ℕ) → j < i → occurs j (places p i xs) ≡ 0
-  unfolding occurs places if◌then◌else◌
+  unfolding occurs places when◌then◌else◌
   occurs-before [] i j h = refl
   occurs-before (x ∷ xs) i j h = go (occurs-before xs (suc i) j (omega arith)) (p x)
     where
-      go : occurs j (places p (suc i) xs) ≡ 0 → (b : Bool) → occurs j (if b then i ∷ places p (suc i) xs else places p (suc i) xs) ≡ 0
+      go : occurs j (places p (suc i) xs) ≡ 0 → (b : Bool) → occurs j (when b then i ∷ places p (suc i) xs else places p (suc i) xs) ≡ 0
       go ih true = rw (ne_eqb i j (λ e. omega arith)) (omega arith)
       go ih false = ih
 
-  occurs-at : (xs : List A) (i k : ℕ) → k < length xs → occurs (i + k) (places p i xs) ≡ (if p (get_or xs k d) then 1 else 0)
-  unfolding occurs places if◌then◌else◌
+  occurs-at : (xs : List A) (i k : ℕ) → k < length xs → occurs (i + k) (places p i xs) ≡ (when p (get_or xs k d) then 1 else 0)
+  unfolding occurs places when◌then◌else◌
   occurs-at [] i k h = absurd (omega arith)
   occurs-at (x ∷ xs) i zero h = rw add-zero (go (occurs-before xs (suc i) i (omega arith)) (p x))
     where
-      go : occurs i (places p (suc i) xs) ≡ 0 → (b : Bool) → occurs i (if b then i ∷ places p (suc i) xs else places p (suc i) xs) ≡ (if b then 1 else 0)
+      go : occurs i (places p (suc i) xs) ≡ 0 → (b : Bool) → occurs i (when b then i ∷ places p (suc i) xs else places p (suc i) xs) ≡ (when b then 1 else 0)
       go ih true = rw (eq-eqb i i refl) (omega arith)
       go ih false = ih
   occurs-at (x ∷ xs) i (suc k) h = rw (add-suc, ← suc-add i k) (go (occurs-at xs (suc i) k (omega arith)) (p x))
     where
       go :
-          occurs (suc i + k) (places p (suc i) xs) ≡ (if p (get_or xs k d) then 1 else 0) → (b : Bool)
-          → occurs (suc i + k) (if b then i ∷ places p (suc i) xs else places p (suc i) xs) ≡ (if p (get_or xs k d) then 1 else 0)
+          occurs (suc i + k) (places p (suc i) xs) ≡ (when p (get_or xs k d) then 1 else 0) → (b : Bool)
+          → occurs (suc i + k) (when b then i ∷ places p (suc i) xs else places p (suc i) xs) ≡ (when p (get_or xs k d) then 1 else 0)
       go ih true = rw (ne_eqb i (suc i + k) (λ e. omega arith)) (omega arith)
       go ih false = ih
 
   -- and no place behind the list
   occurs-behind : (xs : List A) (i j : ℕ) → i + length xs ≤ j → occurs j (places p i xs) ≡ 0
-  unfolding occurs places if◌then◌else◌
+  unfolding occurs places when◌then◌else◌
   occurs-behind [] i j h = refl
   occurs-behind (x ∷ xs) i j h = go (occurs-behind xs (suc i) j (omega arith)) (p x)
     where
-      go : occurs j (places p (suc i) xs) ≡ 0 → (b : Bool) → occurs j (if b then i ∷ places p (suc i) xs else places p (suc i) xs) ≡ 0
+      go : occurs j (places p (suc i) xs) ≡ 0 → (b : Bool) → occurs j (when b then i ∷ places p (suc i) xs else places p (suc i) xs) ≡ 0
       go ih true = rw (ne_eqb i j (λ e. omega arith)) (omega arith)
       go ih false = ih
 
 -- ── known fields ──
 
 unfoldable pub once : ℕ → Bool → ℕ
-once n b = if b then n else 0
+once n b = when b then n else 0
 
-once-sum : (n : ℕ) (b : Bool) (m : ℕ) → once n b + n * m ≡ n * ((if b then 1 else 0) + m)
-unfolding once if◌then◌else◌
+once-sum : (n : ℕ) (b : Bool) (m : ℕ) → once n b + n * m ≡ n * ((when b then 1 else 0) + m)
+unfolding once when◌then◌else◌
 once-sum n true m = rw (native.Mathlib.Nat.mul-add n 1 m) (omega arith)
 once-sum n false m = rw (native.Mathlib.Nat.mul-add n 0 m) (omega arith)
 
 module _ (s : State) (n j : ℕ) where
   one-old : (i : ℕ) → movable (field_at s j).kind ≡ true → share j (old_due s n i) ≡ once n (eqb i j)
-  unfolding old_due once if◌then◌else◌
+  unfolding old_due once when◌then◌else◌
   one-old i mv = go (eqb i j) refl
     where
-      go : (b : Bool) → eqb i j ≡ b → (if b then values_due (field_at s i).kind n else 0) ≡ (if b then n else 0)
+      go : (b : Bool) → eqb i j ≡ b → (when b then values_due (field_at s i).kind n else 0) ≡ (when b then n else 0)
       go true t = due-movable (field_at s i).kind n (rw (eqb-true i j t) mv)
       go false t = refl
 
@@ -125,13 +125,13 @@ module _ (s : State) (n j : ℕ) where
 
   -- a field that is not declared is no known field
   none_old : (is : List ℕ) → occurs j is ≡ 0 → owed j (map (old_due s n) is) ≡ 0
-  unfolding owed sum occurs old_due if◌then◌else◌
+  unfolding owed sum occurs old_due when◌then◌else◌
   none_old [] h = refl
   none_old (i ∷ is) h = go (none_old is) (eqb i j) refl h
     where
       go :
-          (occurs j is ≡ 0 → owed j (map (old_due s n) is) ≡ 0) → (b : Bool) → eqb i j ≡ b → (if b then 1 else 0) + occurs j is ≡ 0
-          → (if b then values_due (field_at s i).kind n else 0) + owed j (map (old_due s n) is) ≡ 0
+          (occurs j is ≡ 0 → owed j (map (old_due s n) is) ≡ 0) → (b : Bool) → eqb i j ≡ b → (when b then 1 else 0) + occurs j is ≡ 0
+          → (when b then values_due (field_at s i).kind n else 0) + owed j (map (old_due s n) is) ≡ 0
       go ih true t h = absurd (omega arith)
       go ih false t h = omega (arith, ih (omega arith))
 
@@ -143,33 +143,33 @@ eqb-sym a b = go (eqb a b) refl
     go false t = sym (ne_eqb b a (λ e. eqb-false a b t (sym e)))
 
 once-none : (n : ℕ) (b : Bool) → n ≡ 0 → once n b ≡ 0
-unfolding once if◌then◌else◌
+unfolding once when◌then◌else◌
 once-none n true h = h
 once-none n false h = refl
 
-once-times : (n : ℕ) (b : Bool) → n * (if b then 1 else 0) ≡ once n b
-unfolding once if◌then◌else◌
+once-times : (n : ℕ) (b : Bool) → n * (when b then 1 else 0) ≡ once n b
+unfolding once when◌then◌else◌
 once-times n true = omega arith
 once-times n false = omega arith
 
 known-once : (s : State) (h : Head) (j : ℕ) → j < length s.fields → h.count * occurs j (known_due s h) ≡ once h.count (eqb (type_of s h.name) (field_at s j).owner)
-unfolding known_due fields_of field_at if◌then◌else◌ occurs owns?
+unfolding known_due fields_of field_at when◌then◌else◌ occurs owns?
 known-once s h j lt = go (eqb h.count 0) refl
   where
-    o : occurs j (places (owns? (type_of s h.name)) 0 s.fields) ≡ (if eqb (get_or s.fields j no_field).owner (type_of s h.name) then 1 else 0)
+    o : occurs j (places (owns? (type_of s h.name)) 0 s.fields) ≡ (when eqb (get_or s.fields j no_field).owner (type_of s h.name) then 1 else 0)
     o = rw zero-add at (occurs-at (owns? (type_of s h.name)) no_field s.fields 0 j lt)
 
     go :
         (b : Bool) → eqb h.count 0 ≡ b
-        → h.count * occurs j (if b then [] else places (owns? (type_of s h.name)) 0 s.fields) ≡ once h.count (eqb (type_of s h.name) (get_or s.fields j no_field).owner)
+        → h.count * occurs j (when b then [] else places (owns? (type_of s h.name)) 0 s.fields) ≡ once h.count (eqb (type_of s h.name) (get_or s.fields j no_field).owner)
     go true t = rw (once-none h.count (eqb (type_of s h.name) (get_or s.fields j no_field).owner) (eqb-true h.count 0 t)) (omega arith)
     go false t = rw (o, once-times) (ap (once h.count) (eqb-sym (get_or s.fields j no_field).owner (type_of s h.name)))
 
 known_behind : (s : State) (h : Head) (j : ℕ) → length s.fields ≤ j → occurs j (known_due s h) ≡ 0
-unfolding known_due fields_of if◌then◌else◌ occurs
+unfolding known_due fields_of when◌then◌else◌ occurs
 known_behind s h j le = go (eqb h.count 0)
   where
-    go : (b : Bool) → occurs j (if b then [] else places (owns? (type_of s h.name)) 0 s.fields) ≡ 0
+    go : (b : Bool) → occurs j (when b then [] else places (owns? (type_of s h.name)) 0 s.fields) ≡ 0
     go true = refl
     go false = occurs-behind (owns? (type_of s h.name)) no_field s.fields 0 j (omega arith)
 
@@ -179,12 +179,12 @@ unfoldable pub made : ℕ → New → Field
 made t g = record { owner = t; kind = noted g.kind }
 
 news-below : (n : ℕ) (gs : List New) (i j : ℕ) → j < i → owed j (new_dues i n gs) ≡ 0
-unfolding owed sum new_dues if◌then◌else◌
+unfolding owed sum new_dues when◌then◌else◌
 news-below n [] i j h = refl
 news-below n (g ∷ gs) i j h = rw (ne_eqb i j (λ e. omega arith)) (omega (arith, news-below n gs (suc i) j (omega arith)))
 
 news-behind : (n : ℕ) (gs : List New) (i j : ℕ) → i + length gs ≤ j → owed j (new_dues i n gs) ≡ 0
-unfolding owed sum new_dues if◌then◌else◌
+unfolding owed sum new_dues when◌then◌else◌
 news-behind n [] i j h = refl
 news-behind n (g ∷ gs) i j h = rw (ne_eqb i j (λ e. omega arith)) (omega (arith, news-behind n gs (suc i) j (omega arith)))
 
@@ -197,7 +197,7 @@ noted-due (many c k) n = refl
 noted-due (mapping ks) n = refl
 
 news-at : (t n : ℕ) (gs : List New) (i k : ℕ) → k < length gs → owed (i + k) (new_dues i n gs) ≡ values_due (get_or (map (made t) gs) k no_field).kind n
-unfolding owed sum new_dues if◌then◌else◌ made
+unfolding owed sum new_dues when◌then◌else◌ made
 news-at t n [] i k h = absurd (omega arith)
 news-at t n (g ∷ gs) i zero h = rw (add-zero, eq-eqb i i refl) (omega (arith, noted-due g.kind n, news-below n gs (suc i) (i + 0) (omega arith)))
 news-at t n (g ∷ gs) i (suc k) h =
@@ -222,10 +222,10 @@ fold-objects t [] s u = refl
 fold-objects t (g ∷ gs) s u = fold-objects t gs (after_new t s g) u
 
 pub head-objects : (s : State) (h : Head) (u : ℕ) → objects_of (after_head s h) u ≡ objects_of s u + once h.count (eqb (type_of s h.name) u)
-unfolding objects_of after_head new_range total if◌then◌else◌ once of? size
+unfolding objects_of after_head new_range total when◌then◌else◌ once of? size
 head-objects s h u = rw (total-append (of? u) size s.log (new_range s h ∷ [])) (go (eqb (type_of s h.name) u))
   where
-    go : (b : Bool) → objects_of s u + (if b then h.count + 0 else 0) ≡ objects_of s u + (if b then h.count else 0)
+    go : (b : Bool) → objects_of s u + (when b then h.count + 0 else 0) ≡ objects_of s u + (when b then h.count else 0)
     go true = omega arith
     go false = refl
 
@@ -315,7 +315,7 @@ entries-even (e ∷ es) past s E =
 unfoldable pub chunk_count : ℕ → List Due → List Chunk → ℕ
 chunk_count j [] cs = 0
 chunk_count j (d ∷ ds) [] = 0
-chunk_count j (d ∷ ds) (c ∷ cs) = (if eqb d.field j then length c else 0) + chunk_count j ds cs
+chunk_count j (d ∷ ds) (c ∷ cs) = (when eqb d.field j then length c else 0) + chunk_count j ds cs
 
 unfoldable pub value_count : ℕ → State → Ledger → ℕ
 value_count j s [] = 0

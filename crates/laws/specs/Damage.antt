@@ -8,7 +8,7 @@ use mathlib.Core.List.{List, [], ◌∷◌, ◌++◌}
 use Rattle.std.proofs.Math.Dec.{eqb}
 use Rattle.std.proofs.Math.ListN.{length}
 use Rattle.std.proofs.lemmas.Bool.{lt-leb}
-use Rattle.paper.specs.Reader.{if◌then◌else◌, Reader, got, ◌>>=◌, give, each, within, refuse, to_end}
+use Rattle.paper.specs.Reader.{when◌then◌else◌, Reader, got, ◌>>=◌, give, each, within, refuse, to_end}
 use Rattle.paper.specs.Ledger.{mapping, Kind, constant, plain, array, many, Chunk, Pair, Ledger, Due, State, nothing, field_at, type_named, field_named}
 use Rattle.paper.specs.Lists.{fold, any, last_or}
 use Rattle.paper.specs.Bounds.{most_pairs}
@@ -255,13 +255,13 @@ went-through n s f at l e q = go (unless_end-inv [] (pair s >>= follow n s) f at
 pub spots-more :
     (n : ℕ) (s : State) (f : List ℕ) (at : ℕ) (p : Pair) (e : ℕ) (P : Parts s f at p e) → at < length f
     → spots_of (suc n) s f at ≡ pair_spots s P.d P.next ++ spots_of n (after_pair s p) f e
-unfolding spots_of if◌then◌else◌
+unfolding spots_of when◌then◌else◌
 spots-more n s f at p e P lt =
     let z = region-end _ _ P.d.ends f P.next p.chunks e P.region in
     rw (lt-leb (length f) at lt, P.first, after-parts s p P.d P.strings P.entries, ← z.0)
 
 pub spots-end : (n : ℕ) (s : State) (f : List ℕ) (at : ℕ) → length f ≤ at → spots_of n s f at ≡ []
-unfolding spots_of if◌then◌else◌
+unfolding spots_of when◌then◌else◌
 spots-end zero s f at h = refl
 spots-end (suc n) s f at h = rw (le-leb (length f) at h)
 
@@ -391,7 +391,7 @@ known_alike i s (p ∷ l) (p' ∷ l') a = known_alike i (after_pair s p) l l' a.
 
 module _ (i j : ℕ) (ne : j ≡ i → ⊥) where
   values-in-alike : (d : Due) (c c' : Chunk) → ((d.field ≡ i → ⊥) → c ≡ c') → values_in j d c ≡ values_in j d c'
-  unfolding values_in if◌then◌else◌
+  unfolding values_in when◌then◌else◌
   values-in-alike d c c' a = go (eqb d.field j) refl
     where
       go : (t : Bool) → eqb d.field j ≡ t → values_in j d c ≡ values_in j d c'

@@ -3,7 +3,7 @@ use Rattle.std.specs.Prelude.{◌≡◌, List, [], ◌∷◌, ◌++◌, ℕ, zer
 use Rattle.std.proofs.Common.{◌∙◌, append_assoc, arith, lt_of_not-le, add-one, lt-ltb, le-ltb, le-leb}
 use Rattle.std.proofs.Math.Decide.{dec_le}
 use Rattle.std.proofs.lemmas.Bool.{lt-leb}
-use Rattle.paper.specs.Reader.{if◌then◌else◌}
+use Rattle.paper.specs.Reader.{when◌then◌else◌}
 use Rattle.paper.specs.Listing.{glyph, shown, decimal, hex_digits}
 use Rattle.paper.specs.Scan.{nibble}
 use Rattle.laws.specs.Says.{Bytes}
@@ -12,11 +12,11 @@ use Rattle.laws.specs.Takes.{bytes-append}
 -- ── a digit's byte ──
 
 pub glyph-low : (d : ℕ) → d < 10 → glyph d ≡ 48 + d
-unfolding glyph if◌then◌else◌
+unfolding glyph when◌then◌else◌
 glyph-low d h = rw (lt-ltb d 10 h)
 
 pub glyph-high : (d : ℕ) → 10 ≤ d → glyph d ≡ 87 + d
-unfolding glyph if◌then◌else◌
+unfolding glyph when◌then◌else◌
 glyph-high d h = rw (le-ltb d 10 h)
 
 pub glyph-byte : (d : ℕ) → d < 16 → glyph d < 256
@@ -85,23 +85,23 @@ decimal-figures n = figures (n + 1) n (omega arith)
 -- ── hex digits ──
 
 nibble-digit : (b : ℕ) → 48 ≤ b → b ≤ 57 → nibble b ≡ b - 48
-unfolding nibble if◌then◌else◌
+unfolding nibble when◌then◌else◌
 nibble-digit b h k = rw (le-ltb b 48 h, le-leb b 57 k)
 
 nibble-letter : (b : ℕ) → 97 ≤ b → b ≤ 102 → nibble b ≡ b - 87
-unfolding nibble if◌then◌else◌
+unfolding nibble when◌then◌else◌
 nibble-letter b h k = rw (le-ltb b 48 (omega arith), lt-leb b 57 (omega arith), le-ltb b 97 h, le-leb b 102 k)
 
 pub nibble-below : (b : ℕ) → b < 48 → nibble b ≡ 16
-unfolding nibble if◌then◌else◌
+unfolding nibble when◌then◌else◌
 nibble-below b h = rw (lt-ltb b 48 h)
 
 nibble-between : (b : ℕ) → 57 < b → b < 97 → nibble b ≡ 16
-unfolding nibble if◌then◌else◌
+unfolding nibble when◌then◌else◌
 nibble-between b h k = rw (le-ltb b 48 (omega arith), lt-leb b 57 h, lt-ltb b 97 k)
 
 nibble-above : (b : ℕ) → 102 < b → nibble b ≡ 16
-unfolding nibble if◌then◌else◌
+unfolding nibble when◌then◌else◌
 nibble-above b h = rw (le-ltb b 48 (omega arith), lt-leb b 57 (omega arith), le-ltb b 97 (omega arith), lt-leb b 102 h)
 
 pub nibble-glyph : (d : ℕ) → d < 16 → nibble (glyph d) ≡ d

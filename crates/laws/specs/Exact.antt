@@ -1,7 +1,7 @@
 -- A file is accepted exactly when it says a ledger that keeps the rules, in whatever codings. Assumes nothing.
 use Rattle.std.specs.Prelude.{◌≡◌, refl, true, List, [], ◌∷◌, ◌++◌, map, ℕ, suc, ◌+◌, ◌-◌, ◌^◌, ◌≤◌, ◌<◌, length}
 use Rattle.std.proofs.Common.{sym, ◌∙◌, ap, subst, append_assoc, append-nil, arith, zero-add, length-append, leb-true, le-leb}
-use Rattle.paper.specs.Reader.{if◌then◌else◌, got, each, refuse}
+use Rattle.paper.specs.Reader.{when◌then◌else◌, got, each, refuse}
 use Rattle.paper.specs.Ledger.{Entry, Chunk, Pair, Ledger, Due, State, nothing}
 use Rattle.paper.specs.Lists.{all, last_or, flat}
 use Rattle.paper.specs.Bounds.{most_bytes, most_pairs}
@@ -257,7 +257,7 @@ module _ (f : List ℕ) (l : Ledger) (S : Spells f l) (h : keeps? l ≡ true) (f
 
   -- and is read
   pub file-taken : file f ≡ got l (length f)
-  unfolding Spells keeps? file pairs if◌then◌else◌
+  unfolding Spells keeps? file pairs when◌then◌else◌
   file-taken =
       let (a, (b, (c, _))) = every-split _ h in
       rw (le-leb (length f) most_bytes few)

@@ -1,7 +1,7 @@
 -- The laws, for each reader of the file. Assumes nothing.
 use Rattle.std.specs.Prelude.{◌≡◌, refl, Bool, true, false, List, [], ◌∷◌, ℕ, zero, suc, ◌+◌, ◌≤◌, length}
 use Rattle.std.proofs.Common.{sym, ◌∙◌, ap, arith}
-use Rattle.paper.specs.Reader.{Reader, Out, got, no, ◌>>◌, if◌then◌else◌}
+use Rattle.paper.specs.Reader.{Reader, Out, got, no, ◌>>◌, when◌then◌else◌}
 use Rattle.paper.specs.Numbers.{fixed, coding, v64, number}
 use Rattle.paper.specs.Lists.{last_or}
 use Rattle.paper.specs.Ledger.{State, Due, Chunk}
@@ -71,12 +71,12 @@ refusal-never (no n p) h = not-got h
 pub named-inv :
     (s : State) (start : ℕ) (d : Front) (f : List ℕ) (at : ℕ) (v : Unit {0}) (e : ℕ) → kinds_named s start d f at ≡ got v e
     → (kinds_stand? (after_front s d.strings d.entries) d.entries ≡ true) × (e ≡ at)
-unfolding kinds_named if◌then◌else◌
+unfolding kinds_named when◌then◌else◌
 named-inv s start d f at v e q = go (kinds_stand? (after_front s d.strings d.entries) d.entries) refl q
   where
     go :
         (b : Bool) → kinds_stand? (after_front s d.strings d.entries) d.entries ≡ b
-        → (if b then got tt at else refusal_of (front (a_type? (after_front s d.strings d.entries)) s f start)) ≡ got v e
+        → (when b then got tt at else refusal_of (front (a_type? (after_front s d.strings d.entries)) s f start)) ≡ got v e
         → (kinds_stand? (after_front s d.strings d.entries) d.entries ≡ true) × (e ≡ at)
     go true t q = (t, cc q)
     go false t q = refusal-never (front (a_type? (after_front s d.strings d.entries)) s f start) q
@@ -84,7 +84,7 @@ named-inv s start d f at v e q = go (kinds_stand? (after_front s d.strings d.ent
 pub named-stands :
     (s : State) (start : ℕ) (d : Front) (f : List ℕ) (at : ℕ) → kinds_stand? (after_front s d.strings d.entries) d.entries ≡ true
     → kinds_named s start d f at ≡ got tt at
-unfolding kinds_named if◌then◌else◌
+unfolding kinds_named when◌then◌else◌
 named-stands s start d f at h = rw h
 
 named-faithful : (s : State) (start : ℕ) (d : Front) → Faithful (kinds_named s start d)

@@ -5,7 +5,7 @@ use Rattle.std.proofs.Math.Option.{Option, none, some}
 use Rattle.std.proofs.lemmas.List.{length-replicate}
 use Rattle.std.proofs.Math.Seq.{take-append_seam, drop-append_seam}
 use Rattle.std.proofs.lemmas.Bool.{lt-leb}
-use Rattle.paper.specs.Reader.{if◌then◌else◌, Rule, only}
+use Rattle.paper.specs.Reader.{when◌then◌else◌, Rule, only}
 use Rattle.paper.specs.Numbers.{put_fixed, number}
 use Rattle.paper.specs.Ledger.{mapping, constant, plain, array, many, Head, State}
 use Rattle.paper.specs.Lists.{all, given?, or, last_or, flat}
@@ -57,18 +57,18 @@ unfolding restrictions restriction_rules
 restrictions-taken = number-reads _ 0 (omega arith) (refl, tt)
 
 if-put : Bool → List Piece
-if-put b = if b then free 0 else []
+if-put b = when b then free 0 else []
 
 restricted-kept : (b : Bool) → Says (only b restrictions) (λ o cs. Spelt (if-put b) cs)
-unfolding if-put if◌then◌else◌
+unfolding if-put when◌then◌else◌
 restricted-kept true = only-says true _ (λ t. weaker _ (λ n cs p. spelt-end (free 0) p) no-restrictions) (λ t. not_so (sym t))
 restricted-kept false = only-says false _ (λ t. not_so t) (λ t. spelt-none)
 
 restricted : Bool → Option ℕ
-restricted b = if b then some 0 else none
+restricted b = when b then some 0 else none
 
 restricted-taken : (b : Bool) → Reads (only b restrictions) (if-put b) (restricted b)
-unfolding if-put restricted if◌then◌else◌
+unfolding if-put restricted when◌then◌else◌
 restricted-taken true = only-reads-some refl restrictions-taken
 restricted-taken false = only-reads-none _ refl
 

@@ -8,7 +8,7 @@ use Rattle.std.proofs.Math.Option.{Option, none, some}
 use Prim.Native.Nat.{ℕ, zero, suc, ◌-◌, ◌/◌, ◌%◌, ◌<◌}
 use Rattle.std.proofs.Math.ListN.{length-map, get_or-map}
 use Rattle.std.proofs.lemmas.Bool.{eqb-false}
-use Rattle.paper.specs.Reader.{if◌then◌else◌}
+use Rattle.paper.specs.Reader.{when◌then◌else◌}
 use Rattle.paper.specs.Lists.{same, all, place, place_named, fold, flat}
 use Rattle.paper.specs.Ledger.{annotation, keys, mapping, Kind, constant, plain, array, many, Element, flag, whole, float, link, New, Head, Entry, Pair, Field, State, nothing, text, a_string?, type_named, type_in, field_at, fields_of, called?, field_named, objects_of, pool_before, objects_in_all, object?}
 use Rattle.paper.specs.Rules.{base_object?, annotation?, strings_rules, with_strings, new?, type_of, entered?, place_rules, type_name_rules, super_named, super_name_rules, super_of, in_range?, few_objects?, count_rules, base_of, new_name, new_type, new_range, after_head, known_due, field_count_rules, field_name_rules, after_new, after_entry, old_due, entry_dues, dues, a_type?, kind_stands?, kinds_stand?, link?, link_rules, closed, after_front, after_pair}
@@ -295,10 +295,10 @@ module _ (s : State) where
     base_of-hexed h = rw (type_of-hexed h.name, super_of-hexed h.name h.super)
 
     new_name-hexed : (h : Head) → new_name (hexed s) h ≡ map hex (new_name s h)
-    unfolding new_name if◌then◌else◌
+    unfolding new_name when◌then◌else◌
     new_name-hexed h = rw (new-hexed h.name, text-hexed h.name) (go (new? s h.name))
       where
-        go : (b : Bool) → (if b then hex (text s h.name) ∷ [] else []) ≡ map hex (if b then text s h.name ∷ [] else [])
+        go : (b : Bool) → (when b then hex (text s h.name) ∷ [] else []) ≡ map hex (when b then text s h.name ∷ [] else [])
         go true = refl
         go false = refl
 
@@ -325,10 +325,10 @@ module _ (s : State) where
     spelt-strings ss h = record { strings = each_append s.strings ss S.strings h; type_names = S.type_names; field_names = S.field_names }
 
     pub spelt-head : (h : Head) → Spelt (after_head s h)
-    unfolding after_head new_name if◌then◌else◌
+    unfolding after_head new_name when◌then◌else◌
     spelt-head h = record { strings = S.strings; type_names = each_append s.type_names _ S.type_names (go (new? s h.name)); field_names = S.field_names }
       where
-        go : (b : Bool) → EachBytes (if b then text s h.name ∷ [] else [])
+        go : (b : Bool) → EachBytes (when b then text s h.name ∷ [] else [])
         go true = (text-bytes h.name, tt)
         go false = tt
 

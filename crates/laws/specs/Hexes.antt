@@ -3,7 +3,7 @@ use Rattle.std.specs.Prelude.{◌≡◌, refl, Bool, true, false, List, [], ◌�
 use Rattle.std.proofs.Common.{sym, ◌∙◌, ap, append-nil, arith, eq-eqb, ne_eqb, ltb-true, lt-ltb}
 use Rattle.std.proofs.Math.Nat.{pow-zero, pow-succ'}
 use Rattle.std.proofs.lemmas.Bool.{eqb-false}
-use Rattle.paper.specs.Reader.{if◌then◌else◌, Out, got, no as refused, and_then, ◌>>=◌, give}
+use Rattle.paper.specs.Reader.{when◌then◌else◌, Out, got, no as refused, and_then, ◌>>=◌, give}
 use Rattle.paper.specs.Lists.{flat, all}
 use Rattle.paper.specs.Listing.{glyph, hex_digits, hex}
 use Rattle.paper.specs.Keeps.{bytes?}
@@ -19,12 +19,12 @@ use Rattle.laws.specs.Before.{Front, front-none, front-says, byte_is-says, bytes
 
 -- one digit
 digit-says : (m : ℕ) → Says (hex_on 1 m) (λ n cs. (d : ℕ) × (d < 16) × (n ≡ 16 * m + d) × (glyph d ∷ [] ≡ cs))
-unfolding hex_on if◌then◌else◌ byte_is
+unfolding hex_on when◌then◌else◌ byte_is
 digit-says m = record { at = λ f at v e b h q. go f at v e b h (ltb (nibble (get_or f at 256)) 16) refl q }
   where
     go :
         (f : List ℕ) (at v e : ℕ) → Bytes f → at ≤ length f → (t : Bool) → ltb (nibble (get_or f at 256)) 16 ≡ t
-        → (if t then got (16 * m + nibble (get_or f at 256)) (at + 1) else refused 20 0) ≡ got v e
+        → (when t then got (16 * m + nibble (get_or f at 256)) (at + 1) else refused 20 0) ≡ got v e
         → Said (λ n cs. (d : ℕ) × (d < 16) × (n ≡ 16 * m + d) × (glyph d ∷ [] ≡ cs)) f at v e
     go f at v e b h true t q =
         let c = get_or f at 256 in
@@ -37,7 +37,7 @@ digit-says m = record { at = λ f at v e b h q. go f at v e b h (ltb (nibble (ge
     go f at v e b h false t q = not-got q
 
 digit-takes : (m d : ℕ) → d < 16 → Takes (hex_on 1 m) (glyph d ∷ []) (16 * m + d)
-unfolding hex_on if◌then◌else◌
+unfolding hex_on when◌then◌else◌
 digit-takes m d h =
     record {
       bytes = (glyph-byte d h, tt);
@@ -46,7 +46,7 @@ digit-takes m d h =
 
 -- the last digit is read behind the others
 hex_on-last : (k v : ℕ) (t : List ℕ) (at : ℕ) → hex_on (suc k) v t at ≡ (hex_on k v >>= hex_on 1) t at
-unfolding hex_on ◌>>=◌ if◌then◌else◌
+unfolding hex_on ◌>>=◌ when◌then◌else◌
 hex_on-last zero v t at = refl
 hex_on-last (suc k) v t at = go (ltb (nibble (get_or t at 256)) 16) (hex_on-last k (16 * v + nibble (get_or t at 256)) t (at + 1))
   where
@@ -55,7 +55,7 @@ hex_on-last (suc k) v t at = go (ltb (nibble (get_or t at 256)) 16) (hex_on-last
 
     go :
         (x : Bool) → hex_on (suc k) w t (at + 1) ≡ and_then (hex_on k w t (at + 1)) (λ m. hex_on 1 m t)
-        → (if x then hex_on (suc k) w t (at + 1) else refused 20 0) ≡ and_then (if x then hex_on k w t (at + 1) else refused 20 0) (λ m. hex_on 1 m t)
+        → (when x then hex_on (suc k) w t (at + 1) else refused 20 0) ≡ and_then (when x then hex_on k w t (at + 1) else refused 20 0) (λ m. hex_on 1 m t)
     go true ih = ih
     go false ih = refl
 
@@ -83,7 +83,7 @@ abbrev Hexed : List ℕ → List ℕ → Type 0
 Hexed s cs = (hex s ≡ cs) × (bytes? s ≡ true)
 
 hex_pairs-front : (ts : List ℕ) (e : ℕ) (s : List ℕ) (d : ℕ) → hex_pairs e ts ≡ got s d → Front Hexed e ts s d
-unfolding hex_pairs if◌then◌else◌ hex flat bytes? all hex_digits
+unfolding hex_pairs when◌then◌else◌ hex flat bytes? all hex_digits
 hex_pairs-front [] e s d h = front-none [] (refl, refl) h
 hex_pairs-front (a ∷ []) e s d h = front-none (a ∷ []) (refl, refl) h
 hex_pairs-front (a ∷ b ∷ ts) e s d h =
@@ -92,7 +92,7 @@ hex_pairs-front (a ∷ b ∷ ts) e s d h =
     go :
         ((s : List ℕ) (d : ℕ) → hex_pairs (e + 2) ts ≡ got s d → Front Hexed (e + 2) ts s d) → (x : Bool) → eqb (nibble a) 16 ≡ x → (y : Bool)
         → eqb (nibble b) 16 ≡ y → (o : Out (List ℕ)) → hex_pairs (e + 2) ts ≡ o
-        → (if x then got [] e else if y then got [] e else and_then o λ ws d. got ((nibble a * 16 + nibble b) ∷ ws) d) ≡ got s d → Front Hexed e (a ∷ b ∷ ts) s d
+        → (when x then got [] e else when y then got [] e else and_then o λ ws d. got ((nibble a * 16 + nibble b) ∷ ws) d) ≡ got s d → Front Hexed e (a ∷ b ∷ ts) s d
     go ih true t y u o w h = front-none (a ∷ b ∷ ts) (refl, refl) h
     go ih false t true u o w h = front-none (a ∷ b ∷ ts) (refl, refl) h
     go ih false t false u (refused k p) w h = not-got h
@@ -118,7 +118,7 @@ unfolding hex_bytes
 hex_bytes-says = front-says hex_pairs hex_pairs-front
 
 hex_pairs-ends : (e : ℕ) (ts : List ℕ) → Stops ts → hex_pairs e ts ≡ got [] e
-unfolding hex_pairs if◌then◌else◌
+unfolding hex_pairs when◌then◌else◌
 hex_pairs-ends e [] h = refl
 hex_pairs-ends e (a ∷ []) h = refl
 hex_pairs-ends e (a ∷ b ∷ ts) h = rw (eq-eqb (nibble a) 16 (nibble-below a h))
@@ -126,7 +126,7 @@ hex_pairs-ends e (a ∷ b ∷ ts) h = rw (eq-eqb (nibble a) 16 (nibble-below a h
 -- where no pair follows
 hex_pairs-goes :
     (s : List ℕ) (e : ℕ) (rest : List ℕ) → Bytes s → ((d : ℕ) → hex_pairs d rest ≡ got [] d) → hex_pairs e (hex s ++ rest) ≡ got s (e + length (hex s))
-unfolding hex flat hex_pairs if◌then◌else◌ hex_digits
+unfolding hex flat hex_pairs when◌then◌else◌ hex_digits
 hex_pairs-goes [] e rest h s = s e ∙ ap (got []) (omega arith)
 hex_pairs-goes (b ∷ bs) e rest h s =
     let lt = h.0 in

@@ -5,7 +5,7 @@ use Rattle.std.proofs.Common.{sym, ◌∙◌, ap, arith, length-take, length-dro
 use Rattle.std.proofs.Math.Option.{none, some}
 use Rattle.std.proofs.Math.Decide.{dec_le}
 use Rattle.std.proofs.lemmas.Bool.{lt-leb}
-use Rattle.paper.specs.Reader.{if◌then◌else◌, Reader, Out, got, no, and_then, ◌>>=◌, ◌>>◌, give, hold, must, from_start, started, within, Rule, ◌or_no◌, bytes, each, times, repeat, only, filled, part}
+use Rattle.paper.specs.Reader.{when◌then◌else◌, Reader, Out, got, no, and_then, ◌>>=◌, ◌>>◌, give, hold, must, from_start, started, within, Rule, ◌or_no◌, bytes, each, times, repeat, only, filled, part}
 
 -- as far as g goes, it is from `at` to `e` what f is
 abbrev pub Agree : List ℕ → List ℕ → ℕ → ℕ → Type 0
@@ -105,8 +105,8 @@ must-faithful {A} {r} rules R = record { at = λ f at v e h q. go f at v e h (r 
         }
     go f at v e h (no n p) er eq = not-got eq
 
-pub if-faithful : {A : Type 0} (b : Bool) {r q : Reader A} → Faithful r → Faithful q → Faithful (if b then r else q)
-unfolding if◌then◌else◌
+pub if-faithful : {A : Type 0} (b : Bool) {r q : Reader A} → Faithful r → Faithful q → Faithful (when b then r else q)
+unfolding when◌then◌else◌
 if-faithful true R Q = R
 if-faithful false R Q = Q
 
@@ -143,12 +143,12 @@ part_same n at f g hf hg ag =
     rw (get_or-take, get_or-drop, get_or-take, get_or-drop) (ag (at + i) (omega arith) (omega arith) (omega arith))
 
 pub bytes-faithful : (n : ℕ) → Faithful (bytes n)
-unfolding bytes if◌then◌else◌
+unfolding bytes when◌then◌else◌
 bytes-faithful n = record { at = λ f at v e h q. go f at v e h (leb (at + n) (length f)) refl q }
   where
     go :
         (f : List ℕ) (at : ℕ) (v : List ℕ) (e : ℕ) → at ≤ length f → (b : Bool) → leb (at + n) (length f) ≡ b
-        → (if b then got (take n (drop at f)) (at + n) else no 1 at) ≡ got v e → Stays (bytes n) f at v e
+        → (when b then got (take n (drop at f)) (at + n) else no 1 at) ≡ got v e → Stays (bytes n) f at v e
     go f at v e h true t eq =
         let le = leb-true (at + n) (length f) t in
         let z : at + n ≡ e = cc eq in
@@ -163,10 +163,10 @@ bytes-faithful n = record { at = λ f at v e h q. go f at v e h (leb (at + n) (l
 
 -- whatever is read from the part
 pub part-faithful : {A : Type 0} (n : ℕ) (r : Reader A) → Faithful (part n r)
-unfolding part if◌then◌else◌
+unfolding part when◌then◌else◌
 part-faithful {A} n r = record { at = λ f at v e h q. go f at v e h (leb (at + n) (length f)) refl q }
   where
-    full : (at m : ℕ) (a : A) (v : A) (e : ℕ) (b : Bool) → (if b then got a (at + n) else no 12 (at + m)) ≡ got v e → at + n ≡ e
+    full : (at m : ℕ) (a : A) (v : A) (e : ℕ) (b : Bool) → (when b then got a (at + n) else no 12 (at + m)) ≡ got v e → at + n ≡ e
     full at m a v e true h = cc h
     full at m a v e false h = not-got h
 
@@ -176,7 +176,7 @@ part-faithful {A} n r = record { at = λ f at v e h q. go f at v e h (leb (at + 
 
     go :
         (f : List ℕ) (at : ℕ) (v : A) (e : ℕ) → at ≤ length f → (b : Bool) → leb (at + n) (length f) ≡ b
-        → (if b then filled at n (r (take n (drop at f)) 0) else no 1 at) ≡ got v e → Stays (part n r) f at v e
+        → (when b then filled at n (r (take n (drop at f)) 0) else no 1 at) ≡ got v e → Stays (part n r) f at v e
     go f at v e h true t eq =
         let le = leb-true (at + n) (length f) t in
         let z = ends at (r (take n (drop at f)) 0) v e eq in
@@ -192,11 +192,11 @@ part-faithful {A} n r = record { at = λ f at v e h q. go f at v e h (leb (at + 
 -- a reading that passes over the bytes that are asked for
 pub within-faithful :
     {A : Type 0} (n : ℕ) {r : Reader A} → Faithful r → ((f : List ℕ) (at : ℕ) (v : A) (e : ℕ) → r f at ≡ got v e → at + n ≤ e) → Faithful (within n r)
-unfolding within if◌then◌else◌
+unfolding within when◌then◌else◌
 within-faithful {A} n {r} R covers = record { at = λ f at v e h q. go f at v e h (leb (at + n) (length f)) q }
   where
     go :
-        (f : List ℕ) (at : ℕ) (v : A) (e : ℕ) → at ≤ length f → (b : Bool) → (if b then r f at else no 1 at) ≡ got v e → Stays (within n r) f at v e
+        (f : List ℕ) (at : ℕ) (v : A) (e : ℕ) → at ≤ length f → (b : Bool) → (when b then r f at else no 1 at) ≡ got v e → Stays (within n r) f at v e
     go f at v e h true eq =
         let S = R.at f at v e h eq in
         let c = covers f at v e eq in
@@ -207,7 +207,7 @@ within-faithful {A} n {r} R covers = record { at = λ f at v e h q. go f at v e 
           short = λ g hg ag lt. cut g (leb (at + n) (length g)) (S.short g hg ag lt);
         }
       where
-        cut : (g : List ℕ) (b : Bool) → why (r g at) ≡ 1 → why (if b then r g at else no 1 at) ≡ 1
+        cut : (g : List ℕ) (b : Bool) → why (r g at) ≡ 1 → why (when b then r g at else no 1 at) ≡ 1
         cut g true w = w
         cut g false w = refl
     go f at v e h false eq = not-got eq
@@ -311,12 +311,12 @@ pub record Filled {A : Type 0} (n : ℕ) (r : Reader A) (f : List ℕ) (at : ℕ
   pub ends : e ≡ at + n
 
 pub part-inv : {A : Type 0} (n : ℕ) (r : Reader A) (f : List ℕ) (at : ℕ) (v : A) (e : ℕ) → part n r f at ≡ got v e → Filled n r f at v e
-unfolding part if◌then◌else◌
+unfolding part when◌then◌else◌
 part-inv {A} n r f at v e q = go (leb (at + n) (length f)) refl q
   where
     full :
         at + n ≤ length f → (a : A) (m : ℕ) → r (take n (drop at f)) 0 ≡ got a m → (t : Bool) → eqb m n ≡ t
-        → (if t then got a (at + n) else no 12 (at + m)) ≡ got v e → Filled n r f at v e
+        → (when t then got a (at + n) else no 12 (at + m)) ≡ got v e → Filled n r f at v e
     full le a m x true t q =
         let w : m ≡ n = eqb-true m n t in
         let y : a ≡ v = cc q in
@@ -327,14 +327,14 @@ part-inv {A} n r f at v e q = go (leb (at + n) (length f)) refl q
     out le (got a m) x q = full le a m x (eqb m n) refl q
     out le (no k p) x q = not-got q
 
-    go : (t : Bool) → leb (at + n) (length f) ≡ t → (if t then filled at n (r (take n (drop at f)) 0) else no 1 at) ≡ got v e → Filled n r f at v e
+    go : (t : Bool) → leb (at + n) (length f) ≡ t → (when t then filled at n (r (take n (drop at f)) 0) else no 1 at) ≡ got v e → Filled n r f at v e
     go true t q = out (leb-true (at + n) (length f) t) (r (take n (drop at f)) 0) refl q
     go false t q = not-got q
 
 pub within-inv : {A : Type 0} (n : ℕ) (r : Reader A) (f : List ℕ) (at : ℕ) (v : A) (e : ℕ) → within n r f at ≡ got v e → r f at ≡ got v e
-unfolding within if◌then◌else◌
+unfolding within when◌then◌else◌
 within-inv n r f at v e q = go (leb (at + n) (length f)) q
   where
-    go : (b : Bool) → (if b then r f at else no 1 at) ≡ got v e → r f at ≡ got v e
+    go : (b : Bool) → (when b then r f at else no 1 at) ≡ got v e → r f at ≡ got v e
     go true q = q
     go false q = not-got q

@@ -9,7 +9,7 @@ use Rattle.std.proofs.Math.Dec.{eqb}
 use Rattle.std.proofs.Math.ListN.{length, length-append, get_or-append}
 use Rattle.std.proofs.lemmas.List.{length-map, length-replicate}
 use borrow.Author.Tests.{eqb-true, leb-true}
-use Rattle.paper.specs.Reader.{if◌then◌else◌}
+use Rattle.paper.specs.Reader.{when◌then◌else◌}
 use Rattle.paper.specs.Ledger.{mapping, Kind, constant, plain, array, many, New, Head, Entry, Field, Due, Chunk, Pair, Ledger, State, nothing, field_at, no_field, fields_of, field_named, objects_of, type_named, owns?, called?}
 use Rattle.paper.specs.Lists.{all, fold, places}
 use Rattle.paper.specs.Rules.{type_of, after_head, known_due, after_entry, old_due, new_dues, entry_dues, dues, with_strings, after_front, closed, after_pair}
@@ -38,19 +38,19 @@ under_more m n [] le h = tt
 under_more m n (d ∷ ds) le h = (omega (arith, h.0), under_more m n ds le h.1)
 
 old-under : (s : State) (n : ℕ) (p : Field → Bool) (xs : List Field) (i : ℕ) → Under (i + length xs) (map (old_due s n) (places p i xs))
-unfolding places if◌then◌else◌ old_due
+unfolding places when◌then◌else◌ old_due
 old-under s n p [] i = tt
 old-under s n p (x ∷ xs) i = go (rw (suc-add i (length xs), ← add-suc i (length xs)) at (old-under s n p xs (suc i))) (p x)
   where
-    go : Under (i + suc (length xs)) (map (old_due s n) (places p (suc i) xs)) → (b : Bool) → Under (i + suc (length xs)) (map (old_due s n) (if b then i ∷ places p (suc i) xs else places p (suc i) xs))
+    go : Under (i + suc (length xs)) (map (old_due s n) (places p (suc i) xs)) → (b : Bool) → Under (i + suc (length xs)) (map (old_due s n) (when b then i ∷ places p (suc i) xs else places p (suc i) xs))
     go ih true = (omega arith, ih)
     go ih false = ih
 
 known_under : (s : State) (h : Head) → Under (length s.fields) (map (old_due s h.count) (known_due s h))
-unfolding known_due fields_of if◌then◌else◌
+unfolding known_due fields_of when◌then◌else◌
 known_under s h = go (eqb h.count 0)
   where
-    go : (b : Bool) → Under (length s.fields) (map (old_due s h.count) (if b then [] else places (owns? (type_of s h.name)) 0 s.fields))
+    go : (b : Bool) → Under (length s.fields) (map (old_due s h.count) (when b then [] else places (owns? (type_of s h.name)) 0 s.fields))
     go true = tt
     go false = rw zero-add at (old-under s h.count (owns? (type_of s h.name)) s.fields 0)
 
@@ -115,7 +115,7 @@ module _ (j k : ℕ) (F : List Field) (plain-j : (get_or F j no_field).kind ≡ 
   chunk-values-length :
       (s : State) → Begins s.fields F → (ds : List Due) (cs : List Chunk) → Under (length s.fields) ds → chunks? s ds cs ≡ true
       → length (chunk_values j ds cs) ≡ chunk_count j ds cs
-  unfolding chunk_values chunk_count chunks? values_in if◌then◌else◌
+  unfolding chunk_values chunk_count chunks? values_in when◌then◌else◌
   chunk-values-length s b [] cs h q = refl
   chunk-values-length s b (d ∷ ds) [] h q = not_so q
   chunk-values-length s b (d ∷ ds) (c ∷ cs) h q =
@@ -124,7 +124,7 @@ module _ (j k : ℕ) (F : List Field) (plain-j : (get_or F j no_field).kind ≡ 
     where
       go :
           length (chunk_values j ds cs) ≡ chunk_count j ds cs → chunk? s d c ≡ true → (t : Bool) → eqb d.field j ≡ t
-          → length (if t then stored_all c else []) + length (chunk_values j ds cs) ≡ (if t then length c else 0) + chunk_count j ds cs
+          → length (when t then stored_all c else []) + length (chunk_values j ds cs) ≡ (when t then length c else 0) + chunk_count j ds cs
       go ih x true t =
           let is = eqb-true d.field j t in
           let z : (field_at s d.field).kind ≡ plain k = rw is (kind-there s b (rw is at h.0)) in

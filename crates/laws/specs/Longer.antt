@@ -4,7 +4,7 @@ use Rattle.std.proofs.Common.{sym, ◌∙◌, ap, inl, inr, arith, length-append
 use Rattle.std.proofs.Math.Decide.{dec_le}
 use Rattle.std.proofs.Math.ListN.{get_or-append}
 use Rattle.std.proofs.lemmas.Bool.{lt-leb}
-use Rattle.paper.specs.Reader.{if◌then◌else◌, Reader, Out, got, no, ◌>>=◌, give, refuse, unless_end, to_end}
+use Rattle.paper.specs.Reader.{when◌then◌else◌, Reader, Out, got, no, ◌>>=◌, give, refuse, unless_end, to_end}
 use Rattle.paper.specs.Ledger.{State, Pair, Ledger, nothing}
 use Rattle.paper.specs.Rules.{after_pair}
 use Rattle.paper.specs.Bounds.{most_bytes}
@@ -24,15 +24,15 @@ pub record AtEnd {A : Type 0} (a : A) (f : List ℕ) (at : ℕ) (v : A) (e : ℕ
 
 pub unless_end-inv :
     {A : Type 0} (a : A) (r : Reader A) (f : List ℕ) (at : ℕ) (v : A) (e : ℕ) → unless_end a r f at ≡ got v e → AtEnd a f at v e ⊎ Before r f at v e
-unfolding unless_end if◌then◌else◌
+unfolding unless_end when◌then◌else◌
 unless_end-inv a r f at v e h = go (leb (length f) at) refl h
   where
-    go : (b : Bool) → leb (length f) at ≡ b → (if b then got a at else r f at) ≡ got v e → AtEnd a f at v e ⊎ Before r f at v e
+    go : (b : Bool) → leb (length f) at ≡ b → (when b then got a at else r f at) ≡ got v e → AtEnd a f at v e ⊎ Before r f at v e
     go true t q = inl (record { after = leb-true _ _ t; same = cc q; there = cc q })
     go false t q = inr (record { before = leb-false _ _ t; reads = q })
 
 pub unless_end-before : {A : Type 0} (a : A) (r : Reader A) (f : List ℕ) (at : ℕ) → at < length f → unless_end a r f at ≡ r f at
-unfolding unless_end if◌then◌else◌
+unfolding unless_end when◌then◌else◌
 unless_end-before a r f at h = rw (lt-leb (length f) at h)
 
 -- l begins l'
@@ -88,10 +88,10 @@ longer (suc n) = longer-step n (longer n)
 
 -- a file of at most 1,048,576 bytes is read as pairs
 pub file-inv : (f : List ℕ) (l : Ledger) (e : ℕ) → file f ≡ got l e → pairs 32 nothing f 0 ≡ got l e
-unfolding file if◌then◌else◌
+unfolding file when◌then◌else◌
 file-inv f l e h = go (leb (length f) most_bytes) h
   where
-    go : (b : Bool) → (if b then pairs 32 nothing f 0 else no 3 0) ≡ got l e → pairs 32 nothing f 0 ≡ got l e
+    go : (b : Bool) → (when b then pairs 32 nothing f 0 else no 3 0) ≡ got l e → pairs 32 nothing f 0 ≡ got l e
     go true q = q
     go false q = not-got q
 
@@ -117,7 +117,7 @@ Shorter n =
     → pairs n s f at ≡ got l e → FirstOrShort (pairs n s g at) l (length g)
 
 pub unless_end-end : {A : Type 0} (a : A) (r : Reader A) (f : List ℕ) (at : ℕ) → at ≡ length f → unless_end a r f at ≡ got a (length f)
-unfolding unless_end if◌then◌else◌
+unfolding unless_end when◌then◌else◌
 unless_end-end a r f at h = rw (le-leb (length f) at (omega arith)) (ap (got a) h)
 
 -- the first pairs behind one more pair
@@ -174,15 +174,15 @@ shorter zero = shorter-none
 shorter (suc n) = shorter-step n (shorter n)
 
 pub file-length : (f : List ℕ) (l : Ledger) (e : ℕ) → file f ≡ got l e → length f ≤ most_bytes
-unfolding file if◌then◌else◌
+unfolding file when◌then◌else◌
 file-length f l e h = go (leb (length f) most_bytes) refl h
   where
-    go : (b : Bool) → leb (length f) most_bytes ≡ b → (if b then pairs 32 nothing f 0 else no 3 0) ≡ got l e → length f ≤ most_bytes
+    go : (b : Bool) → leb (length f) most_bytes ≡ b → (when b then pairs 32 nothing f 0 else no 3 0) ≡ got l e → length f ≤ most_bytes
     go true t q = leb-true _ _ t
     go false t q = not-got q
 
 file-pairs : (f : List ℕ) → length f ≤ most_bytes → file f ≡ pairs 32 nothing f 0
-unfolding file if◌then◌else◌
+unfolding file when◌then◌else◌
 file-pairs f h = rw (le-leb (length f) most_bytes h)
 
 -- an accepted file, cut off anywhere, is accepted with its first pairs, or refused by 1

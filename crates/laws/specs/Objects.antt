@@ -11,7 +11,7 @@ use Rattle.std.proofs.Math.Dec.{eqb}
 use Rattle.std.proofs.Math.ListN.{length, length-append, get_or-append, get_or-eq_default}
 use Rattle.std.proofs.lemmas.List.{get_or_at}
 use borrow.Author.Tests.{leb-true, eqb-true, eqb-false, eq-eqb, ne_eqb, not-true}
-use Rattle.paper.specs.Reader.{if◌then◌else◌}
+use Rattle.paper.specs.Reader.{when◌then◌else◌}
 use Rattle.paper.specs.Bounds.{most_objects}
 use Rattle.paper.specs.Lists.{any, all, total, fold, given?, or, same}
 use Rattle.paper.specs.Ledger.{Field, New, Head, Entry, Pair, Ledger, Typ, Range, State, nothing, text, type_named, type_in, no_type, of?, here?, size, objects_of, base?, objects_in_all}
@@ -26,30 +26,30 @@ use Rattle.laws.specs.Count.{once, head-objects}
 -- ── sums ──
 
 total-fewer : {A : Type 0} (p q : A → Bool) (n : A → ℕ) → ((x : A) → p x ≡ true → q x ≡ true) → (xs : List A) → total p n xs ≤ total q n xs
-unfolding total if◌then◌else◌
+unfolding total when◌then◌else◌
 total-fewer p q n imp [] = omega arith
 total-fewer p q n imp (x ∷ xs) = go (total-fewer p q n imp xs) (p x) (q x) (imp x)
   where
-    go : total p n xs ≤ total q n xs → (a b : Bool) → (a ≡ true → b ≡ true) → (if a then n x + total p n xs else total p n xs) ≤ (if b then n x + total q n xs else total q n xs)
+    go : total p n xs ≤ total q n xs → (a b : Bool) → (a ≡ true → b ≡ true) → (when a then n x + total p n xs else total p n xs) ≤ (when b then n x + total q n xs else total q n xs)
     go ih true true i = omega arith
     go ih true false i = not_so (i refl)
     go ih false true i = omega arith
     go ih false false i = ih
 
 pub total-none : {A : Type 0} (p : A → Bool) (n : A → ℕ) (xs : List A) → any p xs ≡ false → total p n xs ≡ 0
-unfolding total any if◌then◌else◌
+unfolding total any when◌then◌else◌
 total-none p n [] h = refl
 total-none p n (x ∷ xs) h = go (total-none p n xs) (p x) h
   where
-    go : (any p xs ≡ false → total p n xs ≡ 0) → (b : Bool) → (b || any p xs) ≡ false → (if b then n x + total p n xs else total p n xs) ≡ 0
+    go : (any p xs ≡ false → total p n xs ≡ 0) → (b : Bool) → (b || any p xs) ≡ false → (when b then n x + total p n xs else total p n xs) ≡ 0
     go ih true h = not_so (sym h)
     go ih false h = ih h
 
-pub total-last : (p : Range → Bool) (xs : List Range) (r : Range) → total p size (xs ++ r ∷ []) ≡ total p size xs + (if p r then r.count else 0)
-unfolding total size if◌then◌else◌
+pub total-last : (p : Range → Bool) (xs : List Range) (r : Range) → total p size (xs ++ r ∷ []) ≡ total p size xs + (when p r then r.count else 0)
+unfolding total size when◌then◌else◌
 total-last p xs r = total-append p size xs (r ∷ []) ∙ go (p r)
   where
-    go : (b : Bool) → total p size xs + (if b then r.count + 0 else 0) ≡ total p size xs + (if b then r.count else 0)
+    go : (b : Bool) → total p size xs + (when b then r.count + 0 else 0) ≡ total p size xs + (when b then r.count else 0)
     go true = omega arith
     go false = refl
 
@@ -149,23 +149,23 @@ unfolding type_named
 type-low s name t h = omega (arith, place-lt (same name) 0 t s.type_names h)
 
 named-low : (s : State) (n u : ℕ) → super_named s n ≡ some u → u < length s.type_names
-unfolding super_named if◌then◌else◌
+unfolding super_named when◌then◌else◌
 named-low s n u h = go (eqb n 0) h
   where
-    go : (b : Bool) → (if b then none else type_named s (text s n)) ≡ some u → u < length s.type_names
+    go : (b : Bool) → (when b then none else type_named s (text s n)) ≡ some u → u < length s.type_names
     go true q = let z : ◌≡◌ {A = ℕ} 0 1 = cc q in absurd (omega arith)
     go false q = type-low s (text s n) u q
 
 head-placed :
     (s : State) (h : Head) → Nested s → Held (type_name_rules s h.name) → only? (new? s h.name) (super_name_rules s (type_of s h.name)) h.super ≡ true
     → Placed s (type_of s h.name) (super_of s h.name h.super) (s.types ++ new_type s h)
-unfolding type_name_rules place_rules new? type_of new_type given? or if◌then◌else◌ only? super_of
+unfolding type_name_rules place_rules new? type_of new_type given? or when◌then◌else◌ only? super_of
 head-placed s h N R O = go (type_named s (text s h.name)) refl h.super refl R.1 O
   where
     go :
         (o : Option ℕ) → type_named s (text s h.name) ≡ o → (p : Option ℕ) → h.super ≡ p → Held (place_rules s o)
         → only? (not (given? o)) (super_name_rules s (or o (length s.type_names))) p ≡ true
-        → Placed s (or o (length s.type_names)) (super_of s h.name p) (s.types ++ (if not (given? o) then record { super = super_of s h.name p; base = base_of s h } ∷ [] else []))
+        → Placed s (or o (length s.type_names)) (super_of s h.name p) (s.types ++ (when not (given? o) then record { super = super_of s h.name p; base = base_of s h } ∷ [] else []))
     go none q none e R O = not_so O
     go none q (some k) e R O = rw N.named (new-placed s _ N λ u x. omega (arith, named-low s k u x, N.named))
     go (some t) q none e R O = rw (q, super_of) (known-placed s t N (omega (arith, N.named, type-low s (text s h.name) t q)) (not-true _ R.0))
@@ -173,22 +173,22 @@ head-placed s h N R O = go (type_named s (text s h.name)) refl h.super refl R.1 
 
 -- a range that is around n objects has as many
 around-fits : (b u start n : ℕ) (log : List Range) → any (around? b u start n) log ≡ true → n ≤ total (entry_of? b u) size log
-unfolding any around? total size if◌then◌else◌
+unfolding any around? total size when◌then◌else◌
 around-fits b u start n [] h = not_so h
 around-fits b u start n (r ∷ log) h = go (around-fits b u start n log) (entry_of? b u r) (leb r.start start && leb (start + n) (r.start + r.count)) refl h
   where
     go :
         (any (around? b u start n) log ≡ true → n ≤ total (entry_of? b u) size log) → (e a : Bool) → (leb r.start start && leb (start + n) (r.start + r.count)) ≡ a
-        → (e && a || any (around? b u start n) log) ≡ true → n ≤ (if e then r.count + total (entry_of? b u) size log else total (entry_of? b u) size log)
+        → (e && a || any (around? b u start n) log) ≡ true → n ≤ (when e then r.count + total (entry_of? b u) size log else total (entry_of? b u) size log)
     go ih false a x h = ih h
     go ih true false x h = omega (arith, ih h)
     go ih true true x h = let (p, q) = and_split (leb r.start start) _ x in omega (arith, leb-true r.start start p, leb-true (start + n) (r.start + r.count) q)
 
 range-fits : (s : State) (u start n : ℕ) → in_range? s (some u) start n ≡ true → n ≤ here_of s u
-unfolding in_range? here_of if◌then◌else◌
+unfolding in_range? here_of when◌then◌else◌
 range-fits s u start n h = go (eqb n 0) refl h
   where
-    go : (b : Bool) → eqb n 0 ≡ b → (if b then eqb start 0 else (any (around? s.block u start n) s.log && all (clear? s.block s.types u start) s.log)) ≡ true → n ≤ total (entry_of? s.block u) size s.log
+    go : (b : Bool) → eqb n 0 ≡ b → (when b then eqb start 0 else (any (around? s.block u start n) s.log && all (clear? s.block s.types u start) s.log)) ≡ true → n ≤ total (entry_of? s.block u) size s.log
     go true e h = omega (arith, eqb-true n 0 e)
     go false e h = around-fits s.block u start n s.log (and_split (any (around? s.block u start n) s.log) _ h).0
 
@@ -211,7 +211,7 @@ module _ (s : State) (h : Head) (N : Nested s) where
   abbrev share : ℕ → ℕ
   share u = once h.count (eqb t u)
 
-  entry-after : (b u : ℕ) → total (entry_of? b u) size s₁.log ≡ total (entry_of? b u) size s.log + (if eqb s.block b && eqb t u then h.count else 0)
+  entry-after : (b u : ℕ) → total (entry_of? b u) size s₁.log ≡ total (entry_of? b u) size s.log + (when eqb s.block b && eqb t u then h.count else 0)
   unfolding after_head new_range entry_of? here? of?
   entry-after b u = total-last (entry_of? b u) s.log (new_range s h)
 
@@ -220,11 +220,11 @@ module _ (s : State) (h : Head) (N : Nested s) where
   here-after u = entry-after s.block u ∙ rw (eq-eqb s.block s.block refl)
 
   share-mine : share t ≡ h.count
-  unfolding once if◌then◌else◌
+  unfolding once when◌then◌else◌
   share-mine = rw (eq-eqb t t refl)
 
   share-not : (u : ℕ) → (t ≡ u → ⊥) → share u ≡ 0
-  unfolding once if◌then◌else◌
+  unfolding once when◌then◌else◌
   share-not u ne = rw (ne_eqb t u ne)
 
   module _ (P : Placed s t up (s.types ++ new_type s h)) (range : in_range? s up (or h.start 0) h.count ≡ true) (room : few_objects? s up h.count ≡ true) where
@@ -232,7 +232,7 @@ module _ (s : State) (h : Head) (N : Nested s) where
     ts = s.types ++ new_type s h
 
     few-after : objects_in_all s₁ ≤ most_objects
-    unfolding objects_in_all after_head new_range base? few_objects? given? if◌then◌else◌
+    unfolding objects_in_all after_head new_range base? few_objects? given? when◌then◌else◌
     few-after = rw (total-last (base? ts) s.log (new_range s h), P.mine) (go up room (total-fewer (base? ts) (base? s.types) size fewer s.log))
       where
         fewer : (r : Range) → not (given? (above ts r.type)) ≡ true → not (given? (above s.types r.type)) ≡ true
@@ -246,20 +246,20 @@ module _ (s : State) (h : Head) (N : Nested s) where
 
         go :
             (o : Option ℕ) → few_objects? s o h.count ≡ true → total (base? ts) size s.log ≤ objects_in_all s
-            → total (base? ts) size s.log + (if not (given? o) then h.count else 0) ≤ most_objects
+            → total (base? ts) size s.log + (when not (given? o) then h.count else 0) ≤ most_objects
         go none q le = omega (arith, leb-true (objects_in_all s + h.count) most_objects (and_split (leb h.count most_objects) _ q).1)
         go (some u) q le = omega (arith, N.few)
 
     named-after : length s₁.type_names ≡ length ts
-    unfolding after_head new_name new_type if◌then◌else◌
+    unfolding after_head new_name new_type when◌then◌else◌
     named-after = rw (length-append, length-append, N.named) (go (new? s h.name))
       where
-        go : (b : Bool) → length s.types + length (if b then text s h.name ∷ [] else []) ≡ length s.types + length {A = Typ} (if b then record { super = up; base = base_of s h } ∷ [] else [])
+        go : (b : Bool) → length s.types + length (when b then text s h.name ∷ [] else []) ≡ length s.types + length {A = Typ} (when b then record { super = up; base = base_of s h } ∷ [] else [])
         go true = refl
         go false = refl
 
     ahead_after : (b u : ℕ) → s.block < b → total (entry_of? b u) size s₁.log ≡ 0
-    unfolding if◌then◌else◌
+    unfolding when◌then◌else◌
     ahead_after b u lt = entry-after b u ∙ rw (ne_eqb s.block b (λ e. omega arith), N.ahead b u lt)
 
     -- what holds of a type and its super type: the entry's own, or another

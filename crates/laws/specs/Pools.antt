@@ -11,7 +11,7 @@ use Rattle.std.proofs.Math.Dec.{leb, eqb}
 use Rattle.std.proofs.Math.ListN.{length, length-append, get_or-eq_default}
 use Rattle.std.proofs.lemmas.List.{get_or_at}
 use borrow.Author.Tests.{leb-true, ltb-true, eqb-true, eqb-false, le-leb, lt-leb, lt-ltb, ne_eqb, not-true}
-use Rattle.paper.specs.Reader.{if◌then◌else◌, got}
+use Rattle.paper.specs.Reader.{when◌then◌else◌, got}
 use Rattle.paper.specs.Lists.{any, all, total, fold, given?, or}
 use Rattle.paper.specs.Ledger.{New, Head, Entry, Typ, Range, State, nothing, text, a_string?, type_named, type_in, no_type, of?, here?, size, objects_of, before?, pool_before, holds?, object?}
 use Rattle.paper.specs.Rules.{small_rules, with_strings, new?, type_of, entry_of?, entered?, place_rules, type_name_rules, super_name_rules, super_of, base_under, base_of, new_name, new_type, new_range, after_head, after_new, after_entry, after_front, closed, any_type, base_object?, annotation?}
@@ -135,19 +135,19 @@ module _ (s : State) (h : Head) (P : Pooled s) where
   ts = s.types ++ new_type s h
 
   even-after : length (s.type_names ++ new_name s h) ≡ length ts
-  unfolding new_name new_type if◌then◌else◌
+  unfolding new_name new_type when◌then◌else◌
   even-after = rw (length-append s.type_names, length-append s.types, P.even) (go (new? s h.name))
     where
-      go : (b : Bool) → length s.types + length (if b then text s h.name ∷ [] else []) ≡ length s.types + length {A = Typ} (if b then record { super = up; base = base_of s h } ∷ [] else [])
+      go : (b : Bool) → length s.types + length (when b then text s h.name ∷ [] else []) ≡ length s.types + length {A = Typ} (when b then record { super = up; base = base_of s h } ∷ [] else [])
       go true = refl
       go false = refl
 
   -- the entry's type is then declared
   declared : t < length ts
-  unfolding type_of new_type new? given? or if◌then◌else◌
+  unfolding type_of new_type new? given? or when◌then◌else◌
   declared = rw (length-append s.types) (go (type_named s (text s h.name)) refl)
     where
-      go : (o : Option ℕ) → type_named s (text s h.name) ≡ o → or o (length s.type_names) < length s.types + length {A = Typ} (if not (given? o) then record { super = up; base = base_of s h } ∷ [] else [])
+      go : (o : Option ℕ) → type_named s (text s h.name) ≡ o → or o (length s.type_names) < length s.types + length {A = Typ} (when not (given? o) then record { super = up; base = base_of s h } ∷ [] else [])
       go none q = omega (arith, P.even)
       go (some u) q = omega (arith, P.even, type-low s (text s h.name) u q)
 
@@ -173,7 +173,7 @@ module _ (s : State) (h : Head) (P : Pooled s) where
 
     -- what has no super type now had none before, the entry's type included
     base-was : (v : ℕ) → (type_in ts v).super ≡ none → ((type_in s.types v).super ≡ none) × (t ≡ v → up ≡ none)
-    unfolding type_of new_type new? given? or if◌then◌else◌ only? super_of type_in no_type
+    unfolding type_of new_type new? given? or when◌then◌else◌ only? super_of type_in no_type
     base-was v e = go (type_named s (text s h.name)) refl h.super O e
       where
         fresh : (x : Typ) → Dec (length s.types ≡ v) → (type_in (s.types ++ x ∷ []) v).super ≡ none → ((type_in s.types v).super ≡ none) × (length s.types ≡ v → x.super ≡ none)
@@ -183,7 +183,7 @@ module _ (s : State) (h : Head) (P : Pooled s) where
 
         go :
             (o : Option ℕ) → type_named s (text s h.name) ≡ o → (p : Option ℕ) → only? (not (given? o)) (super_name_rules s (or o (length s.type_names))) p ≡ true
-            → (type_in (s.types ++ (if not (given? o) then record { super = super_of s h.name p; base = base_of s h } ∷ [] else [])) v).super ≡ none
+            → (type_in (s.types ++ (when not (given? o) then record { super = super_of s h.name p; base = base_of s h } ∷ [] else [])) v).super ≡ none
             → ((type_in s.types v).super ≡ none) × (or o (length s.type_names) ≡ v → super_of s h.name p ≡ none)
         go none q none O e = not_so O
         go none q (some k) O e = rw P.even (fresh _ (ℕ_discrete (length s.types) v) e)
@@ -196,14 +196,14 @@ module _ (s : State) (h : Head) (P : Pooled s) where
     first e = rw (e, no_start up h.start C e, all-before _ s.block t s.log P.sofar idle) (omega arith)
 
     pools-after : (v n : ℕ) → (type_in ts v).super ≡ none → any (holds? v n) (s.log ++ new_range s h ∷ []) ≡ (leb 1 n && leb n (total (of? v) size (s.log ++ new_range s h ∷ [])))
-    unfolding holds? of? new_range if◌then◌else◌
+    unfolding holds? of? new_range when◌then◌else◌
     pools-after v n e =
         let (was, top) = base-was v e in
         rw (any_last (holds? v n) s.log (new_range s h), total-last (of? v) s.log (new_range s h), P.pools v n was) (go (eqb t v) refl top)
       where
         go :
             (b : Bool) → eqb t v ≡ b → (t ≡ v → up ≡ none)
-            → (leb 1 n && leb n (total (of? v) size s.log) || b && (leb ((new_range s h).first + 1) n && leb n ((new_range s h).first + h.count))) ≡ (leb 1 n && leb n (total (of? v) size s.log + (if b then h.count else 0)))
+            → (leb 1 n && leb n (total (of? v) size s.log) || b && (leb ((new_range s h).first + 1) n && leb n ((new_range s h).first + h.count))) ≡ (leb 1 n && leb n (total (of? v) size s.log + (when b then h.count else 0)))
         go true x top = let z = eqb-true t v x in rw (first (top z), z) (joined (total (of? v) size s.log) h.count n)
         go false x top = let z : total (of? v) size s.log ≡ total (of? v) size s.log + 0 = omega arith in or-false _ ∙ ap (λ (w : ℕ). leb 1 n && leb n w) z
 
@@ -256,14 +256,14 @@ base-objects s P = P.pools
 -- how many objects a base type has; of another, or of none, there is no pool
 unfoldable pub pool_of : State → Option ℕ → ℕ
 pool_of s none = 0
-pool_of s (some t) = if given? (type_in s.types t).super then 0 else objects_of s t
+pool_of s (some t) = when given? (type_in s.types t).super then 0 else objects_of s t
 
 pool-objects : (s : State) → Pooled s → (o : Option ℕ) (n : ℕ) → (leb 1 n && leb n (pool_of s o)) ≡ base_object? s o n
-unfolding pool_of base_object? given? if◌then◌else◌
+unfolding pool_of base_object? given? when◌then◌else◌
 pool-objects s P none n = none_of n
 pool-objects s P (some v) n = go (type_in s.types v).super refl
   where
-    go : (o : Option ℕ) → (type_in s.types v).super ≡ o → (leb 1 n && leb n (if given? o then 0 else objects_of s v)) ≡ (not (given? o) && object? s v n)
+    go : (o : Option ℕ) → (type_in s.types v).super ≡ o → (leb 1 n && leb n (when given? o then 0 else objects_of s v)) ≡ (not (given? o) && object? s v n)
     go none e = sym (base-objects s P v n e)
     go (some u) e = none_of n
 
@@ -271,8 +271,8 @@ pool-objects s P (some v) n = go (type_in s.types v).super refl
 pub annotation-pools :
     (s : State) → Pooled s → (pools : List ℕ) → length pools ≡ length s.strings
     → ((i : ℕ) → i < length pools → get_or pools i 0 ≡ pool_of s (type_named s (text s (suc i))))
-    → (m n : ℕ) → (if eqb m 0 then eqb n 0 else (leb 1 n && leb n (get_or pools (m - 1) 0))) ≡ annotation? s m n
-unfolding annotation? a_string? if◌then◌else◌
+    → (m n : ℕ) → (when eqb m 0 then eqb n 0 else (leb 1 n && leb n (get_or pools (m - 1) 0))) ≡ annotation? s m n
+unfolding annotation? a_string? when◌then◌else◌
 annotation-pools s P pools len each zero n = refl
 annotation-pools s P pools len each (suc i) n =
     let before : suc i - 1 ≡ i = omega arith in

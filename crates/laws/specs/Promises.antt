@@ -2,7 +2,7 @@
 use Rattle.std.specs.Prelude.{◌≡◌, refl, Bool, true, false, ◌↔◌, List, ℕ, ◌≤◌, leb, length}
 use Rattle.std.proofs.Common.{sym, ◌∙◌, ap, arith, le_refl, leb-true, le-leb}
 use Rattle.std.proofs.Math.Option.{Option, none, some}
-use Rattle.paper.specs.Reader.{if◌then◌else◌, Out, got, no}
+use Rattle.paper.specs.Reader.{when◌then◌else◌, Out, got, no}
 use Rattle.paper.specs.Ledger.{Ledger, nothing}
 use Rattle.paper.specs.File.{file}
 use Rattle.paper.specs.Listing.{print}
@@ -50,7 +50,7 @@ accepted-short f l a =
 
 -- the listing of an accepted file is taken to the same contents in shortest coding
 pub back : (f : List ℕ) (l : Ledger) → Accepted f l → file_of (print l) ≡ some (encode l)
-unfolding file_of short if◌then◌else◌ keeps?
+unfolding file_of short when◌then◌else◌ keeps?
 back f l a =
     let k = file-kept f l (length f) a.bytes a.reads in
     let (x, (y, (z, _))) = every-split _ k.1 in
@@ -58,12 +58,12 @@ back f l a =
 
 -- what a text is taken to is accepted, and has this listing, and is in shortest coding
 pub forth : (t f : List ℕ) → Bytes t → file_of t ≡ some f → (l : Ledger) × Accepted f l × (print l ≡ t) × (f ≡ encode l)
-unfolding file_of short if◌then◌else◌ keeps?
+unfolding file_of short when◌then◌else◌ keeps?
 forth t f b h = go (scan t) refl h
   where
     fits :
         (l : Ledger) → (print l ≡ t) × (in_turn pair? after_pair nothing l ≡ true) × (length l ≤ 32) → (c : Bool) → leb (length (encode l)) most_bytes ≡ c
-        → (if c then some (encode l) else none) ≡ some f → (l : Ledger) × Accepted f l × (print l ≡ t) × (f ≡ encode l)
+        → (when c then some (encode l) else none) ≡ some f → (l : Ledger) × Accepted f l × (print l ≡ t) × (f ≡ encode l)
     fits l k true c q =
         let z : encode l ≡ f = cc q in
         (l, rw (← z) (encode-accepted l (every-join _ (c, (le-leb (length l) 32 k.2, (k.1, tt))))), k.0, sym z)

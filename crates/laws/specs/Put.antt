@@ -2,7 +2,7 @@
 use Rattle.std.specs.Prelude.{◌≡◌, refl, Bool, true, false, List, [], ◌∷◌, ◌++◌, ℕ, ◌+◌, ◌-◌, ◌^◌, ltb, ℤ, length, take, drop}
 use Rattle.std.proofs.Common.{sym, append_assoc, append-nil}
 use Rattle.std.proofs.Math.Option.{Option, none, some}
-use Rattle.paper.specs.Reader.{if◌then◌else◌}
+use Rattle.paper.specs.Reader.{when◌then◌else◌}
 use Rattle.paper.specs.Numbers.{put, put_fixed, unsigned}
 use Rattle.paper.specs.Lists.{flat, given?}
 use Rattle.paper.specs.Ledger.{Kind, constant, plain, array, many, mapping, Element, flag, whole, float, link, annotation, keys, New, Head, Entry, Chunk, Due, State, field_at}
@@ -21,10 +21,10 @@ put_option none = []
 put_option (some n) = put n
 
 unfoldable pub put_head : Head → List ℕ
-put_head h = put h.name ++ put_option h.super ++ put_option h.start ++ put h.count ++ (if given? h.super then put 0 else [])
+put_head h = put h.name ++ put_option h.super ++ put_option h.start ++ put h.count ++ (when given? h.super then put 0 else [])
 
 unfoldable pub put_whole : ℕ → ℤ → List ℕ
-put_whole k v = if ltb k 4 then put_fixed (2 ^ k) (unsigned (2 ^ k) v) else put (unsigned 8 v)
+put_whole k v = when ltb k 4 then put_fixed (2 ^ k) (unsigned (2 ^ k) v) else put (unsigned 8 v)
 
 unfoldable pub put_kind : Kind → List ℕ
 put_kind (constant k v) = put k ++ put_whole k v
@@ -99,8 +99,8 @@ unfolding option_pieces put_option write
 option-write none = refl
 option-write (some n) = write-free n
 
-if-write : (b : Bool) → write (if b then free 0 else []) ≡ (if b then put 0 else [])
-unfolding if◌then◌else◌ write
+if-write : (b : Bool) → write (when b then free 0 else []) ≡ (when b then put 0 else [])
+unfolding when◌then◌else◌ write
 if-write true = write-free 0
 if-write false = refl
 
@@ -114,10 +114,10 @@ head-write h =
     (if-write (given? h.super))
 
 whole-write : (k : ℕ) (v : ℤ) → write (whole_pieces k v) ≡ put_whole k v
-unfolding whole_pieces put_whole if◌then◌else◌
+unfolding whole_pieces put_whole when◌then◌else◌
 whole-write k v = go (ltb k 4)
   where
-    go : (b : Bool) → write (if b then firm (put_fixed (2 ^ k) (unsigned (2 ^ k) v)) else free (unsigned 8 v)) ≡ (if b then put_fixed (2 ^ k) (unsigned (2 ^ k) v) else put (unsigned 8 v))
+    go : (b : Bool) → write (when b then firm (put_fixed (2 ^ k) (unsigned (2 ^ k) v)) else free (unsigned 8 v)) ≡ (when b then put_fixed (2 ^ k) (unsigned (2 ^ k) v) else put (unsigned 8 v))
     go true = write-firm _
     go false = write-free _
 

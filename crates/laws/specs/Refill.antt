@@ -11,7 +11,7 @@ use Rattle.std.proofs.Math.Dec.{eqb}
 use lib.ListN.{length, get_or, take, drop, length-take, length-drop}
 use lib.Seq.{take-take, drop-drop}
 use borrow.Author.Tests.{eqb-true, eqb-false, ne_eqb}
-use Rattle.paper.specs.Reader.{if◌then◌else◌, Reader, Out, got, no, each, part, repeat, refuse, to_end}
+use Rattle.paper.specs.Reader.{when◌then◌else◌, Reader, Out, got, no, each, part, repeat, refuse, to_end}
 use Rattle.paper.specs.Bounds.{most_pairs}
 use Rattle.paper.specs.Lists.{last_or, fold}
 use Rattle.paper.specs.Ledger.{Kind, Chunk, Pair, Ledger, Due, Field, State, nothing, field_at, no_field}
@@ -63,7 +63,7 @@ module _ (i : ℕ) (k : Kind) (f : List ℕ) (m n : ℕ) (fits : m + n ≤ lengt
   chunks-fill :
       (ds : List Due) (es : List ℕ) (from at : ℕ) (cs : List Chunk) (e : ℕ) → at ≤ n → chunks_of s (sized from ds es) g at ≡ got cs e
       → Fills i k f S (spots_from (m + at) (sized from ds es)) (chunk_values i ds cs)
-  unfolding sized spots_from each chunk_values values_in if◌then◌else◌ chunk Rattle.paper.specs.Reader.give
+  unfolding sized spots_from each chunk_values values_in when◌then◌else◌ chunk Rattle.paper.specs.Reader.give
   chunks-fill [] es from at cs e h q = ended
   chunks-fill (d ∷ ds) [] from at cs e h q = let x : cs ≡ [] = cc q in rw x ended
   chunks-fill (d ∷ ds) (t ∷ es) from at cs e h q =
@@ -79,7 +79,7 @@ module _ (i : ℕ) (k : Kind) (f : List ℕ) (m n : ℕ) (fits : m + n ≤ lengt
           (c : Chunk) (more : List Chunk) (b : Bool) → eqb d.field i ≡ b
           → repeat d.values (value s (field_at s d.field).kind) (take (t - from) (drop at g)) 0 ≡ got c (t - from) → at + (t - from) ≤ n
           → Fills i k f S (spots_from (m + at + (t - from)) (sized t ds es)) (chunk_values i ds more)
-          → Fills i k f S (record { field = d.field; start = m + at; end = m + at + (t - from) } ∷ spots_from (m + at + (t - from)) (sized t ds es)) ((if b then stored_all c else []) ++ chunk_values i ds more)
+          → Fills i k f S (record { field = d.field; start = m + at; end = m + at + (t - from) } ∷ spots_from (m + at + (t - from)) (sized t ds es)) ((when b then stored_all c else []) ++ chunk_values i ds more)
       go c more true t₁ reads le rest =
           let is = eqb-true d.field i t₁ in
           let z : m + at + (t - from) - (m + at) ≡ t - from = omega arith in
@@ -104,7 +104,7 @@ after-grows s p l = grows-trans (closed-grows (after_front s p.strings p.entries
 -- no chunk of a field that is not declared yet
 module _ (i bound : ℕ) (le : bound ≤ i) where
   no-values : (ds : List Due) (cs : List Chunk) → Under bound ds → chunk_values i ds cs ≡ []
-  unfolding chunk_values values_in if◌then◌else◌
+  unfolding chunk_values values_in when◌then◌else◌
   no-values [] cs h = refl
   no-values (d ∷ ds) [] h = refl
   no-values (d ∷ ds) (c ∷ cs) h = rw (ne_eqb d.field i (λ e. omega (arith, h.0)), no-values ds cs h.1)

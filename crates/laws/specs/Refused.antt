@@ -2,7 +2,7 @@
 use Rattle.std.specs.Prelude.{◌≡◌, refl, Bool, true, false, ◌&&◌, ◌||◌, not, List, [], ◌∷◌, map, ℕ, zero, suc, ◌+◌, leb, eqb, length, take, drop, replicate}
 use Rattle.std.proofs.Math.Option.{Option, none, some}
 use Rattle.std.proofs.Common.{arith}
-use Rattle.paper.specs.Reader.{if◌then◌else◌, Reader, Out, got, no, and_then, ◌>>=◌, ◌>>◌, give, refuse, Rule, ◌or_no◌, hold, must, from_start, started, within, bytes, filled, part, each, times, repeat, only, unless_end, to_end}
+use Rattle.paper.specs.Reader.{when◌then◌else◌, Reader, Out, got, no, and_then, ◌>>=◌, ◌>>◌, give, refuse, Rule, ◌or_no◌, hold, must, from_start, started, within, bytes, filled, part, each, times, repeat, only, unless_end, to_end}
 use Rattle.paper.specs.Numbers.{fixed, coding, v64, number}
 use Rattle.paper.specs.Bounds.{most_bytes, most_pairs}
 use Rattle.paper.specs.Ledger.{keys, mapping, Kind, constant, plain, array, many, Due, State, nothing}
@@ -70,13 +70,13 @@ started-refuses : {A : Type 0} {r : Reader A} → Refuses r → Refuses (started
 unfolding started
 started-refuses {r} R = record { at = λ f at. start-known at (r f at) (R.at f at) }
 
-if-known : {A : Type 0} (b : Bool) (o q : Out A) → Known o → Known q → Known (if b then o else q)
-unfolding if◌then◌else◌
+if-known : {A : Type 0} (b : Bool) (o q : Out A) → Known o → Known q → Known (when b then o else q)
+unfolding when◌then◌else◌
 if-known true o q h k = h
 if-known false o q h k = k
 
-if-refuses : {A : Type 0} (b : Bool) {r q : Reader A} → Refuses r → Refuses q → Refuses (if b then r else q)
-unfolding if◌then◌else◌
+if-refuses : {A : Type 0} (b : Bool) {r q : Reader A} → Refuses r → Refuses q → Refuses (when b then r else q)
+unfolding when◌then◌else◌
 if-refuses true R Q = R
 if-refuses false R Q = Q
 
@@ -90,11 +90,11 @@ bytes-refuses n = record { at = λ f at. if-known (leb (at + n) (length f)) (got
 
 -- 1 becomes 12
 filled-known : {A : Type 0} (at n : ℕ) (o : Out A) → Known o → Known (filled at n o)
-unfolding file_refusal? if◌then◌else◌
+unfolding file_refusal? when◌then◌else◌
 filled-known at n (got a e) h = if-known (eqb e n) (got a (at + n)) (no 12 (at + e)) tt refl
 filled-known at n (no k p) h = go (eqb k 1)
   where
-    go : (b : Bool) → file_refusal? (if b then 12 else k) ≡ true
+    go : (b : Bool) → file_refusal? (when b then 12 else k) ≡ true
     go true = refl
     go false = h
 

@@ -8,7 +8,7 @@ use Rattle.std.proofs.Math.Nat.{one-le-pow}
 use Rattle.std.proofs.Math.Decide.{dec_le}
 use Rattle.std.proofs.Math.ListN.{get_or-append}
 use Rattle.std.proofs.lemmas.Bool.{eqb-false, not-true}
-use Rattle.paper.specs.Reader.{if◌then◌else◌, Rule}
+use Rattle.paper.specs.Reader.{when◌then◌else◌, Rule}
 use Rattle.paper.specs.Bounds.{most_fields, most_objects}
 use Rattle.paper.specs.Numbers.{unsigned, put_fixed, put_v64, put}
 use Rattle.paper.specs.Lists.{any, all, places, total, fold, flat, given?, or}
@@ -59,21 +59,21 @@ unfoldable pub empty_values : Ledger → ℕ
 empty_values l = total empty_field? (λ (d : Field). objects_of (known l) d.owner) (known l).fields
 
 once-add : (n m : ℕ) (b : Bool) → once (n + m) b ≡ once n b + once m b
-unfolding once if◌then◌else◌
+unfolding once when◌then◌else◌
 once-add n m true = refl
 once-add n m false = omega arith
 
 once_more : (n : ℕ) (b : Bool) → once (suc n) b ≡ once 1 b + once n b
-unfolding once if◌then◌else◌
+unfolding once when◌then◌else◌
 once_more n true = omega arith
 once_more n false = omega arith
 
 once-same : (n t u : ℕ) → t ≡ u → once n (eqb t u) ≡ n
-unfolding once if◌then◌else◌
+unfolding once when◌then◌else◌
 once-same n t u is = rw (eq-eqb t u is)
 
 once-most : (n : ℕ) (b : Bool) → once n b ≤ n
-unfolding once if◌then◌else◌
+unfolding once when◌then◌else◌
 once-most n true = omega arith
 once-most n false = omega arith
 
@@ -82,10 +82,10 @@ unfolding empty_in total
 empty-nil n = refl
 
 empty-more : (n : ℕ → ℕ) (d : Field) (ds : List Field) → empty_in n (d ∷ ds) ≡ once (n d.owner) (empty? d.kind) + empty_in n ds
-unfolding empty_in empty_field? total once if◌then◌else◌
+unfolding empty_in empty_field? total once when◌then◌else◌
 empty-more n d ds = go (empty? d.kind)
   where
-    go : (b : Bool) → (if b then n d.owner + empty_in n ds else empty_in n ds) ≡ (if b then n d.owner else 0) + empty_in n ds
+    go : (b : Bool) → (when b then n d.owner + empty_in n ds else empty_in n ds) ≡ (when b then n d.owner else 0) + empty_in n ds
     go true = refl
     go false = omega arith
 
@@ -113,11 +113,11 @@ byte-digits (suc w) n h =
     omega (arith, tenth n, tenth (n / 10), tenth (n / 10 / 10), byte-digits w (n / 10 / 10 / 10) (omega arith))
 
 v64-under : (k n : ℕ) → n < 256 * 128 ^ k → n < 256 ^ length (put_v64 k n)
-unfolding put_v64 if◌then◌else◌
+unfolding put_v64 when◌then◌else◌
 v64-under zero n h = omega arith
 v64-under (suc k) n h = go (v64-under k (n / 128)) (ltb n 128) refl
   where
-    go : (n / 128 < 256 * 128 ^ k → n / 128 < 256 ^ length (put_v64 k (n / 128))) → (b : Bool) → ltb n 128 ≡ b → n < 256 ^ length (if b then n ∷ [] else (128 + n % 128) ∷ put_v64 k (n / 128))
+    go : (n / 128 < 256 * 128 ^ k → n / 128 < 256 ^ length (put_v64 k (n / 128))) → (b : Bool) → ltb n 128 ≡ b → n < 256 ^ length (when b then n ∷ [] else (128 + n % 128) ∷ put_v64 k (n / 128))
     go ih true t = omega (arith, ltb-true n 128 t)
     go ih false t =
         let p = pow-suc 128 k in
@@ -158,7 +158,7 @@ v64-room (negsuc n) h = let lt = ltb-true n (256 ^ 8 / 2) h in omega (arith, put
 
 -- and a whole number takes a byte at least
 whole_room : (k : ℕ) (v : ℤ) → whole? k v ≡ true → (1 ≤ length (put_whole k v)) × (length (decimalℤ v) ≤ 1 + 3 * length (put_whole k v))
-unfolding whole? put_whole if◌then◌else◌
+unfolding whole? put_whole when◌then◌else◌
 whole_room k v h = go (ltb k 4) h
   where
     wide : (w : ℕ) → 1 ≤ w → signed? w v ≡ true → length (decimalℤ v) ≤ 1 + 3 * w
@@ -166,9 +166,9 @@ whole_room k v h = go (ltb k 4) h
     wide (suc w) le h = fixed-room w v h
 
     go :
-        (b : Bool) → signed? (if b then 2 ^ k else 8) v ≡ true
-        → (1 ≤ length (if b then put_fixed (2 ^ k) (unsigned (2 ^ k) v) else put (unsigned 8 v))) ×
-        (length (decimalℤ v) ≤ 1 + 3 * length (if b then put_fixed (2 ^ k) (unsigned (2 ^ k) v) else put (unsigned 8 v)))
+        (b : Bool) → signed? (when b then 2 ^ k else 8) v ≡ true
+        → (1 ≤ length (when b then put_fixed (2 ^ k) (unsigned (2 ^ k) v) else put (unsigned 8 v))) ×
+        (length (decimalℤ v) ≤ 1 + 3 * length (when b then put_fixed (2 ^ k) (unsigned (2 ^ k) v) else put (unsigned 8 v)))
     go true h =
         let least = one-le-pow k 2 (omega arith) in
         rw (fixed-length (2 ^ k) (unsigned (2 ^ k) v)) (least, wide (2 ^ k) least h)
@@ -260,7 +260,7 @@ bare? (many c k) = false
 bare? (mapping ks) = false
 
 due-bare : (k : Kind) (n : ℕ) → once (values_due k n) (bare? k) ≤ once n (empty? k)
-unfolding values_due bare? empty? once if◌then◌else◌
+unfolding values_due bare? empty? once when◌then◌else◌
 due-bare (constant k v) n = omega arith
 due-bare (plain k) n = omega arith
 due-bare (array l k) n = omega arith
@@ -272,7 +272,7 @@ unfolding value_line line ascii
 bare-line = refl
 
 value_room : (s : State) (k : Kind) (es : List Element) → value? s k es ≡ true → length (value_line es) ≤ 4 * once 1 (bare? k) + 9 * length (put_value k es)
-unfolding value? value_line put_value bare? once if◌then◌else◌ ascii all_through
+unfolding value? value_line put_value bare? once when◌then◌else◌ ascii all_through
 value_room s (constant k v) [] h = omega (arith, bare-line)
 value_room s (constant k v) (e ∷ es) h = absurd (omega (arith, eqb-true (length (e ∷ es)) 0 h))
 value_room s (plain k) es h =
@@ -284,7 +284,7 @@ value_room s (array n k) es h =
   where
     go :
         length es ≡ n → length (line (ascii "val" ∷ map element_word es)) + 4 * length es ≤ 4 + 9 * length (flat (put_element k) es) → (b : Bool) → eqb n 0 ≡ b
-        → length (line (ascii "val" ∷ map element_word es)) ≤ 4 * (if b then 1 else 0) + 9 * length (flat (put_element k) es)
+        → length (line (ascii "val" ∷ map element_word es)) ≤ 4 * (when b then 1 else 0) + 9 * length (flat (put_element k) es)
     go m a true t = omega arith
     go m a false t = let some : (n ≡ 0 → ⊥) = eqb-false n 0 t in omega arith
 value_room s (many c k) es h =
@@ -347,7 +347,7 @@ module _ (F : List Field) (i : ℕ) (d : Field) (ds : List Field) (S : Stands F 
 module _ (s : State) (F : List Field) (n m : ℕ → ℕ) (t c : ℕ) (more : (u : ℕ) → m u ≡ n u + once c (eqb t u)) where
   olds-empty :
       (ds : List Field) (i : ℕ) → Stands s.fields i ds → Stands F i ds → empty_in n ds + bare_due F (map (old_due s c) (places (owns? t) i ds)) ≤ empty_in m ds
-  unfolding bare_due old_due places owns? if◌then◌else◌ field_at
+  unfolding bare_due old_due places owns? when◌then◌else◌ field_at
   olds-empty [] i S T = omega (arith, empty-nil n, empty-nil m)
   olds-empty (d ∷ ds) i S T =
       rw (empty-more n d ds, empty-more m d ds, more d.owner, once-add (n d.owner) (once c (eqb t d.owner)) (empty? d.kind))
@@ -358,7 +358,7 @@ module _ (s : State) (F : List Field) (n m : ℕ → ℕ) (t c : ℕ) (more : (u
 
       go :
           empty_in n ds + bare_due F (map (old_due s c) (places (owns? t) (suc i) ds)) ≤ empty_in m ds → (b : Bool) → eqb d.owner t ≡ b
-          → once (n d.owner) (empty? d.kind) + empty_in n ds + bare_due F (map (old_due s c) (if b then i ∷ places (owns? t) (suc i) ds else places (owns? t) (suc i) ds)) ≤ once (n d.owner) (empty? d.kind) + once (once c (eqb t d.owner)) (empty? d.kind) + empty_in m ds
+          → once (n d.owner) (empty? d.kind) + empty_in n ds + bare_due F (map (old_due s c) (when b then i ∷ places (owns? t) (suc i) ds else places (owns? t) (suc i) ds)) ≤ once (n d.owner) (empty? d.kind) + once (once c (eqb t d.owner)) (empty? d.kind) + empty_in m ds
       go ih true e =
           rw (once-same c t d.owner (sym (eqb-true d.owner t e))) (omega (arith, mine))
       go ih false e = omega arith
@@ -392,12 +392,12 @@ news-empty F m t n is (g ∷ gs) i S =
 known-fewer :
     (F : List Field) (s : State) (h : Head)
     → bare_due F (map (old_due s h.count) (known_due s h)) ≤ bare_due F (map (old_due s h.count) (fields_of s (type_of s h.name)))
-unfolding known_due if◌then◌else◌ bare_due
+unfolding known_due when◌then◌else◌ bare_due
 known-fewer F s h = go (eqb h.count 0)
   where
     go :
         (b : Bool)
-        → bare_due F (map (old_due s h.count) (if b then [] else fields_of s (type_of s h.name))) ≤ bare_due F (map (old_due s h.count) (fields_of s (type_of s h.name)))
+        → bare_due F (map (old_due s h.count) (when b then [] else fields_of s (type_of s h.name))) ≤ bare_due F (map (old_due s h.count) (fields_of s (type_of s h.name)))
     go true = omega arith
     go false = omega arith
 

@@ -3,7 +3,7 @@ use Rattle.std.specs.Prelude.{◌≡◌, refl, Bool, true, false, List, [], ◌�
 use Rattle.std.proofs.Common.{ap, append-nil, arith, length-take, length-drop, take-add, drop-drop, take_all, leb-true, eqb-true}
 use Rattle.std.proofs.Math.Option.{Option, none, some}
 use Rattle.std.proofs.Math.Nat.{sub-zero}
-use Rattle.paper.specs.Reader.{if◌then◌else◌, Reader, Out, got, no, and_then, ◌>>=◌, ◌>>◌, give, hold, must, started, within, Rule, ◌or_no◌, bytes, each, times, only, filled, part}
+use Rattle.paper.specs.Reader.{when◌then◌else◌, Reader, Out, got, no, and_then, ◌>>=◌, ◌>>◌, give, hold, must, started, within, Rule, ◌or_no◌, bytes, each, times, only, filled, part}
 use Rattle.laws.specs.Laws.{not-got, start-got}
 
 -- ── bytes ──
@@ -107,8 +107,8 @@ unfolding started
 started-says {r} R = record { at = λ f at v e b h q. R.at f at v e b h (start-got at (r f at) q) }
 
 pub if-says :
-    {A : Type 0} (b : Bool) {r q : Reader A} {P : A → List ℕ → Type 0} → (b ≡ true → Says r P) → (b ≡ false → Says q P) → Says (if b then r else q) P
-unfolding if◌then◌else◌
+    {A : Type 0} (b : Bool) {r q : Reader A} {P : A → List ℕ → Type 0} → (b ≡ true → Says r P) → (b ≡ false → Says q P) → Says (when b then r else q) P
+unfolding when◌then◌else◌
 if-says true R Q = R refl
 if-says false R Q = Q refl
 
@@ -120,12 +120,12 @@ only-says true P R Q = bind-says P (R refl) λ a cs p. give-says (some a) _ p
 only-says false P R Q = give-says none P (Q refl)
 
 pub bytes-says : (n : ℕ) → Says (bytes n) (λ bs cs. (bs ≡ cs) × Bytes bs × (length bs ≡ n))
-unfolding bytes if◌then◌else◌
+unfolding bytes when◌then◌else◌
 bytes-says n = record { at = λ f at v e b h q. go f at v e b h (leb (at + n) (length f)) refl q }
   where
     go :
         (f : List ℕ) (at : ℕ) (v : List ℕ) (e : ℕ) → Bytes f → at ≤ length f → (t : Bool) → leb (at + n) (length f) ≡ t
-        → (if t then got (take n (drop at f)) (at + n) else no 1 at) ≡ got v e → Said (λ bs cs. (bs ≡ cs) × Bytes bs × (length bs ≡ n)) f at v e
+        → (when t then got (take n (drop at f)) (at + n) else no 1 at) ≡ got v e → Said (λ bs cs. (bs ≡ cs) × Bytes bs × (length bs ≡ n)) f at v e
     go f at v e b h true t eq =
         let le = leb-true (at + n) (length f) t in
         let z : at + n ≡ e = cc eq in
@@ -140,12 +140,12 @@ bytes-says n = record { at = λ f at v e b h q. go f at v e b h (leb (at + n) (l
 
 -- the part is all that is read
 pub part_says : {A : Type 0} (n : ℕ) {r : Reader A} {P : A → List ℕ → Type 0} → Says r P → Says (part n r) P
-unfolding part if◌then◌else◌
+unfolding part when◌then◌else◌
 part_says {A} n {r} {P} R = record { at = λ f at v e b h q. go f at v e b h (leb (at + n) (length f)) refl q }
   where
     full :
         (f : List ℕ) (at : ℕ) (v : A) (e : ℕ) → Bytes f → at + n ≤ length f → (a : A) (m : ℕ) → r (take n (drop at f)) 0 ≡ got a m → (t : Bool)
-        → eqb m n ≡ t → (if t then got a (at + n) else no 12 (at + m)) ≡ got v e → Said P f at v e
+        → eqb m n ≡ t → (when t then got a (at + n) else no 12 (at + m)) ≡ got v e → Said P f at v e
     full f at v e b le a m er true t eq =
         let S = R.at (take n (drop at f)) 0 a m (bytes_take n (drop at f) (bytes_drop at f b)) (omega arith) er in
         let z : at + n ≡ e = cc eq in
@@ -165,7 +165,7 @@ part_says {A} n {r} {P} R = record { at = λ f at v e b h q. go f at v e b h (le
 
     go :
         (f : List ℕ) (at : ℕ) (v : A) (e : ℕ) → Bytes f → at ≤ length f → (t : Bool) → leb (at + n) (length f) ≡ t
-        → (if t then filled at n (r (take n (drop at f)) 0) else no 1 at) ≡ got v e → Said P f at v e
+        → (when t then filled at n (r (take n (drop at f)) 0) else no 1 at) ≡ got v e → Said P f at v e
     go f at v e b h true t eq = out f at v e b (leb-true (at + n) (length f) t) (r (take n (drop at f)) 0) refl eq
     go f at v e b h false t eq = not-got eq
 
@@ -193,11 +193,11 @@ unfolding ◌>>◌ ◌>>=◌
 then-says {r} {q} Q R K = bind-says {r = r} {k = λ a. q} Q R K
 
 pub within-says : {A : Type 0} (n : ℕ) {r : Reader A} {P : A → List ℕ → Type 0} → Says r P → Says (within n r) P
-unfolding within if◌then◌else◌
+unfolding within when◌then◌else◌
 within-says {A} n {r} {P} R = record { at = λ f at v e b h q. go f at v e b h (leb (at + n) (length f)) q }
   where
     go :
-        (f : List ℕ) (at : ℕ) (v : A) (e : ℕ) → Bytes f → at ≤ length f → (t : Bool) → (if t then r f at else no 1 at) ≡ got v e → Said P f at v e
+        (f : List ℕ) (at : ℕ) (v : A) (e : ℕ) → Bytes f → at ≤ length f → (t : Bool) → (when t then r f at else no 1 at) ≡ got v e → Said P f at v e
     go f at v e b h true q = R.at f at v e b h q
     go f at v e b h false q = not-got q
 

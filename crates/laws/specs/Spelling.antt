@@ -2,7 +2,7 @@
 use Rattle.std.specs.Prelude.{◌≡◌, refl, Bool, true, false, List, [], ◌∷◌, ◌++◌, ℕ, suc, ◌≤◌, ◌<◌, length, replicate}
 use Rattle.std.proofs.Common.{sym, ◌∙◌, ap, subst, append_assoc, append-nil, arith}
 use Rattle.std.proofs.Math.Option.{none, some}
-use Rattle.paper.specs.Reader.{if◌then◌else◌, Reader, ◌>>=◌, give, must, Rule, each, times, repeat, only}
+use Rattle.paper.specs.Reader.{when◌then◌else◌, Reader, ◌>>=◌, give, must, Rule, each, times, repeat, only}
 use Rattle.paper.specs.Numbers.{low_first}
 use Rattle.paper.specs.Lists.{all, flat}
 use Rattle.paper.specs.Pieces.{Piece, num, raw, free, firm}
@@ -115,12 +115,12 @@ bind-reads k {ps} {qs} R K =
 pub must-reads : {A : Type 0} {r : Reader A} (rules : A → List Rule) {ps : List Piece} {v : A} → Held (rules v) → Reads r ps v → Reads (must r rules) ps v
 must-reads rules h R = record { at = λ cs t. must-takes rules h (R.at cs t) }
 
-pub if-reads-true : {A : Type 0} {b : Bool} {r : Reader A} (q : Reader A) {ps : List Piece} {v : A} → b ≡ true → Reads r ps v → Reads (if b then r else q) ps v
-unfolding if◌then◌else◌
+pub if-reads-true : {A : Type 0} {b : Bool} {r : Reader A} (q : Reader A) {ps : List Piece} {v : A} → b ≡ true → Reads r ps v → Reads (when b then r else q) ps v
+unfolding when◌then◌else◌
 if-reads-true q t R = rw t R
 
-pub if-reads-false : {A : Type 0} {b : Bool} (r : Reader A) {q : Reader A} {ps : List Piece} {v : A} → b ≡ false → Reads q ps v → Reads (if b then r else q) ps v
-unfolding if◌then◌else◌
+pub if-reads-false : {A : Type 0} {b : Bool} (r : Reader A) {q : Reader A} {ps : List Piece} {v : A} → b ≡ false → Reads q ps v → Reads (when b then r else q) ps v
+unfolding when◌then◌else◌
 if-reads-false r t R = rw t R
 
 pub only-reads-some : {A : Type 0} {b : Bool} {r : Reader A} {ps : List Piece} {v : A} → b ≡ true → Reads r ps v → Reads (only b r) ps (some v)

@@ -3,7 +3,7 @@ use Rattle.std.specs.Prelude.{◌≡◌, refl, Bool, true, false, List, [], ◌�
 use Rattle.std.proofs.Common.{sym, ◌∙◌, ap, subst, append_assoc, append-nil, arith, length-append, length-drop, drop-drop, take_at, le-leb, eq-eqb}
 use Rattle.std.proofs.Math.Option.{none, some}
 use Rattle.std.proofs.Math.Seq.{drop-append_seam}
-use Rattle.paper.specs.Reader.{if◌then◌else◌, Reader, Out, got, ◌>>=◌, ◌>>◌, give, hold, must, from_start, started, within, Rule, ◌or_no◌, bytes, each, times, only, part}
+use Rattle.paper.specs.Reader.{when◌then◌else◌, Reader, Out, got, ◌>>=◌, ◌>>◌, give, hold, must, from_start, started, within, Rule, ◌or_no◌, bytes, each, times, only, part}
 use Rattle.laws.specs.Says.{Bytes, Held}
 use Rattle.paper.specs.Lists.{flat}
 
@@ -63,7 +63,7 @@ must-takes rules {cs} {v} h R =
     record { bytes = R.bytes; at = λ f p rest le q. rw (R.at f p rest le q) (held-passes (rules v) p (got v (p + length cs)) h) }
 
 pub within-takes : {A : Type 0} (n : ℕ) {r : Reader A} {cs : List ℕ} {v : A} → n ≤ length cs → Takes r cs v → Takes (within n r) cs v
-unfolding within if◌then◌else◌
+unfolding within when◌then◌else◌
 within-takes n {r} {cs} le R =
     record {
       bytes = R.bytes;
@@ -76,12 +76,12 @@ pub started-takes : {A : Type 0} {r : Reader A} {cs : List ℕ} {v : A} → Take
 unfolding started
 started-takes R = record { bytes = R.bytes; at = λ f p rest le q. ap (from_start p) (R.at f p rest le q) }
 
-pub if-takes-true : {A : Type 0} {b : Bool} {r : Reader A} (q : Reader A) {cs : List ℕ} {v : A} → b ≡ true → Takes r cs v → Takes (if b then r else q) cs v
-unfolding if◌then◌else◌
+pub if-takes-true : {A : Type 0} {b : Bool} {r : Reader A} (q : Reader A) {cs : List ℕ} {v : A} → b ≡ true → Takes r cs v → Takes (when b then r else q) cs v
+unfolding when◌then◌else◌
 if-takes-true q t R = rw t R
 
-pub if-takes-false : {A : Type 0} {b : Bool} (r : Reader A) {q : Reader A} {cs : List ℕ} {v : A} → b ≡ false → Takes q cs v → Takes (if b then r else q) cs v
-unfolding if◌then◌else◌
+pub if-takes-false : {A : Type 0} {b : Bool} (r : Reader A) {q : Reader A} {cs : List ℕ} {v : A} → b ≡ false → Takes q cs v → Takes (when b then r else q) cs v
+unfolding when◌then◌else◌
 if-takes-false r t R = rw t R
 
 pub only-takes-some : {A : Type 0} {b : Bool} {r : Reader A} {cs : List ℕ} {v : A} → b ≡ true → Takes r cs v → Takes (only b r) cs (some v)
@@ -93,7 +93,7 @@ unfolding only
 only-takes-none r t = rw t (give-takes none)
 
 pub bytes-takes : (n : ℕ) (bs : List ℕ) → Bytes bs → length bs ≡ n → Takes (bytes n) bs bs
-unfolding bytes if◌then◌else◌
+unfolding bytes when◌then◌else◌
 bytes-takes n bs b e =
     record {
       bytes = b;
@@ -103,7 +103,7 @@ bytes-takes n bs b e =
     }
 
 pub part-takes : {A : Type 0} (n : ℕ) {r : Reader A} {cs : List ℕ} {v : A} → length cs ≡ n → Takes r cs v → Takes (part n r) cs v
-unfolding part if◌then◌else◌
+unfolding part when◌then◌else◌
 part-takes n {r} {cs} {v} e R =
     record {
       bytes = R.bytes;

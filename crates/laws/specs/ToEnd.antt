@@ -7,7 +7,7 @@ use Prim.Native.Nat.{ℕ, zero, suc, ◌+◌, ◌-◌, ◌≤◌, ◌<◌}
 use native.Mathlib.Omega.{arith}
 use Rattle.std.proofs.Math.Nat.{sub-zero}
 use Rattle.std.proofs.Math.ListN.{length, length-append, length-drop}
-use Rattle.paper.specs.Reader.{if◌then◌else◌, Reader, got, ◌>>=◌, give, refuse, unless_end, to_end}
+use Rattle.paper.specs.Reader.{when◌then◌else◌, Reader, got, ◌>>=◌, give, refuse, unless_end, to_end}
 use Rattle.paper.specs.Keeps.{in_turn}
 use Rattle.laws.specs.Laws.{not-got, bind_inv}
 use Rattle.laws.specs.Longer.{unless_end-inv, AtEnd, Before, unless_end-before, unless_end-end}
@@ -28,11 +28,11 @@ never-says : {A : Type 0} {r : Reader A} (P : A → List ℕ → Type 0) → Nev
 never-says P N = record { at = λ f at v e b h q. absurd (N f at v e q) }
 
 pub unless_end-says : {A : Type 0} (a : A) {r : Reader A} (P : A → List ℕ → Type 0) → P a [] → Says r P → Says (unless_end a r) P
-unfolding unless_end if◌then◌else◌ give
+unfolding unless_end when◌then◌else◌ give
 unless_end-says {A} a {r} P p R = record { at = λ f at v e b h q. go f at v e b h (leb (length f) at) q }
   where
     go :
-        (f : List ℕ) (at : ℕ) (v : A) (e : ℕ) → Bytes f → at ≤ length f → (t : Bool) → (if t then got a at else r f at) ≡ got v e → Said P f at v e
+        (f : List ℕ) (at : ℕ) (v : A) (e : ℕ) → Bytes f → at ≤ length f → (t : Bool) → (when t then got a at else r f at) ≡ got v e → Said P f at v e
     go f at v e b h true q = (give-says a P p).at f at v e b h q
     go f at v e b h false q = R.at f at v e b h q
 

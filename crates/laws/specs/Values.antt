@@ -11,7 +11,7 @@ use Rattle.std.proofs.Math.Dec.{ltb}
 use Rattle.std.proofs.Math.IntN.{pos, negsuc}
 use Rattle.std.proofs.Math.ListN.{length-replicate}
 use borrow.Author.Tests.{leb-true, leb-false, le-leb, lt-leb, eqb-true, eq-eqb, ltb-true, ltb-false, lt-ltb, le-ltb, not-true}
-use Rattle.paper.specs.Reader.{if◌then◌else◌, Reader, got, ◌>>=◌, give, refuse, Rule, repeat, part}
+use Rattle.paper.specs.Reader.{when◌then◌else◌, Reader, got, ◌>>=◌, give, refuse, Rule, repeat, part}
 use Rattle.paper.specs.Numbers.{signed, unsigned, fixed, put_fixed, v64, number}
 use Rattle.paper.specs.Ledger.{Kind, constant, plain, array, many, mapping, Element, flag, whole, float, link, annotation, keys, Chunk, Due, State, field_at}
 use Rattle.paper.specs.Lists.{all, flat}
@@ -79,18 +79,18 @@ module _ {A : Type 0} (r : Reader A) (w : A → List ℕ) (ok : A → Bool) wher
 
 module _ (w x : ℕ) (pow : 256 ^ w ≡ 256 * x) where
   pub unsigned_signed : (n : ℕ) → n < 256 ^ w → unsigned w (signed w n) ≡ n
-  unfolding unsigned signed if◌then◌else◌
+  unfolding unsigned signed when◌then◌else◌
   unsigned_signed n h = go (ltb n (256 ^ w / 2))
     where
-      go : (b : Bool) → unsigned w (if b then pos n else negsuc (256 ^ w - 1 - n)) ≡ n
+      go : (b : Bool) → unsigned w (when b then pos n else negsuc (256 ^ w - 1 - n)) ≡ n
       go true = refl
       go false = omega arith
 
   signed-kept : (n : ℕ) → n < 256 ^ w → signed? w (signed w n) ≡ true
-  unfolding signed? signed if◌then◌else◌
+  unfolding signed? signed when◌then◌else◌
   signed-kept n h = go (ltb n (256 ^ w / 2)) refl
     where
-      go : (b : Bool) → ltb n (256 ^ w / 2) ≡ b → signed? w (if b then pos n else negsuc (256 ^ w - 1 - n)) ≡ true
+      go : (b : Bool) → ltb n (256 ^ w / 2) ≡ b → signed? w (when b then pos n else negsuc (256 ^ w - 1 - n)) ≡ true
       go true t = t
       go false t = let ge = ltb-false n (256 ^ w / 2) t in lt-ltb (256 ^ w - 1 - n) (256 ^ w / 2) (omega arith)
 
@@ -100,7 +100,7 @@ module _ (w x : ℕ) (pow : 256 ^ w ≡ 256 * x) where
   unsigned_small (negsuc n) h = omega (arith, ltb-true n (256 ^ w / 2) h)
 
   signed-unsigned : (v : ℤ) → signed? w v ≡ true → signed w (unsigned w v) ≡ v
-  unfolding signed? unsigned signed if◌then◌else◌
+  unfolding signed? unsigned signed when◌then◌else◌
   signed-unsigned (pos n) h = rw h
   signed-unsigned (negsuc n) h =
       let lt = ltb-true n (256 ^ w / 2) h in
@@ -114,7 +114,7 @@ pub two-pow : (k : ℕ) → 0 < 2 ^ k
 two-pow k = one-le-pow k 2 (omega arith)
 
 pub whole-kept : (k : ℕ) → KeptSpelt (whole_of k) (whole_pieces k) (whole? k)
-unfolding whole_of whole_pieces whole? if◌then◌else◌
+unfolding whole_of whole_pieces whole? when◌then◌else◌
 whole-kept k =
     if-says (ltb k 4)
     (λ t. bind-says _ (fixed-says (2 ^ k)) λ n cs p. give-says (signed (2 ^ k) n) _
@@ -123,13 +123,13 @@ whole-kept k =
     (rw t ((rw (unsigned_signed 8 (256 ^ 7) refl n p.1, append-nil) p.0, signed-kept 8 (256 ^ 7) refl n p.1))))
 
 pub whole-taken : (k : ℕ) → ReadSpelt (whole_of k) (whole_pieces k) (whole? k)
-unfolding whole_of whole_pieces whole? if◌then◌else◌
+unfolding whole_of whole_pieces whole? when◌then◌else◌
 whole-taken k v = go (ltb k 4) refl
   where
     go :
-        (b : Bool) → ltb k 4 ≡ b → signed? (if b then 2 ^ k else 8) v ≡ true
-        → Reads (if b then (fixed (2 ^ k) >>= λ n. give (signed (2 ^ k) n)) else (v64 >>= λ n. give (signed 8 n)))
-        (if b then firm (put_fixed (2 ^ k) (unsigned (2 ^ k) v)) else free (unsigned 8 v)) v
+        (b : Bool) → ltb k 4 ≡ b → signed? (when b then 2 ^ k else 8) v ≡ true
+        → Reads (when b then (fixed (2 ^ k) >>= λ n. give (signed (2 ^ k) n)) else (v64 >>= λ n. give (signed 8 n)))
+        (when b then firm (put_fixed (2 ^ k) (unsigned (2 ^ k) v)) else free (unsigned 8 v)) v
     go true t h =
         let q = pow_more (2 ^ k) (two-pow k) in
         reads-is (signed-unsigned (2 ^ k) (256 ^ (2 ^ k - 1)) q v h)

@@ -4,7 +4,7 @@ use Rattle.std.proofs.Common.{sym, ◌∙◌, ap, append_assoc, append-nil, arit
 use Rattle.std.proofs.Math.Option.{Option, none, some}
 use Rattle.std.proofs.Math.Decide.{dec_le}
 use Rattle.std.proofs.lemmas.Bool.{lt-leb, eqb-false}
-use Rattle.paper.specs.Reader.{if◌then◌else◌, Reader, Out, got, no as refused, ◌>>=◌, give}
+use Rattle.paper.specs.Reader.{when◌then◌else◌, Reader, Out, got, no as refused, ◌>>=◌, give}
 use Rattle.paper.specs.Listing.{dash, decimal, decimalℤ, or_dash}
 use Rattle.paper.specs.Keeps.{signed?}
 use Rattle.paper.specs.Scan.{digit?, too_large?, digits_on, decimal_in, natural, negative, positive, integer, or_none}
@@ -34,13 +34,13 @@ abbrev Goes : ℕ → ℕ → List ℕ → Type 0
 Goes v n cs = decimal n ≡ decimal v ++ cs
 
 digits_on-front : (ts : List ℕ) (v e n d : ℕ) → 0 < v → digits_on v e ts ≡ got n d → Front (Goes v) e ts n d
-unfolding digits_on if◌then◌else◌
+unfolding digits_on when◌then◌else◌
 digits_on-front [] v e n d p h = front-none [] (sym (append-nil (decimal v))) h
 digits_on-front (c ∷ ts) v e n d p h = go (λ p h. digits_on-front ts (10 * v + (c - 48)) (e + 1) n d p h) (digit? c) refl (too_large? v (c - 48)) h
   where
     go :
         (0 < 10 * v + (c - 48) → digits_on (10 * v + (c - 48)) (e + 1) ts ≡ got n d → Front (Goes (10 * v + (c - 48))) (e + 1) ts n d)
-        → (x : Bool) → digit? c ≡ x → (y : Bool) → (if x then (if y then refused 20 0 else digits_on (10 * v + (c - 48)) (e + 1) ts) else got v e) ≡ got n d
+        → (x : Bool) → digit? c ≡ x → (y : Bool) → (when x then (when y then refused 20 0 else digits_on (10 * v + (c - 48)) (e + 1) ts) else got v e) ≡ got n d
         → Front (Goes v) e (c ∷ ts) n d
     go ih false t y h = front-none (c ∷ ts) (sym (append-nil (decimal v))) h
     go ih true t true h = not-got h
@@ -51,7 +51,7 @@ digits_on-front (c ∷ ts) v e n d p h = go (λ p h. digits_on-front ts (10 * v 
         front-more c F (F.says ∙ rw (decimal-more v (c - 48) p (omega arith), b, append_assoc))
 
 pub natural-says : Says natural (λ n cs. decimal n ≡ cs)
-unfolding natural decimal_in if◌then◌else◌
+unfolding natural decimal_in when◌then◌else◌
 natural-says = front-says decimal_in front
   where
     front : (ts : List ℕ) (at n e : ℕ) → decimal_in at ts ≡ got n e → Front (λ n cs. decimal n ≡ cs) at ts n e
@@ -60,7 +60,7 @@ natural-says = front-says decimal_in front
       where
         go :
             (x : Bool) → eqb c 48 ≡ x → (y : Bool) → digit? c ≡ y
-            → (if x then got 0 (at + 1) else if y then digits_on (c - 48) (at + 1) ts else refused 20 0) ≡ got n e → Front (λ n cs. decimal n ≡ cs) at (c ∷ ts) n e
+            → (when x then got 0 (at + 1) else when y then digits_on (c - 48) (at + 1) ts else refused 20 0) ≡ got n e → Front (λ n cs. decimal n ≡ cs) at (c ∷ ts) n e
         go true t y u h =
             let q : 0 ≡ n = cc h in
             let r : at + 1 ≡ e = cc h in
@@ -76,22 +76,22 @@ natural-says = front-says decimal_in front
 
 -- a digit is taken
 digits_on-more : (v d e : ℕ) (ts : List ℕ) → d < 10 → 10 * v + d < 2 ^ 64 → digits_on v e ((48 + d) ∷ ts) ≡ digits_on (10 * v + d) (e + 1) ts
-unfolding digits_on if◌then◌else◌ too_large?
+unfolding digits_on when◌then◌else◌ too_large?
 digits_on-more v d e ts l h =
     let q : 48 + d - 48 ≡ d = omega arith in
     rw (digit-in d l, q, lt-leb (2 ^ 64) (10 * v + d) h)
 
 digits_on-ends : (v e : ℕ) (ts : List ℕ) → Stops ts → digits_on v e ts ≡ got v e
-unfolding digits_on if◌then◌else◌
+unfolding digits_on when◌then◌else◌
 digits_on-ends v e [] h = refl
 digits_on-ends v e (b ∷ ts) h = rw (digit-below b h)
 
 decimal_in-zero : (at : ℕ) (ts : List ℕ) → decimal_in at (48 ∷ ts) ≡ got 0 (at + 1)
-unfolding decimal_in if◌then◌else◌
+unfolding decimal_in when◌then◌else◌
 decimal_in-zero at ts = refl
 
 decimal_in-first : (d e : ℕ) (ts : List ℕ) → 0 < d → d < 10 → decimal_in e ((48 + d) ∷ ts) ≡ digits_on d (e + 1) ts
-unfolding decimal_in if◌then◌else◌
+unfolding decimal_in when◌then◌else◌
 decimal_in-first d e ts p l =
     let q : 48 + d - 48 ≡ d = omega arith in
     rw (ne_eqb (48 + d) 48 (λ z. omega arith), digit-in d l, q)
@@ -143,7 +143,7 @@ turned-before :
 turned-before g turn R = record { bytes = R.bytes; at = λ f p rest h s q. rw (R.at f p rest h s q) (turn _) }
 
 negative-says : Says (λ t at. negative (natural t at)) (λ z cs. decimalℤ z ≡ dash ∷ cs)
-unfolding negative decimalℤ if◌then◌else◌
+unfolding negative decimalℤ when◌then◌else◌
 negative-says = turned-says negative _ inv natural-says
   where
     inv : (o : Out ℕ) (z : ℤ) (e : ℕ) → negative o ≡ got z e → (n : ℕ) × (o ≡ got n e) × ((cs : List ℕ) → decimal n ≡ cs → decimalℤ z ≡ dash ∷ cs)
@@ -151,7 +151,7 @@ negative-says = turned-says negative _ inv natural-says
     inv (got n d) z e h = go (eqb n 0) refl (ltb (2 ^ 63) n) h
       where
         go :
-            (x : Bool) → eqb n 0 ≡ x → (y : Bool) → (if x then refused 20 0 else if y then refused 20 0 else got (negsuc (n - 1)) d) ≡ got z e
+            (x : Bool) → eqb n 0 ≡ x → (y : Bool) → (when x then refused 20 0 else when y then refused 20 0 else got (negsuc (n - 1)) d) ≡ got z e
             → (m : ℕ) × (got n d ≡ got m e) × ((cs : List ℕ) → decimal m ≡ cs → decimalℤ z ≡ dash ∷ cs)
         go true t y h = not-got h
         go false t true h = not-got h
@@ -163,7 +163,7 @@ negative-says = turned-says negative _ inv natural-says
             (n, ap (got n) q, λ cs p. rw (← w, v, p))
 
 positive-says : Says (λ t at. positive (natural t at)) (λ z cs. decimalℤ z ≡ cs)
-unfolding positive decimalℤ if◌then◌else◌
+unfolding positive decimalℤ when◌then◌else◌
 positive-says = turned-says positive _ inv natural-says
   where
     inv : (o : Out ℕ) (z : ℤ) (e : ℕ) → positive o ≡ got z e → (n : ℕ) × (o ≡ got n e) × ((cs : List ℕ) → decimal n ≡ cs → decimalℤ z ≡ cs)
@@ -171,7 +171,7 @@ positive-says = turned-says positive _ inv natural-says
     inv (got n d) z e h = go (leb (2 ^ 63) n) h
       where
         go :
-            (x : Bool) → (if x then refused 20 0 else got (pos n) d) ≡ got z e
+            (x : Bool) → (when x then refused 20 0 else got (pos n) d) ≡ got z e
             → (m : ℕ) × (got n d ≡ got m e) × ((cs : List ℕ) → decimal m ≡ cs → decimalℤ z ≡ cs)
         go true h = not-got h
         go false h =
@@ -187,7 +187,7 @@ no-dash : (n : ℕ) (rest : List ℕ) → Stops rest → get_or (decimal n ++ re
 no-dash n rest s q = omega (arith, (decimal-figures n).first rest)
 
 pub integer-before : (z : ℤ) → signed? 8 z ≡ true → TakesBefore Stops integer (decimalℤ z) z
-unfolding integer decimalℤ signed? negative positive if◌then◌else◌
+unfolding integer decimalℤ signed? negative positive when◌then◌else◌
 integer-before (pos n) h =
     let l = ltb-true n (256 ^ 8 / 2) h in
     peek-before-no dash (λ t at. negative (natural t at)) (no-dash n) (turned-before positive (λ e. rw (lt-leb (2 ^ 63) n (omega arith))) (natural-before n (omega arith)))

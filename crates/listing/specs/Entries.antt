@@ -5,7 +5,7 @@ use Rattle.std.proofs.Common.{◌∙◌, arith, leb-true}
 use mathlib.Core.List.{List, [], ◌++◌, map, append_assoc}
 use Rattle.std.proofs.Math.Option.{none, some}
 use Rattle.std.proofs.Math.ListN.{length, length-map}
-use Rattle.paper.specs.Reader.{if◌then◌else◌, got, times}
+use Rattle.paper.specs.Reader.{when◌then◌else◌, got, times}
 use Rattle.paper.specs.Numbers.{v64, number}
 use Rattle.paper.specs.Bounds.{most_fields}
 use Rattle.paper.specs.Lists.{given?, places}
@@ -150,7 +150,7 @@ entered-read {f} {l} {l₁} {at} {a} e = record { says = e.says; inside = e.insi
 pub olds-kept : {f l l₁ : List ℕ} {at : ℕ} {top : Top} {c : Cursor} → TopEntered f l l₁ at (topped.Got top c) → {known : ℕ} → known ≡ length (olds_of top.count (view f l₁) top.name.typ) → known ≡ length (olds_of top.count (view f l) top.name.typ)
 unfolding olds_of fields_of add_head after_head
 olds-kept {top = top} e is =
-    is ∙ ap (λ (x : List Field). length (if eqb top.count 0 then [] else places (owns? top.name.typ) 0 x)) (ap (λ (g : Said). g.state.fields) e.left.now.says)
+    is ∙ ap (λ (x : List Field). length (when eqb top.count 0 then [] else places (owns? top.name.typ) 0 x)) (ap (λ (g : Said). g.state.fields) e.left.now.says)
 
 -- ── the ways out ──
 

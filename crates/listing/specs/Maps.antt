@@ -5,7 +5,7 @@ use Rattle.std.proofs.Math.Path.{refl}
 use Rattle.std.proofs.Common.{sym, ap, ◌∙◌, subst, append_assoc, ne_eqb}
 use Rattle.std.proofs.Math.Bool.{true, false}
 use Rattle.std.proofs.Math.Dec.{leb}
-use Rattle.paper.specs.Reader.{if◌then◌else◌, Reader, got, Rule, ◌>>=◌, ◌>>◌, give, each, times, repeat}
+use Rattle.paper.specs.Reader.{when◌then◌else◌, Reader, got, Rule, ◌>>=◌, ◌>>◌, give, each, times, repeat}
 use Rattle.paper.specs.Numbers.{signed, v64, number}
 use Rattle.paper.specs.Ledger.{Kind, constant, plain, array, many, mapping, nothing}
 use Rattle.paper.specs.Rules.{any_type, kind_rules, element_kind_rules, types_rules, noted}
@@ -82,12 +82,12 @@ module _ (k a e : ℕ) where
   row-map h = rw (kind-mapping k a e h)
 
   row_other : (k ≡ 20 → ⊥) → map? (kind_from k a e) ≡ false
-  unfolding map? kind_from if◌then◌else◌
+  unfolding map? kind_from when◌then◌else◌
   row_other h = rw (ne_eqb k 20 h) (go (leb k 3) (eqb k 4) (eqb k 15) (leb 17 k && leb k 19))
     where
       go :
           (x y z w : Bool)
-          → map? (if x then constant k (signed (2 ^ k) a) else if y then constant k (signed 8 a) else if z then array a e else if w then many k e else plain e) ≡ false
+          → map? (when x then constant k (signed (2 ^ k) a) else when y then constant k (signed 8 a) else when z then array a e else when w then many k e else plain e) ≡ false
       go true y z w = refl
       go false true z w = refl
       go false false true w = refl
@@ -121,9 +121,9 @@ not-map h is = not_so (sym h ∙ ap map? is)
 
 mapping-only :
     (k : ℕ) (f : List ℕ) (at : ℕ) (ks : List ℕ) (q : ℕ) (x y z w : Bool)
-    → (if x then constant_of k else if y then array_of any_type else if z then many_of any_type k else if w then mapping_of any_type else give (plain k)) f at ≡ got (mapping ks) q
+    → (when x then constant_of k else when y then array_of any_type else when z then many_of any_type k else when w then mapping_of any_type else give (plain k)) f at ≡ got (mapping ks) q
     → mapping_of any_type f at ≡ got (mapping ks) q
-unfolding if◌then◌else◌ constant_of array_of many_of give map?
+unfolding when◌then◌else◌ constant_of array_of many_of give map?
 mapping-only k f at ks q true y z w h = let (v, a, b) = turned-got (whole_of k) (constant k) f at (mapping ks) q h in not-map refl b
 mapping-only k f at ks q false true z w h =
     let A = bind_inv small _ f at (mapping ks) q h in
@@ -215,7 +215,7 @@ pub record MapPrinted (f : List ℕ) (at name : ℕ) (l : List ℕ) (o : ℕ) (m
   pub line : (ks : List ℕ) (q : ℕ) → new_kind f at ≡ got (mapping ks) q → Laid l o (new_line (record { kind = mapping ks; name = name })) m p
 
 twenty : decimal 20 ≡ 50 ∷ 48 ∷ []
-unfolding decimal shown glyph if◌then◌else◌
+unfolding decimal shown glyph when◌then◌else◌
 twenty = refl
 
 map-line :

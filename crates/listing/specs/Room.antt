@@ -5,7 +5,7 @@ use Rattle.std.proofs.Math.Bool.{false}
 use Rattle.std.proofs.Math.Nat.{lt_of_not-le}
 use Rattle.std.proofs.Math.Decide.{dec_le}
 use native.Nat.{ℕᴺ_discrete}
-use Rattle.paper.specs.Reader.{if◌then◌else◌, got}
+use Rattle.paper.specs.Reader.{when◌then◌else◌, got}
 use Rattle.paper.specs.Lists.{any}
 use Rattle.paper.specs.Ledger.{Ledger, State}
 use Rattle.paper.specs.File.{file}
@@ -29,7 +29,7 @@ module _ (row : FieldRow) where
   empty-array h = rw (kind-array row.kind row.a row.e h)
 
   pub empty-other : (row.kind ≡ 15 → ⊥) → false ≡ empty_field? (field_in row)
-  unfolding empty_field? empty? kind_from if◌then◌else◌
+  unfolding empty_field? empty? kind_from when◌then◌else◌
   empty-other other =
       elim (dec_le row.kind 4) [
         | yes d ↦

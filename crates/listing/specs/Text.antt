@@ -5,7 +5,7 @@ use Rattle.std.proofs.Math.Path.{ap, subst}
 use native.Mathlib.Omega.{arith}
 use Rattle.std.proofs.Math.ListN.{length}
 use Rattle.std.proofs.lemmas.Bool.{lt-leb}
-use Rattle.paper.specs.Reader.{if◌then◌else◌, got, no}
+use Rattle.paper.specs.Reader.{when◌then◌else◌, got, no}
 use Rattle.paper.specs.Bounds.{most_bytes, most_pairs}
 use Rattle.paper.specs.Ledger.{Ledger, State, nothing}
 use Rattle.paper.specs.File.{pairs, file}
@@ -51,10 +51,10 @@ pub record TextWritten (f out : List ℕ) (r : Reply) (m : List ℕ) : Type 0 wh
 
 -- an accepted file is not too long
 short : {f : List ℕ} → FileThere f → length f ≤ 1048576
-unfolding file if◌then◌else◌
+unfolding file when◌then◌else◌
 short {f} K = go (leb (length f) most_bytes) refl K.read
   where
-    go : (b : Bool) → leb (length f) most_bytes ≡ b → (if b then pairs most_pairs nothing f 0 else no 3 0) ≡ got K.ledger K.end → length f ≤ 1048576
+    go : (b : Bool) → leb (length f) most_bytes ≡ b → (when b then pairs most_pairs nothing f 0 else no 3 0) ≡ got K.ledger K.end → length f ≤ 1048576
     go true t q = leb-true (length f) most_bytes t
     go false t q = not-got q
 

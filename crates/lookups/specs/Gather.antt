@@ -10,7 +10,7 @@ use Rattle.std.proofs.Math.Seq.{drop-nil, drop-set-lt, drop-cons}
 use Rattle.std.proofs.lemmas.List.{drop-set-add, set-get_or}
 use Rattle.std.proofs.lemmas.Bool.{lt-leb}
 use Rattle.std.proofs.Math.Decide.{dec_le}
-use Rattle.paper.specs.Reader.{if◌then◌else◌}
+use Rattle.paper.specs.Reader.{when◌then◌else◌}
 use Rattle.paper.specs.Lists.{any, total}
 use Rattle.paper.specs.Ledger.{Range, of?, size, holds?}
 use Rattle.table.specs.Answers.{no_range}
@@ -163,12 +163,12 @@ gathering-start t log to first last {i} end =
 
 -- less of a log has no more
 fewer : (p : Range → Bool) (m : Range → ℕ) (i j : ℕ) (log : List Range) → i ≤ j → total p m (drop j log) ≤ total p m (drop i log)
-unfolding total if◌then◌else◌
+unfolding total when◌then◌else◌
 fewer p m i j [] le = rw (drop-nil j, drop-nil i) (omega arith)
 fewer p m zero zero (r ∷ log) le = omega arith
 fewer p m zero (suc j) (r ∷ log) le = go (p r) (fewer p m 0 j log (omega arith))
   where
-    go : (b : Bool) → total p m (drop j log) ≤ total p m log → total p m (drop j log) ≤ (if b then m r + total p m log else total p m log)
+    go : (b : Bool) → total p m (drop j log) ≤ total p m log → total p m (drop j log) ≤ (when b then m r + total p m log else total p m log)
     go true h = omega arith
     go false h = h
 fewer p m (suc i) zero (r ∷ log) le = absurd (omega arith)
@@ -186,13 +186,13 @@ module _ (log : List Range) (i : ℕ) (lt : i < length log) {x : Range} (is : x 
 
   module _ {t : ℕ} (same : x.type ≡ t) where
     one_more : count_of t (drop i log) ≡ 1 + count_of t (drop (i + 1) log)
-    unfolding count_of of? total if◌then◌else◌
+    unfolding count_of of? total when◌then◌else◌
     one_more =
         let one : total (of? t) (λ r. 1) (x ∷ []) ≡ 1 = rw (eq-eqb x.type t same) in
         omega (arith, total-on (of? t) log i no_range lt is (λ r. 1), one)
 
     its-objects : total (of? t) size (drop i log) ≡ x.count + total (of? t) size (drop (i + 1) log)
-    unfolding of? size total if◌then◌else◌
+    unfolding of? size total when◌then◌else◌
     its-objects =
         let one : total (of? t) size (x ∷ []) ≡ x.count + 0 = rw (eq-eqb x.type t same) in
         omega (arith, total-on (of? t) log i no_range lt is size, one)
@@ -257,7 +257,7 @@ module _ {t : ℕ} {log : List Range} {to : ℕ} {first₀ last₀ first last : 
 
 -- what is left out has no objects
 none-missing : (t n i j : ℕ) (log : List Range) → i ≤ j → total (of? t) size (drop i log) ≡ total (of? t) size (drop j log) → any (holds? t n) (drop i log) ≡ any (holds? t n) (drop j log)
-unfolding total if◌then◌else◌ any holds? size
+unfolding total when◌then◌else◌ any holds? size
 none-missing t n i j [] le e = rw (drop-nil j, drop-nil i) refl
 none-missing t n zero zero (r ∷ log) le e = refl
 none-missing t n zero (suc j) (r ∷ log) le e = go (of? t r) e (none-missing t n 0 j log (omega arith)) (fewer (of? t) size 0 j log (omega arith))
@@ -274,7 +274,7 @@ none-missing t n zero (suc j) (r ∷ log) le e = go (of? t r) e (none-missing t 
         and-false false = refl
 
     go :
-        (b : Bool) → (if b then r.count + total (of? t) size log else total (of? t) size log) ≡ total (of? t) size (drop j log)
+        (b : Bool) → (when b then r.count + total (of? t) size log else total (of? t) size log) ≡ total (of? t) size (drop j log)
         → (total (of? t) size log ≡ total (of? t) size (drop j log) → any (holds? t n) log ≡ any (holds? t n) (drop j log))
         → total (of? t) size (drop j log) ≤ total (of? t) size log
         → ((b && (leb (r.first + 1) n && leb n (r.first + r.count))) || any (holds? t n) log) ≡ any (holds? t n) (drop j log)

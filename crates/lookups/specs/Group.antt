@@ -10,7 +10,7 @@ use native.Nat.{ℕᴺ_discrete}
 use Rattle.std.proofs.Math.Dec.{ltb}
 use Rattle.std.proofs.Math.ListN.{get_or}
 use borrow.Author.Tests.{le-leb, lt-leb, lt-ltb, le-ltb, eq-eqb, ne_eqb}
-use Rattle.paper.specs.Reader.{if◌then◌else◌}
+use Rattle.paper.specs.Reader.{when◌then◌else◌}
 use Rattle.paper.specs.Lists.{any}
 use Rattle.paper.specs.Ledger.{Range, of?, holds?}
 use Rattle.table.specs.Segs.{cells, seg}
@@ -79,46 +79,46 @@ none-asked (j ∷ kinds) k h high = go (λ less. none-asked kinds k less high) (
 -- how many of the first t types they name
 unfoldable pub named_below : List ℕ → ℕ → ℕ
 named_below kinds zero = 0
-named_below kinds (suc t) = (if asked? kinds (t + 32) then 1 else 0) + named_below kinds t
+named_below kinds (suc t) = (when asked? kinds (t + 32) then 1 else 0) + named_below kinds t
 
-pub named_here : (kinds : List ℕ) (t : ℕ) → named_below kinds (t + 1) ≡ (if asked? kinds (t + 32) then 1 else 0) + named_below kinds t
+pub named_here : (kinds : List ℕ) (t : ℕ) → named_below kinds (t + 1) ≡ (when asked? kinds (t + 32) then 1 else 0) + named_below kinds t
 unfolding named_below
 named_here kinds t = rw add-one refl
 
 -- a kind names at most one of them
 same_below : ℕ → ℕ → ℕ
 same_below k zero = 0
-same_below k (suc t) = (if eqb (t + 32) k then 1 else 0) + same_below k t
+same_below k (suc t) = (when eqb (t + 32) k then 1 else 0) + same_below k t
 
 same_none : (k t : ℕ) → t + 32 ≤ k → same_below k t ≡ 0
-unfolding same_below if◌then◌else◌
+unfolding same_below when◌then◌else◌
 same_none k zero le = refl
 same_none k (suc t) le = rw (ne_eqb (t + 32) k (λ e. omega arith)) (omega (arith, same_none k t (omega arith)))
 
 same_once : (k t : ℕ) → same_below k t ≤ 1
-unfolding same_below if◌then◌else◌
+unfolding same_below when◌then◌else◌
 same_once k zero = omega arith
 same_once k (suc t) = go (same_once k t) (ℕᴺ_discrete (t + 32) k)
   where
-    go : same_below k t ≤ 1 → Dec (t + 32 ≡ k) → (if eqb (t + 32) k then 1 else 0) + same_below k t ≤ 1
+    go : same_below k t ≤ 1 → Dec (t + 32 ≡ k) → (when eqb (t + 32) k then 1 else 0) + same_below k t ≤ 1
     go h (yes e) = rw (eq-eqb (t + 32) k e) (omega (arith, same_none k t (omega arith)))
     go h (no e) = rw (ne_eqb (t + 32) k e) (omega (arith, h))
 
 named_more : (k : ℕ) (kinds : List ℕ) (t : ℕ) → named_below (k ∷ kinds) t ≤ same_below k t + named_below kinds t
-unfolding named_below same_below asked? any if◌then◌else◌
+unfolding named_below same_below asked? any when◌then◌else◌
 named_more k kinds zero = omega arith
 named_more k kinds (suc t) = go (eqb (t + 32) k) (any (eqb (t + 32)) kinds) (named_more k kinds t)
   where
     go :
         (a b : Bool) → named_below (k ∷ kinds) t ≤ same_below k t + named_below kinds t
-        → (if a || b then 1 else 0) + named_below (k ∷ kinds) t ≤ (if a then 1 else 0) + same_below k t + ((if b then 1 else 0) + named_below kinds t)
+        → (when a || b then 1 else 0) + named_below (k ∷ kinds) t ≤ (when a then 1 else 0) + same_below k t + ((when b then 1 else 0) + named_below kinds t)
     go true true h = omega arith
     go true false h = omega arith
     go false true h = omega arith
     go false false h = omega arith
 
 named_none : (t : ℕ) → named_below [] t ≡ 0
-unfolding named_below asked? any if◌then◌else◌
+unfolding named_below asked? any when◌then◌else◌
 named_none zero = refl
 named_none (suc t) = omega (arith, named_none t)
 
@@ -136,11 +136,11 @@ pub record GatheredAsked (asked : Bool) (t : ℕ) (log : List Range) (to : ℕ) 
   pub first-kept : drop to first ≡ drop to first₀
   pub last-kept : drop to last ≡ drop to last₀
   pub below : k ≤ to
-  pub count : to ≤ k + 32 * (if asked then 1 else 0)
+  pub count : to ≤ k + 32 * (when asked then 1 else 0)
   pub objects-are : asked ≡ true → (n : ℕ) → in_ranges (between k to first) (between k to last) n ≡ any (holds? t n) log
 
 pub are-asked : {asked : Bool} {t : ℕ} {log : List Range} {to : ℕ} {first₀ last₀ first last : List ℕ} {k : ℕ} → asked ≡ true → GatheredTo t log to first₀ last₀ first last k → GatheredAsked asked t log to first₀ last₀ first last k
-unfolding if◌then◌else◌
+unfolding when◌then◌else◌
 are-asked is F =
     record {
       first-long = F.first-long;
@@ -210,9 +210,9 @@ module _ {kinds : List ℕ} {log : List Range} {starts first last : List ℕ} (t
   abbrev G : Grouping kinds log starts first last (t + 1) k
   G = rw next at G₀
 
-  -- there is room for the next, if it is asked for
+  -- there is room for the next, when it is asked for
   pub group-room : asked? kinds (t + 32) ≡ true → 32 ≤ k
-  unfolding if◌then◌else◌
+  unfolding when◌then◌else◌
   group-room is =
       let here : named_below kinds (t + 1) ≡ 1 + named_below kinds t = named_here kinds t ∙ rw is refl in
       omega (arith, G.room, here)
@@ -279,13 +279,13 @@ module _ (l : List ℕ) {kinds starts first last : List ℕ} {t j : ℕ} (G₀ :
   all-met = rw done at G₀
 
   ranges-are : (k : ℕ) → asked? kinds k ≡ true → 32 ≤ k → (n : ℕ) → in_ranges (ranges starts k first) (ranges starts k last) n ≡ any (holds? (k - 32) n) (log_of l)
-  unfolding ranges from_of to_of there? if◌then◌else◌ in_ranges
+  unfolding ranges from_of to_of there? when◌then◌else◌ in_ranges
   ranges-are k asks h n = rw (le-leb 32 k h) (go (dec_le (k - 31 + 1) 33))
     where
       go :
           Dec (k - 31 + 1 ≤ 33)
-          → in_ranges (take ((if ltb (k - 31) (length starts) then get_or starts (k - 31) 0 else 0) - (if ltb (k - 31) (length starts) then get_or starts (k - 31 - 1) 0 else 0)) (drop (if ltb (k - 31) (length starts) then get_or starts (k - 31 - 1) 0 else 0) first))
-          (take ((if ltb (k - 31) (length starts) then get_or starts (k - 31) 0 else 0) - (if ltb (k - 31) (length starts) then get_or starts (k - 31 - 1) 0 else 0)) (drop (if ltb (k - 31) (length starts) then get_or starts (k - 31 - 1) 0 else 0) last)) n
+          → in_ranges (take ((when ltb (k - 31) (length starts) then get_or starts (k - 31) 0 else 0) - (when ltb (k - 31) (length starts) then get_or starts (k - 31 - 1) 0 else 0)) (drop (when ltb (k - 31) (length starts) then get_or starts (k - 31 - 1) 0 else 0) first))
+          (take ((when ltb (k - 31) (length starts) then get_or starts (k - 31) 0 else 0) - (when ltb (k - 31) (length starts) then get_or starts (k - 31 - 1) 0 else 0)) (drop (when ltb (k - 31) (length starts) then get_or starts (k - 31 - 1) 0 else 0) last)) n
           ≡ any (holds? (k - 32) n) (log_of l)
       go (yes d) =
           let near : ltb (k - 31) (length starts) ≡ true = lt-ltb (k - 31) (length starts) (omega (arith, all-met.starts-long)) in

@@ -3,7 +3,7 @@
 use Rattle.std.specs.Prelude.{◌≡◌, refl, Bool, true, false, List, [], ◌∷◌, ◌++◌, ℕ, zero, suc, ◌+◌, ◌*◌, ◌≤◌, ◌<◌, leb, length, get_or}
 use Rattle.std.proofs.Math.Option.{Option, none, some}
 use Rattle.std.proofs.Common.{arith, leb-true}
-use Rattle.paper.specs.Reader.{if◌then◌else◌, got}
+use Rattle.paper.specs.Reader.{when◌then◌else◌, got}
 use Rattle.paper.specs.Bounds.{most_objects}
 use Rattle.paper.specs.Lists.{total, fold, or}
 use Rattle.paper.specs.Ledger.{Range, New, Entry, State, pool_before, size, of?, before?}
@@ -34,11 +34,11 @@ low-snoc j [] r h c f = (c, omega arith, tt)
 low-snoc j (x ∷ rs) r h c f = (h.0, h.1, low-snoc (suc j) rs r h.2 c (omega arith))
 
 low-total : (p : Range → Bool) (j : ℕ) (rs : List Range) → Low j rs → total p size rs ≤ 65535 * length rs
-unfolding total size if◌then◌else◌
+unfolding total size when◌then◌else◌
 low-total p j [] h = omega arith
 low-total p j (r ∷ rs) h = go (low-total p (suc j) rs h.2) (p r)
   where
-    go : total p size rs ≤ 65535 * length rs → (b : Bool) → (if b then r.count + total p size rs else total p size rs) ≤ 65535 * suc (length rs)
+    go : total p size rs ≤ 65535 * length rs → (b : Bool) → (when b then r.count + total p size rs else total p size rs) ≤ 65535 * suc (length rs)
     go ih true = omega (arith, h.0)
     go ih false = omega arith
 

@@ -12,7 +12,7 @@ use Rattle.std.proofs.Math.Decide.{dec_le}
 use native.Nat.{ℕᴺ_discrete}
 use Rattle.laws.specs.Bools.{not_so}
 use Rattle.std.proofs.Math.ListN.{get_or}
-use Rattle.paper.specs.Reader.{if◌then◌else◌}
+use Rattle.paper.specs.Reader.{when◌then◌else◌}
 use Rattle.paper.specs.Numbers.{put_fixed}
 use Rattle.paper.specs.Lists.{same, all, place, total, given?}
 use Rattle.paper.specs.Ledger.{Kind, constant, plain, array, many, mapping, Typ, Field, Range, State, text, type_named, type_in, of?, size, objects_of}
@@ -28,21 +28,21 @@ use Rattle.table.specs.Asks.{Recalled}
 
 -- the objects of a base type
 unfoldable pub base_pool : List Typ → List Range → ℕ → ℕ
-base_pool ts log t = if given? (type_in ts t).super then 0 else total (of? t) size log
+base_pool ts log t = when given? (type_in ts t).super then 0 else total (of? t) size log
 
 -- ── one string ──
 
 module _ (ts : List Typ) (log : List Range) (t : ℕ) {up : ℕ} (is : maybe up ≡ (type_in ts t).super) where
   pub pool-sub : (up ≡ 0 → ⊥) → 0 ≡ base_pool ts log t
-  unfolding base_pool if◌then◌else◌ given?
+  unfolding base_pool when◌then◌else◌ given?
   pool-sub h = rw (← is) (go up h)
     where
-      go : (u : ℕ) → (u ≡ 0 → ⊥) → 0 ≡ (if given? (maybe u) then 0 else total (of? t) size log)
+      go : (u : ℕ) → (u ≡ 0 → ⊥) → 0 ≡ (when given? (maybe u) then 0 else total (of? t) size log)
       go zero h = absurd (h refl)
       go (suc u) h = refl
 
   pub pool-base : up ≡ 0 → {r : ℕ} → r ≡ total (of? t) size log → r ≡ base_pool ts log t
-  unfolding base_pool if◌then◌else◌ given?
+  unfolding base_pool when◌then◌else◌ given?
   pool-base h q = rw (← is, h) q
 
 -- r objects of the base type that string i names, counted from 0; the table says what it said
@@ -202,7 +202,7 @@ noted-at {pools} {s} N i d lt h = N.say (all-fails unnamed_field? s.fields i d l
 
 module _ (k a e : ℕ) where
   pub unnamed-constant : k ≤ 4 → true ≡ unnamed? (element_kinds (kind_from k a e))
-  unfolding unnamed? element_kinds all kind_from if◌then◌else◌
+  unfolding unnamed? element_kinds all kind_from when◌then◌else◌
   unnamed-constant h =
       elim (dec_le k 3) [
         | yes d ↦ rw (le-leb k 3 d)
@@ -210,7 +210,7 @@ module _ (k a e : ℕ) where
       ]
 
   pub unnamed-map : k ≡ 20 → {b : Bool} → b ≡ unnamed? (put_fixed a e) → b ≡ unnamed? (element_kinds (kind_from k a e))
-  unfolding element_kinds kind_from if◌then◌else◌
+  unfolding element_kinds kind_from when◌then◌else◌
   unnamed-map h q = rw h q
 
   -- the others have one kind of element, the last number

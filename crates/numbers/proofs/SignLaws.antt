@@ -12,7 +12,7 @@ use mir.Syntax.{w64}
 use mir.Val.{SFits, to_z, of_z}
 use mir.Facts.{to_z-of_z, to_z_pos}
 use borrow.Author.Tests.{lt-ltb, le-ltb, ltb-true}
-use Rattle.paper.specs.Reader.{if◌then◌else◌}
+use Rattle.paper.specs.Reader.{when◌then◌else◌}
 use Rattle.paper.specs.Numbers.{signed, unsigned}
 use Rattle.numbers.specs.Signs.{Bits}
 
@@ -30,12 +30,12 @@ down_fits d h = rw (down-read d h) (record { sfits = h })
 
 module _ (x half : ℕ) (most : half ≤ 2 ^ 63) (w : ℕ) (two : 256 ^ w ≡ half + half) where
   pub low_half : x < half → to_z w64 x ≡ signed w x
-  unfolding signed if◌then◌else◌
+  unfolding signed when◌then◌else◌
   low_half h = rw (lt-ltb x (256 ^ w / 2) (omega arith)) (to_z_pos w64 (omega arith))
 
   pub high_half :
       half ≤ x → x < half + half → to_z w64 (of_z w64 (negsuc 0 -ℤ to_z w64 (half - 1 - (x - half)))) ≡ signed w x
-  unfolding signed if◌then◌else◌
+  unfolding signed when◌then◌else◌
   high_half h k =
       let d = half - 1 - (x - half) in
       let small : d < 2 ^ 63 = omega arith in
@@ -83,7 +83,7 @@ module _ (x half : ℕ) (some : 0 < half) (most : half ≤ 2 ^ 62) (in-range : x
       ]
 
   pub moved_back : (w : ℕ) → 256 ^ w ≡ half + half → to_z w64 (of_z w64 (moved x half)) ≡ signed w x
-  unfolding signed if◌then◌else◌
+  unfolding signed when◌then◌else◌
   moved_back w two =
       to_z-of_z moved-fits
       ∙ elim (dec_le half x) [

@@ -9,7 +9,7 @@ use lib.Dec.{lit<}
 use lib.ListN.{length, get_or, take, drop, length-take, length-drop}
 use lib.Seq.{take-suc, take_all, drop-cons, get_or-take, get_or-drop}
 use borrow.Author.Tests.{le-leb}
-use Rattle.paper.specs.Reader.{if◌then◌else◌, bytes, ◌>>=◌, give}
+use Rattle.paper.specs.Reader.{when◌then◌else◌, bytes, ◌>>=◌, give}
 use Rattle.paper.specs.Numbers.{high_first, fixed}
 use Rattle.numbers.specs.Turned.{low_bytes, Turned, TakenAt}
 use Rattle.numbers.proofs.FixedLaws.{high-first-more}
@@ -124,7 +124,7 @@ pub taken :
     {width r : ℕ} {f : List ℕ} {at x : ℕ} → at + width ≤ length f → ((i : ℕ) → get_or f i 0 < 256)
     → x ≡ low_bytes (take width (drop at f)) → Turned width x r
     → TakenAt width f at (record { number = r; next = record { at = at + width } })
-unfolding fixed bytes ◌>>=◌ give if◌then◌else◌
+unfolding fixed bytes ◌>>=◌ give when◌then◌else◌
 taken {width} {r} {f} {at} {x} room small e T =
     let long : length (take width (drop at f)) ≡ width = simp (length-take, length-drop) (omega arith) in
     let is : r ≡ high_first (take width (drop at f)) =

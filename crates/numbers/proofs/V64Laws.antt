@@ -8,7 +8,7 @@ use native.Mathlib.Decide.{dec_le}
 use lib.Dec.{lit<}
 use lib.ListN.{length, get_or}
 use borrow.Author.Tests.{le-leb, lt-leb}
-use Rattle.paper.specs.Reader.{Out, got, no, and_then, if◌then◌else◌, ◌>>=◌, give, from_start, started, bytes}
+use Rattle.paper.specs.Reader.{Out, got, no, and_then, when◌then◌else◌, ◌>>=◌, give, from_start, started, bytes}
 use Rattle.paper.specs.Numbers.{fixed, coding, low_first, v64}
 use Rattle.numbers.specs.Begun.{Begun, Ended, one_byte}
 use Rattle.numbers.specs.Turned.{TakenV64}
@@ -18,7 +18,7 @@ use Rattle.numbers.specs.declared.Number.TheVariants.{Got, No}
 -- ── one byte ──
 
 no_byte : (f : List ℕ) (p : ℕ) → length f ≤ p → fixed 1 f p ≡ no 1 p
-unfolding fixed bytes ◌>>=◌ give if◌then◌else◌
+unfolding fixed bytes ◌>>=◌ give when◌then◌else◌
 no_byte f p h = rw (lt-leb (p + 1) (length f) (omega arith))
 
 -- ── the coding by cases, as code meets them ──
@@ -34,14 +34,14 @@ module _ (f : List ℕ) (p : ℕ) where
 
   -- the last byte: the ninth, or one whose top bit is not set
   last : (k : ℕ) → p < length f → (0 < k → get_or f p 0 < 128) → coding k f p ≡ got (get_or f p 0 ∷ []) (p + 1)
-  unfolding coding ◌>>=◌ give if◌then◌else◌
+  unfolding coding ◌>>=◌ give when◌then◌else◌
   last zero h lt = rw (one_byte f p h)
   last (suc k) h lt = rw (one_byte f p h, lt-leb 128 (get_or f p 0) (lt (omega arith)))
 
   more :
       (k : ℕ) → p < length f → 128 ≤ get_or f p 0
       → coding (suc k) f p ≡ and_then (coding k f (p + 1)) (λ bs e. got (get_or f p 0 ∷ bs) e)
-  unfolding coding ◌>>=◌ give if◌then◌else◌
+  unfolding coding ◌>>=◌ give when◌then◌else◌
   more k h le = rw (one_byte f p h, le-leb 128 (get_or f p 0) le)
 
   -- a coding has a byte

@@ -3,7 +3,7 @@ use Rattle.std.specs.Prelude.{◌≡◌, refl, [], ◌∷◌, ℕ, zero, suc, �
 use Rattle.std.proofs.Common.{ap, arith, pow-suc, lt_of_not-le, lit<, lt-ltb, le-ltb}
 use Rattle.std.proofs.Math.Nat.{one-le-pow}
 use Rattle.std.proofs.Math.Decide.{dec_le}
-use Rattle.paper.specs.Reader.{if◌then◌else◌}
+use Rattle.paper.specs.Reader.{when◌then◌else◌}
 use Rattle.paper.specs.Numbers.{put_fixed, put_v64, put}
 
 -- r is the length of x as a v64
@@ -15,12 +15,12 @@ pub record Length (x r : ℕ) : Type 0 where
 -- ── v64: the coding by cases ──
 
 pub one_left : (k n : ℕ) → n < 128 → put_v64 k n ≡ n ∷ []
-unfolding put_v64 if◌then◌else◌
+unfolding put_v64 when◌then◌else◌
 one_left zero n h = refl
 one_left (suc k) n h = rw (lt-ltb n 128 h)
 
 pub more_left : (k n : ℕ) → 128 ≤ n → put_v64 (suc k) n ≡ (128 + n % 128) ∷ put_v64 k (n / 128)
-unfolding put_v64 if◌then◌else◌
+unfolding put_v64 when◌then◌else◌
 more_left k n h = rw (le-ltb n 128 h)
 
 pub last-left : (n : ℕ) → put_v64 0 n ≡ n ∷ []

@@ -1,7 +1,7 @@
 -- The six calls: what each answers, 15 to 20 included, and what the lent memory holds afterwards. Assumes nothing.
 use Rattle.std.specs.Prelude.{Bool, true, false, ◌&&◌, List, [], ◌∷◌, ◌++◌, map, ℕ, leb, ltb, eqb, ℤ, pos, length, drop, replicate}
 use Rattle.std.proofs.Math.Option.{Option, none, some}
-use Rattle.paper.specs.Reader.{if◌then◌else◌, Out, got, no}
+use Rattle.paper.specs.Reader.{when◌then◌else◌, Out, got, no}
 use Rattle.paper.specs.Numbers.{signed}
 use Rattle.paper.specs.Bounds.{table_length}
 use Rattle.paper.specs.Lists.{fold}
@@ -66,7 +66,7 @@ unfoldable pub stored : Element → ℤ
 stored (flag true) = pos 1
 stored (flag false) = pos 0
 stored (whole v) = v
-stored (float w n) = if eqb w 8 then signed 8 n else pos n
+stored (float w n) = when eqb w 8 then signed 8 n else pos n
 stored (link n) = pos n
 stored (annotation name n) = pos n
 stored (keys n) = pos n
@@ -77,7 +77,7 @@ stored_all (v ∷ vs) = map stored v ++ stored_all vs
 
 -- the values of a chunk, if it is of field i
 unfoldable pub values_in : ℕ → Due → Chunk → List ℤ
-values_in i d c = if eqb d.field i then stored_all c else []
+values_in i d c = when eqb d.field i then stored_all c else []
 
 unfoldable pub chunk_values : ℕ → List Due → List Chunk → List ℤ
 chunk_values i [] cs = []
@@ -103,7 +103,7 @@ column_of l t i = column_by (field_at (known l) i).kind l t i
 -- the kind that a column is asked with: 32 is a reference to any type; 33 for what has no column
 unfoldable pub asked : Kind → ℕ
 asked (constant k v) = k
-asked (plain k) = if eqb k 5 then 33 else if ltb k 32 then k else 32
+asked (plain k) = when eqb k 5 then 33 else when ltb k 32 then k else 32
 asked (array n k) = 33
 asked (many c k) = 33
 asked (mapping ks) = 33
@@ -155,7 +155,7 @@ build room table t = do
 
 -- the first 16,384 numbers are 0 and the rest as lent; a shorter table is untouched
 unfoldable pub cleared : List ℕ → List ℕ
-cleared table = if leb table_length (length table) then replicate table_length 0 ++ drop table_length table else table
+cleared table = when leb table_length (length table) then replicate table_length 0 ++ drop table_length table else table
 
 -- the values at the front, the rest untouched
 unfoldable pub over_front : {A : Type 0} → List A → List A → List A

@@ -1,7 +1,7 @@
 -- The file, read in the paper's order: string block, entries, kinds, data region, pair, file. Assumes nothing.
 use Rattle.std.specs.Prelude.{Bool, ◌&&◌, List, [], ◌∷◌, ◌++◌, map, ℕ, ◌-◌, ◌*◌, ◌^◌, leb, ltb, eqb, ℤ, length, take, drop}
 use Rattle.paper.specs.Reader.{
-  if◌then◌else◌,
+  when◌then◌else◌,
   Reader,
   Out,
   got,
@@ -120,7 +120,7 @@ head s = do
 -- a whole number of kind k, counted from i8: i8, i16, i32, i64, v64
 unfoldable pub whole_of : ℕ → Reader ℤ
 whole_of k =
-    if ltb k 4 then (do
+    when ltb k 4 then (do
       n ← fixed (2 ^ k)
       give (signed (2 ^ k) n)) else do
         n ← v64
@@ -130,17 +130,17 @@ whole_of k =
 unfoldable pub kind : (ℕ → Bool) → Reader Kind
 kind named = do
   k ← number (kind_rules named)
-  if leb k 4 then (do
+  when leb k 4 then (do
     v ← whole_of k
     give (constant k v)) else
-      if eqb k 15 then (do
+      when eqb k 15 then (do
         n ← small
         e ← number (element_kind_rules named)
         give (array n e)) else
-      if leb 17 k && leb k 19 then (do
+      when leb 17 k && leb k 19 then (do
         e ← number (element_kind_rules named)
         give (many k e)) else
-      if eqb k 20 then (do
+      when eqb k 20 then (do
         n ← number types_rules
         ks ← repeat n (number (element_kind_rules named))
         give (mapping ks)) else
@@ -214,16 +214,16 @@ two_numbers = do
 
 unfoldable pub element : State → ℕ → Reader Element
 element s k =
-    if eqb k 5 then (do
+    when eqb k 5 then (do
       p ← must two_numbers (annotation_rules s)
       give (annotation p.0 p.1)) else
-    if eqb k 6 then (do
+    when eqb k 6 then (do
       b ← must (fixed 1) bool_rules
       give (flag (eqb b 255))) else
-    if leb k 11 then (do
+    when leb k 11 then (do
       v ← whole_of (k - 7)
       give (whole v)) else
-    if leb k 13 then (do
+    when leb k 13 then (do
       n ← fixed (4 * (k - 11))
       give (float (4 * (k - 11)) n)) else do
         n ← number (link_rules s k)
@@ -264,7 +264,7 @@ refusal_of (no n p) = no n p
 unfoldable pub kinds_named : State → ℕ → Front → Reader (Unit {0})
 kinds_named s start d f at =
     let s₂ = after_front s d.strings d.entries in
-    if kinds_stand? s₂ d.entries then got tt at else refusal_of (front (a_type? s₂) s f start)
+    when kinds_stand? s₂ d.entries then got tt at else refusal_of (front (a_type? s₂) s f start)
 
 -- string block; entries; data region within the file; kinds from 32 upwards; values
 unfoldable pub pair_from : State → ℕ → Reader Pair
@@ -283,4 +283,4 @@ unfoldable pub pairs : ℕ → State → Reader Ledger
 pairs n s = to_end n (refuse 3) pair after_pair s
 
 unfoldable pub file : List ℕ → Out Ledger
-file f = if leb (length f) most_bytes then pairs most_pairs nothing f 0 else no 3 0
+file f = when leb (length f) most_bytes then pairs most_pairs nothing f 0 else no 3 0

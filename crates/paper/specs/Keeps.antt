@@ -1,7 +1,7 @@
 -- The ledgers that keep the rules: a second account of what is accepted, in which nothing is read. Assumes nothing.
 use Rattle.std.specs.Prelude.{Bool, true, false, ◌&&◌, not, List, [], ◌∷◌, ℕ, ◌+◌, ◌-◌, ◌*◌, ◌^◌, ◌/◌, leb, ltb, eqb, ℤ, pos, negsuc, length}
 use Rattle.std.proofs.Math.Option.{Option, none, some}
-use Rattle.paper.specs.Reader.{if◌then◌else◌, Rule, ◌or_no◌}
+use Rattle.paper.specs.Reader.{when◌then◌else◌, Rule, ◌or_no◌}
 use Rattle.paper.specs.Bounds.{most_bytes, most_pairs}
 use Rattle.paper.specs.Lists.{all, given?, or}
 use Rattle.paper.specs.Ledger.{
@@ -105,7 +105,7 @@ signed? w (negsuc n) = ltb n (256 ^ w / 2)
 
 -- i8, i16, i32, i64, v64
 unfoldable pub whole? : ℕ → ℤ → Bool
-whole? k v = signed? (if ltb k 4 then 2 ^ k else 8) v
+whole? k v = signed? (when ltb k 4 then 2 ^ k else 8) v
 
 unfoldable pub kind_kept? : Kind → Bool
 kind_kept? (constant k v) = leb k 4 && whole? k v

@@ -3,7 +3,7 @@ use Rattle.std.specs.Prelude.{true, false, List, [], ◌∷◌, ◌++◌, map, �
 use Rattle.std.proofs.Math.Option.{Option, none, some}
 use Prim.Native.Char.{code}
 use Prim.Native.String.{String, [] as no_text, ◌∷◌ as ◌∷ᵗ◌}
-use Rattle.paper.specs.Reader.{if◌then◌else◌}
+use Rattle.paper.specs.Reader.{when◌then◌else◌}
 use Rattle.paper.specs.Lists.{flat}
 use Rattle.paper.specs.Ledger.{
   Kind,
@@ -50,7 +50,7 @@ dash = 45
 -- ── words ──
 
 unfoldable pub glyph : ℕ → ℕ
-glyph d = if ltb d 10 then 48 + d else 87 + d
+glyph d = when ltb d 10 then 48 + d else 87 + d
 
 -- n in decimal, from its last digit; k is more than the number of digits
 unfoldable pub shown : ℕ → ℕ → List ℕ

@@ -1,7 +1,7 @@
 -- Questions to lists, in the words that the rules use. Assumes nothing.
 use Rattle.std.specs.Prelude.{Bool, true, false, ◌&&◌, ◌||◌, List, [], ◌∷◌, ◌++◌, ℕ, suc, ◌+◌, eqb}
 use Rattle.std.proofs.Math.Option.{Option, none, some}
-use Rattle.paper.specs.Reader.{if◌then◌else◌}
+use Rattle.paper.specs.Reader.{when◌then◌else◌}
 
 -- the same bytes
 unfoldable pub same : List ℕ → List ℕ → Bool
@@ -21,23 +21,23 @@ all p (x ∷ xs) = p x && all p xs
 -- the place of the first that passes, counted from i
 unfoldable pub place : {A : Type 0} → (A → Bool) → ℕ → List A → Option ℕ
 place p i [] = none
-place p i (x ∷ xs) = if p x then some i else place p (suc i) xs
+place p i (x ∷ xs) = when p x then some i else place p (suc i) xs
 
 -- the place of the first that passes together with its name
 unfoldable pub place_named : {A B : Type 0} → (A → B → Bool) → ℕ → List A → List B → Option ℕ
 place_named p i [] names = none
 place_named p i (x ∷ xs) [] = none
-place_named p i (x ∷ xs) (name ∷ names) = if p x name then some i else place_named p (suc i) xs names
+place_named p i (x ∷ xs) (name ∷ names) = when p x name then some i else place_named p (suc i) xs names
 
 -- the places of all that pass
 unfoldable pub places : {A : Type 0} → (A → Bool) → ℕ → List A → List ℕ
 places p i [] = []
-places p i (x ∷ xs) = if p x then i ∷ places p (suc i) xs else places p (suc i) xs
+places p i (x ∷ xs) = when p x then i ∷ places p (suc i) xs else places p (suc i) xs
 
 -- the sum over those that pass
 unfoldable pub total : {A : Type 0} → (A → Bool) → (A → ℕ) → List A → ℕ
 total p n [] = 0
-total p n (x ∷ xs) = if p x then n x + total p n xs else total p n xs
+total p n (x ∷ xs) = when p x then n x + total p n xs else total p n xs
 
 unfoldable pub fold : {S A : Type 0} → (S → A → S) → S → List A → S
 fold after s [] = s

@@ -1,6 +1,6 @@
 -- "Numbers": v64, read in every coding and written in the shortest; fixed widths, highest byte first. Assumes nothing.
 use Rattle.std.specs.Prelude.{List, [], ◌∷◌, ℕ, zero, suc, ◌+◌, ◌-◌, ◌*◌, ◌^◌, ◌/◌, ◌%◌, leb, ltb, ℤ, pos, negsuc, length}
-use Rattle.paper.specs.Reader.{if◌then◌else◌, Reader, ◌>>=◌, give, must, started, Rule, bytes}
+use Rattle.paper.specs.Reader.{when◌then◌else◌, Reader, ◌>>=◌, give, must, started, Rule, bytes}
 
 -- ── fixed widths: two's complement, and the bits of floats ──
 
@@ -21,7 +21,7 @@ put_fixed (suc w) n = n / 256 ^ w ∷ put_fixed w (n % 256 ^ w)
 
 -- two's complement in w bytes
 unfoldable pub signed : ℕ → ℕ → ℤ
-signed w n = if ltb n (256 ^ w / 2) then pos n else negsuc (256 ^ w - 1 - n)
+signed w n = when ltb n (256 ^ w / 2) then pos n else negsuc (256 ^ w - 1 - n)
 
 unfoldable pub unsigned : ℕ → ℤ → ℕ
 unsigned w (pos n) = n
@@ -37,7 +37,7 @@ coding zero = do
   give (b ∷ [])
 coding (suc k) = do
   b ← fixed 1
-  if leb 128 b then (do
+  when leb 128 b then (do
     bs ← coding k
     give (b ∷ bs)) else
       give (b ∷ [])
@@ -56,7 +56,7 @@ v64 = do
 -- the shortest coding
 unfoldable pub put_v64 : ℕ → ℕ → List ℕ
 put_v64 zero n = n ∷ []
-put_v64 (suc k) n = if ltb n 128 then n ∷ [] else (128 + n % 128) ∷ put_v64 k (n / 128)
+put_v64 (suc k) n = when ltb n 128 then n ∷ [] else (128 + n % 128) ∷ put_v64 k (n / 128)
 
 unfoldable pub put : ℕ → List ℕ
 put = put_v64 8

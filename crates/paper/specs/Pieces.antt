@@ -3,7 +3,7 @@
 -- nothing.
 use Rattle.std.specs.Prelude.{true, false, List, [], ◌∷◌, ◌++◌, ℕ, ◌+◌, ◌-◌, ◌^◌, ltb, ℤ, length, take, drop}
 use Rattle.std.proofs.Math.Option.{Option, none, some}
-use Rattle.paper.specs.Reader.{if◌then◌else◌}
+use Rattle.paper.specs.Reader.{when◌then◌else◌}
 use Rattle.paper.specs.Numbers.{unsigned, put_fixed}
 use Rattle.paper.specs.Lists.{flat, given?}
 use Rattle.paper.specs.Ledger.{
@@ -59,11 +59,11 @@ option_pieces none = []
 option_pieces (some n) = free n
 
 unfoldable pub head_pieces : Head → List Piece
-head_pieces h = free h.name ++ option_pieces h.super ++ option_pieces h.start ++ free h.count ++ (if given? h.super then free 0 else [])
+head_pieces h = free h.name ++ option_pieces h.super ++ option_pieces h.start ++ free h.count ++ (when given? h.super then free 0 else [])
 
 -- a whole number of kind k, counted from i8: i8, i16, i32, i64, v64
 unfoldable pub whole_pieces : ℕ → ℤ → List Piece
-whole_pieces k v = if ltb k 4 then firm (put_fixed (2 ^ k) (unsigned (2 ^ k) v)) else free (unsigned 8 v)
+whole_pieces k v = when ltb k 4 then firm (put_fixed (2 ^ k) (unsigned (2 ^ k) v)) else free (unsigned 8 v)
 
 unfoldable pub kind_pieces : Kind → List Piece
 kind_pieces (constant k v) = free k ++ whole_pieces k v

@@ -1,6 +1,6 @@
 -- Where the chunks stand: their places as they are read, not as they would be written. Assumes nothing.
 use Rattle.std.specs.Prelude.{Bool, ◌&&◌, List, [], ◌∷◌, ◌++◌, ℕ, zero, suc, ◌+◌, leb, ltb, eqb, length}
-use Rattle.paper.specs.Reader.{if◌then◌else◌, Out, got, no}
+use Rattle.paper.specs.Reader.{when◌then◌else◌, Out, got, no}
 use Rattle.paper.specs.Bounds.{most_pairs}
 use Rattle.paper.specs.Lists.{any, last_or}
 use Rattle.paper.specs.Ledger.{Due, State, nothing}
@@ -29,7 +29,7 @@ pair_spots s d m = spots_from m (sized 0 (dues (with_strings s d.strings) d.entr
 unfoldable pub spots_of : ℕ → State → List ℕ → ℕ → List Spot
 spots_of zero s f at = []
 spots_of (suc n) s f at =
-    if leb (length f) at then
+    when leb (length f) at then
     [] else
     with_front (front any_type s f at) λ d m. pair_spots s d m ++ spots_of n (closed (after_front s d.strings d.entries)) f (m + last_or 0 d.ends)
 

@@ -3,10 +3,10 @@
 use Rattle.std.specs.Prelude.{Bool, true, false, List, [], ◌∷◌, ℕ, zero, suc, ◌+◌, leb, eqb, length, take, drop, replicate}
 use Rattle.std.proofs.Math.Option.{Option, none, some}
 
-infixr 5 if◌then◌else◌
-unfoldable pub if◌then◌else◌ : {A : Type 0} → Bool → A → A → A
-if true then a else b = a
-if false then a else b = b
+infixr 5 when◌then◌else◌
+unfoldable pub when◌then◌else◌ : {A : Type 0} → Bool → A → A → A
+when true then a else b = a
+when false then a else b = b
 
 -- `got value next`, or `no refusal place`
 pub data Out (A : Type 0) : Type 0 where
@@ -69,19 +69,19 @@ started r f at = from_start at (r f at)
 
 -- a reading for which n bytes are there
 unfoldable pub within : {A : Type 0} → ℕ → Reader A → Reader A
-within n r f at = if leb (at + n) (length f) then r f at else no 1 at
+within n r f at = when leb (at + n) (length f) then r f at else no 1 at
 
 -- n bytes
 unfoldable pub bytes : ℕ → Reader (List ℕ)
-bytes n f at = if leb (at + n) (length f) then got (take n (drop at f)) (at + n) else no 1 at
+bytes n f at = when leb (at + n) (length f) then got (take n (drop at f)) (at + n) else no 1 at
 
 -- the n bytes that come next, as a file of their own: what is read fills it exactly, else the refusal is 12
 abbrev pub filled : {A : Type 0} → ℕ → ℕ → Out A → Out A
-filled at n (got a e) = if eqb e n then got a (at + n) else no 12 (at + e)
-filled at n (no k p) = no (if eqb k 1 then 12 else k) (at + p)
+filled at n (got a e) = when eqb e n then got a (at + n) else no 12 (at + e)
+filled at n (no k p) = no (when eqb k 1 then 12 else k) (at + p)
 
 unfoldable pub part : {A : Type 0} → ℕ → Reader A → Reader A
-part n r f at = if leb (at + n) (length f) then filled at n (r (take n (drop at f)) 0) else no 1 at
+part n r f at = when leb (at + n) (length f) then filled at n (r (take n (drop at f)) 0) else no 1 at
 
 -- ── many, and perhaps none ──
 
@@ -110,7 +110,7 @@ only false r = give none
 
 -- a value at the end of the file, and else a reading
 unfoldable pub unless_end : {A : Type 0} → A → Reader A → Reader A
-unless_end a r f at = if leb (length f) at then got a at else r f at
+unless_end a r f at = when leb (length f) at then got a at else r f at
 
 -- one after the other up to the end of the file: at most n, and `stop` where there are more
 unfoldable pub to_end : {S A : Type 0} → ℕ → Reader (List A) → (S → Reader A) → (S → A → S) → S → Reader (List A)

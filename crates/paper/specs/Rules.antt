@@ -1,7 +1,7 @@
 -- The rules, each with its refusal, and how what is known goes on: no bytes are read here. Assumes nothing.
 use Rattle.std.specs.Prelude.{Bool, true, false, ◌&&◌, ◌||◌, not, List, [], ◌∷◌, ◌++◌, map, ℕ, zero, suc, ◌+◌, ◌-◌, min, leb, ltb, eqb, length}
 use Rattle.std.proofs.Math.Option.{Option, none, some}
-use Rattle.paper.specs.Reader.{if◌then◌else◌, Rule, ◌or_no◌}
+use Rattle.paper.specs.Reader.{when◌then◌else◌, Rule, ◌or_no◌}
 use Rattle.paper.specs.Bounds.{most_strings, most_types, most_fields, most_objects}
 use Rattle.paper.specs.Lists.{any, all, fold, given?, or}
 use Rattle.paper.specs.Ledger.{Kind, constant, plain, array, many, mapping, New, Head, Entry, Pair, Typ, Range, Due, State, text, a_string?, type_named, type_in, field_at, fields_of, field_named, of?, here?, objects_of, pool_before, objects_in_all, object?}
@@ -57,7 +57,7 @@ type_name_rules s n = (a_string? s n or_no 5) ∷ place_rules s (type_named s (t
 
 -- the type that a super type's string number names; 0 names none
 unfoldable pub super_named : State → ℕ → Option ℕ
-super_named s n = if eqb n 0 then none else type_named s (text s n)
+super_named s n = when eqb n 0 then none else type_named s (text s n)
 
 -- the chain of super types from a type upwards ends within n steps, and does not meet t
 unfoldable pub chain_ends? : ℕ → List Typ → ℕ → Option ℕ → Bool
@@ -94,7 +94,7 @@ clear? b ts u start r = not (here? b r && below? ts r.type u) || leb (r.start + 
 unfoldable pub in_range? : State → Option ℕ → ℕ → ℕ → Bool
 in_range? s none start n = true
 in_range? s (some u) start n =
-    if eqb n 0 then
+    when eqb n 0 then
     eqb start 0 else
     (any (around? s.block u start n) s.log && all (clear? s.block s.types u start) s.log)
 
@@ -121,11 +121,11 @@ unfoldable pub base_of : State → Head → ℕ
 base_of s h = base_under s.types (type_of s h.name) (super_of s h.name h.super)
 
 unfoldable pub new_name : State → Head → List (List ℕ)
-new_name s h = if new? s h.name then text s h.name ∷ [] else []
+new_name s h = when new? s h.name then text s h.name ∷ [] else []
 
 -- the type that the entry declares, if it is new
 unfoldable pub new_type : State → Head → List Typ
-new_type s h = if new? s h.name then record { super = super_of s h.name h.super; base = base_of s h } ∷ [] else []
+new_type s h = when new? s h.name then record { super = super_of s h.name h.super; base = base_of s h } ∷ [] else []
 
 -- objects of a base pool are numbered block after block
 unfoldable pub new_range : State → Head → Range
@@ -154,7 +154,7 @@ after_head s h =
 
 -- the known fields that an entry gives, by their places: with count 0 all fields are new
 unfoldable pub known_due : State → Head → List ℕ
-known_due s h = if eqb h.count 0 then [] else fields_of s (type_of s h.name)
+known_due s h = when eqb h.count 0 then [] else fields_of s (type_of s h.name)
 
 unfoldable pub field_count_rules : State → ℕ → ℕ → List Rule
 field_count_rules s known n = (leb (length s.fields + (n - known)) most_fields or_no 3) ∷ (leb known n or_no 11) ∷ []
@@ -271,7 +271,7 @@ bool_rules b = (eqb b 0 || eqb b 255 or_no 13) ∷ []
 
 -- a string's number, or an object's of the type of a kind from 32 upwards, or 0
 unfoldable pub link? : State → ℕ → ℕ → Bool
-link? s k n = if eqb k 14 then leb n (length s.strings) else (eqb n 0 || object? s (k - 32) n)
+link? s k n = when eqb k 14 then leb n (length s.strings) else (eqb n 0 || object? s (k - 32) n)
 
 unfoldable pub link_rules : State → ℕ → ℕ → List Rule
 link_rules s k n = (link? s k n or_no 14) ∷ []
@@ -283,7 +283,7 @@ base_object? s (some t) n = not (given? (type_in s.types t).super) && object? s 
 
 -- an annotation: the number of a base type's name and of an object in its pool, or 0 and 0
 unfoldable pub annotation? : State → ℕ → ℕ → Bool
-annotation? s name n = if eqb name 0 then eqb n 0 else (a_string? s name && base_object? s (type_named s (text s name)) n)
+annotation? s name n = when eqb name 0 then eqb n 0 else (a_string? s name && base_object? s (type_named s (text s name)) n)
 
 unfoldable pub annotation_rules : State → ℕ × ℕ → List Rule
 annotation_rules s p = (annotation? s p.0 p.1 or_no 14) ∷ []

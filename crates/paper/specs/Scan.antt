@@ -2,7 +2,7 @@
 -- wrong is refused by 20, which has no place. Assumes nothing.
 use Rattle.std.specs.Prelude.{Bool, true, false, ◌&&◌, List, [], ◌∷◌, map, ℕ, zero, suc, ◌+◌, ◌-◌, ◌*◌, ◌^◌, leb, ltb, eqb, ℤ, pos, negsuc, length, get_or, drop}
 use Rattle.std.proofs.Math.Option.{Option, none, some}
-use Rattle.paper.specs.Reader.{if◌then◌else◌, Reader, Out, got, no, and_then, ◌>>=◌, ◌>>◌, give, each, times, repeat, to_end}
+use Rattle.paper.specs.Reader.{when◌then◌else◌, Reader, Out, got, no, and_then, ◌>>=◌, ◌>>◌, give, each, times, repeat, to_end}
 use Rattle.paper.specs.Bounds.{most_bytes, most_pairs, most_objects}
 use Rattle.paper.specs.Ledger.{
   Kind,
@@ -40,13 +40,13 @@ bad t at = no 20 0
 
 -- a rule of the ledger
 unfoldable pub heed : Bool → Reader (Unit {0})
-heed b t at = if b then got tt at else no 20 0
+heed b t at = when b then got tt at else no 20 0
 
 -- ── words ──
 
 -- the byte b; past the end there is none
 unfoldable pub byte_is : ℕ → Reader (Unit {0})
-byte_is b t at = if eqb (get_or t at 256) b then got tt (at + 1) else no 20 0
+byte_is b t at = when eqb (get_or t at 256) b then got tt (at + 1) else no 20 0
 
 -- these bytes
 unfoldable pub literal : List ℕ → Reader (Unit {0})
@@ -70,48 +70,48 @@ too_large? v d = leb (2 ^ 64) (10 * v + d)
 -- the digits go on: the number so far, and the place
 unfoldable pub digits_on : ℕ → ℕ → List ℕ → Out ℕ
 digits_on v e [] = got v e
-digits_on v e (b ∷ ts) = if digit? b then (if too_large? v (b - 48) then no 20 0 else digits_on (10 * v + (b - 48)) (e + 1) ts) else got v e
+digits_on v e (b ∷ ts) = when digit? b then (when too_large? v (b - 48) then no 20 0 else digits_on (10 * v + (b - 48)) (e + 1) ts) else got v e
 
 -- behind a first 0 no digit belongs to the number
 unfoldable pub decimal_in : ℕ → List ℕ → Out ℕ
 decimal_in at [] = no 20 0
-decimal_in at (b ∷ ts) = if eqb b 48 then got 0 (at + 1) else if digit? b then digits_on (b - 48) (at + 1) ts else no 20 0
+decimal_in at (b ∷ ts) = when eqb b 48 then got 0 (at + 1) else when digit? b then digits_on (b - 48) (at + 1) ts else no 20 0
 
 -- a decimal below 2 ^ 64
 unfoldable pub natural : Reader ℕ
 natural t at = decimal_in at (drop at t)
 
 unfoldable pub negative : Out ℕ → Out ℤ
-negative (got n e) = if eqb n 0 then no 20 0 else if ltb (2 ^ 63) n then no 20 0 else got (negsuc (n - 1)) e
+negative (got n e) = when eqb n 0 then no 20 0 else when ltb (2 ^ 63) n then no 20 0 else got (negsuc (n - 1)) e
 negative (no k p) = no 20 0
 
 unfoldable pub positive : Out ℕ → Out ℤ
-positive (got n e) = if leb (2 ^ 63) n then no 20 0 else got (pos n) e
+positive (got n e) = when leb (2 ^ 63) n then no 20 0 else got (pos n) e
 positive (no k p) = no 20 0
 
 -- a signed decimal of 64 bits
 unfoldable pub integer : Reader ℤ
-integer t at = if eqb (get_or t at 256) dash then negative (natural t (at + 1)) else positive (natural t at)
+integer t at = when eqb (get_or t at 256) dash then negative (natural t (at + 1)) else positive (natural t at)
 
 -- a decimal, or a dash for none
 unfoldable pub or_none : Reader (Option ℕ)
-or_none t at = if eqb (get_or t at 256) dash then got none (at + 1) else and_then (natural t at) λ n e. got (some n) e
+or_none t at = when eqb (get_or t at 256) dash then got none (at + 1) else and_then (natural t at) λ n e. got (some n) e
 
 -- a hex digit's value, 16 for any other byte
 unfoldable pub nibble : ℕ → ℕ
-nibble b = if ltb b 48 then 16 else if leb b 57 then b - 48 else if ltb b 97 then 16 else if leb b 102 then b - 87 else 16
+nibble b = when ltb b 48 then 16 else when leb b 57 then b - 48 else when ltb b 97 then 16 else when leb b 102 then b - 87 else 16
 
 -- k hex digits more, behind the number v
 unfoldable pub hex_on : ℕ → ℕ → Reader ℕ
 hex_on zero v t at = got v at
-hex_on (suc k) v t at = if ltb (nibble (get_or t at 256)) 16 then hex_on k (16 * v + nibble (get_or t at 256)) t (at + 1) else no 20 0
+hex_on (suc k) v t at = when ltb (nibble (get_or t at 256)) 16 then hex_on k (16 * v + nibble (get_or t at 256)) t (at + 1) else no 20 0
 
 -- pairs of hex digits, as long as there are any
 unfoldable pub hex_pairs : ℕ → List ℕ → Out (List ℕ)
 hex_pairs e [] = got [] e
 hex_pairs e (a ∷ []) = got [] e
 hex_pairs e (a ∷ b ∷ ts) =
-    if eqb (nibble a) 16 then got [] e else if eqb (nibble b) 16 then got [] e else and_then (hex_pairs (e + 2) ts) λ ws d. got ((nibble a * 16 + nibble b) ∷ ws) d
+    when eqb (nibble a) 16 then got [] e else when eqb (nibble b) 16 then got [] e else and_then (hex_pairs (e + 2) ts) λ ws d. got ((nibble a * 16 + nibble b) ∷ ws) d
 
 unfoldable pub hex_bytes : Reader (List ℕ)
 hex_bytes t at = hex_pairs at (drop at t)
@@ -144,20 +144,20 @@ read_type = do
 unfoldable pub read_kind : Reader Kind
 read_kind = do
   k ← natural
-  if leb k 4 then (do
+  when leb k 4 then (do
     byte_is comma
     v ← integer
     give (constant k v)) else
-      if eqb k 15 then (do
+      when eqb k 15 then (do
         byte_is comma
         n ← ended comma natural
         e ← natural
         give (array n e)) else
-      if leb 17 k && leb k 19 then (do
+      when leb 17 k && leb k 19 then (do
         byte_is comma
         e ← natural
         give (many k e)) else
-      if eqb k 20 then (do
+      when eqb k 20 then (do
         byte_is comma
         n ← natural
         ks ← repeat n (byte_is comma >> natural)
@@ -172,20 +172,20 @@ read_new = do
   give (record { kind = k; name = n })
 
 unfoldable pub read_flag : Reader Element
-read_flag t at = if eqb (get_or t at 256) 48 then got (flag false) (at + 1) else if eqb (get_or t at 256) 49 then got (flag true) (at + 1) else no 20 0
+read_flag t at = when eqb (get_or t at 256) 48 then got (flag false) (at + 1) else when eqb (get_or t at 256) 49 then got (flag true) (at + 1) else no 20 0
 
 unfoldable pub read_element : ℕ → Reader Element
 read_element k =
-    if eqb k 5 then (do
+    when eqb k 5 then (do
       name ← ended tab natural
       n ← natural
       give (annotation name n)) else
-    if eqb k 6 then
+    when eqb k 6 then
     read_flag else
-    if leb k 11 then (do
+    when leb k 11 then (do
       v ← integer
       give (whole v)) else
-    if leb k 13 then (do
+    when leb k 13 then (do
       n ← hex_on (2 * (4 * (k - 11))) 0
       give (float (4 * (k - 11)) n)) else do
         n ← natural
@@ -194,7 +194,7 @@ read_element k =
 -- at most n elements, each behind a tab
 unfoldable pub tabbed : {A : Type 0} → ℕ → Reader A → Reader (List A)
 tabbed zero r t at = got [] at
-tabbed (suc n) r t at = if eqb (get_or t at 256) tab then and_then (r t (at + 1)) (λ a e. and_then (tabbed n r t e) λ l d. got (a ∷ l) d) else got [] at
+tabbed (suc n) r t at = when eqb (get_or t at 256) tab then and_then (r t (at + 1)) (λ a e. and_then (tabbed n r t e) λ l d. got (a ∷ l) d) else got [] at
 
 unfoldable pub read_value : ℕ → Reader (List Element)
 read_value k = do
@@ -261,7 +261,7 @@ scan t = to_end most_pairs bad pair_text after_pair nothing t 0
 -- ── the file with this listing ──
 
 unfoldable pub short : Out Ledger → Option (List ℕ)
-short (got l e) = if leb (length (encode l)) most_bytes then some (encode l) else none
+short (got l e) = when leb (length (encode l)) most_bytes then some (encode l) else none
 short (no n p) = none
 
 unfoldable pub file_of : List ℕ → Option (List ℕ)

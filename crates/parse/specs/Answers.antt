@@ -1,7 +1,7 @@
 -- What the answers of the readers mean, in the terms of the definitions. Assumes nothing.
 use Rattle.std.specs.Prelude.{◌≡◌, true, List, ℕ, ◌+◌, ◌^◌, ◌≤◌, ltb, length}
 use Rattle.std.proofs.Math.Seq.{slice}
-use Rattle.paper.specs.Reader.{if◌then◌else◌, Reader, Out, got, no, turned, ◌>>=◌, ◌>>◌, give, repeat}
+use Rattle.paper.specs.Reader.{when◌then◌else◌, Reader, Out, got, no, turned, ◌>>=◌, ◌>>◌, give, repeat}
 use Rattle.paper.specs.Ledger.{Kind, constant, array, many, mapping, New, Head}
 use Rattle.paper.specs.Rules.{element_kind_rules, any_type, noted}
 use Rattle.paper.specs.Listing.{tab, newline, comma, hex}
@@ -119,7 +119,7 @@ map_of = do
 
 -- the bytes of a constant's value
 abbrev pub width_of : ℕ → ℕ
-width_of k = if ltb k 4 then 2 ^ k else 8
+width_of k = when ltb k 4 then 2 ^ k else 8
 
 -- half the range of w bytes, which are at most eight
 pub record Half (w h : ℕ) : Type 0 where

@@ -9,7 +9,7 @@ use Rattle.std.proofs.Math.Decide.{dec_le}
 use Rattle.std.proofs.Math.Dec.{ltb}
 use Rattle.std.proofs.Math.IntN.{pos, negsuc}
 use borrow.Author.Tests.{le-leb, lt-leb, lt-ltb, le-ltb, eq-eqb, ne_eqb, ltb-true, ltb-false, not-true, not-false}
-use Rattle.paper.specs.Reader.{if◌then◌else◌, Reader, Out, got, no as bad, and_then, turned, ◌>>=◌, ◌>>◌, give}
+use Rattle.paper.specs.Reader.{when◌then◌else◌, Reader, Out, got, no as bad, and_then, turned, ◌>>=◌, ◌>>◌, give}
 use Rattle.paper.specs.Numbers.{signed}
 use Rattle.paper.specs.Bounds.{most_objects}
 use Rattle.paper.specs.Ledger.{Kind, constant, plain, array, many}
@@ -62,22 +62,22 @@ module _ (w : ℕ) {h : ℕ} (H : Half w h) (x : ℕ) where
   half_is = omega (arith, H.twice)
 
   fits_low : x < h → (signed? w (signed 8 x) ≡ true) × (signed w x ≡ signed 8 x)
-  unfolding signed signed? if◌then◌else◌
+  unfolding signed signed? when◌then◌else◌
   fits_low l =
       let t : ltb x 9223372036854775808 ≡ true = lt-ltb x 9223372036854775808 (omega (arith, H.most)) in
       let u : ltb x (256 ^ w / 2) ≡ true = rw half_is (lt-ltb x h l) in
       (rw t u, rw (t, u))
 
   too_wide : h ≤ x → h ≤ 18446744073709551615 - x → signed? w (signed 8 x) ≡ false
-  unfolding signed signed? if◌then◌else◌
+  unfolding signed signed? when◌then◌else◌
   too_wide l m = go (ltb x 9223372036854775808)
     where
-      go : (b : Bool) → signed? w (if b then pos x else negsuc (18446744073709551615 - x)) ≡ false
+      go : (b : Bool) → signed? w (when b then pos x else negsuc (18446744073709551615 - x)) ≡ false
       go true = rw half_is (le-ltb x h l)
       go false = rw half_is (le-ltb (18446744073709551615 - x) h m)
 
   fits-high : x < 2 ^ 64 → 18446744073709551615 - x < h → (signed? w (signed 8 x) ≡ true) × (signed w (h + (h - 1 - (18446744073709551615 - x))) ≡ signed 8 x)
-  unfolding signed signed? if◌then◌else◌
+  unfolding signed signed? when◌then◌else◌
   fits-high f l =
       let a = h + (h - 1 - (18446744073709551615 - x)) in
       let t : ltb x 9223372036854775808 ≡ false = le-ltb x 9223372036854775808 (omega (arith, H.most)) in
@@ -88,12 +88,12 @@ module _ (w : ℕ) {h : ℕ} (H : Half w h) (x : ℕ) where
 -- half the range at each width
 module _ (k : ℕ) where
   pub half-narrow : (w h : ℕ) → k < 4 → 2 ^ k ≡ w → 256 ^ w ≡ h + h → h ≤ 9223372036854775808 → Half (width_of k) h
-  unfolding if◌then◌else◌
+  unfolding when◌then◌else◌
   half-narrow w h l is twice most = rw (lt-ltb k 4 l, is) (record { twice = twice; most = most })
 
   -- the widest has eight bytes, and so has a v64
   pub half-wide : 3 ≤ k → Half (width_of k) 9223372036854775808
-  unfolding if◌then◌else◌
+  unfolding when◌then◌else◌
   half-wide l =
       elim (dec_le k 3) [
         | yes d ↦ (let three : k ≡ 3 = omega arith in half-narrow 8 9223372036854775808 (omega arith) (rw three) refl (omega arith))
@@ -109,20 +109,20 @@ module _ {r : Reader Kind} {t : List ℕ} {at : ℕ} where
 
   module _ {x : Kind} {e : ℕ} (h : got x e ≡ r t at) where
     kind-broken : kind_kept? x ≡ false → KindReads r t at kinds.Bad
-    unfolding keeping heed ◌>>=◌ ◌>>◌ if◌then◌else◌
+    unfolding keeping heed ◌>>=◌ ◌>>◌ when◌then◌else◌
     kind-broken b = record { says = rw (← h, b); told = tt }
 
     kind-kept : kind_kept? x ≡ true → (n : Numbers) → kind_from n.k n.a n.e ≡ noted x → n.k ≤ 32 → KindReads r t at (kinds.Got n (record { at = e }))
-    unfolding keeping heed ◌>>=◌ ◌>>◌ give if◌then◌else◌
+    unfolding keeping heed ◌>>=◌ ◌>>◌ give when◌then◌else◌
     kind-kept b n is l = record { says = rw (← h, b, is); told = l }
 
 -- ── a constant ──
 
 kind-constant : (k a e : ℕ) → k ≤ 4 → kind_from k a e ≡ constant k (signed (width_of k) a)
-unfolding kind_from if◌then◌else◌
+unfolding kind_from when◌then◌else◌
 kind-constant k a e l = go (ltb k 4) refl
   where
-    go : (b : Bool) → ltb k 4 ≡ b → kind_from k a e ≡ constant k (signed (if b then 2 ^ k else 8) a)
+    go : (b : Bool) → ltb k 4 ≡ b → kind_from k a e ≡ constant k (signed (when b then 2 ^ k else 8) a)
     go true h = rw (le-leb k 3 (omega (arith, ltb-true k 4 h)))
     go false h = rw (lt-leb k 3 (omega (arith, ltb-false k 4 h)), eq-eqb k 4 (omega (arith, ltb-false k 4 h)))
 
@@ -207,35 +207,35 @@ module _ (t : List ℕ) (at : ℕ) where
 
     module _ {e d : ℕ} (read : got e d ≡ natural t p) where
       pub element-got : true ≡ number? (element_kind_rules any_type) e → got e d ≡ element_of t at
-      unfolding element_of heed ◌>>=◌ ◌>>◌ give if◌then◌else◌
+      unfolding element_of heed ◌>>=◌ ◌>>◌ give when◌then◌else◌
       element-got s = rw (← sep, ← read, ← s)
 
       pub element-broken : false ≡ number? (element_kind_rules any_type) e → bad 20 0 ≡ element_of t at
-      unfolding element_of heed ◌>>=◌ ◌>>◌ give if◌then◌else◌
+      unfolding element_of heed ◌>>=◌ ◌>>◌ give when◌then◌else◌
       element-broken s = rw (← sep, ← read, ← s)
 
 -- ── as many elements as a value says ──
 
 module _ (k : ℕ) (t : List ℕ) (at : ℕ) (lo : 17 ≤ k) (hi : k ≤ 19) where
   many_is : keeping (many_of k) t at ≡ turned (many k) (element_of t at)
-  unfolding keeping many_of element_of kind_kept? heed ◌>>=◌ ◌>>◌ give if◌then◌else◌
+  unfolding keeping many_of element_of kind_kept? heed ◌>>=◌ ◌>>◌ give when◌then◌else◌
   many_is = behind (byte_is comma t at)
     where
-      ruled : (e d : ℕ) (b : Bool) → and_then (if b then got (tt {0}) d else bad 20 0) (λ u d. got (many k e) d) ≡ turned (many k) (and_then (if b then got (tt {0}) d else bad 20 0) (λ u d. got e d))
+      ruled : (e d : ℕ) (b : Bool) → and_then (when b then got (tt {0}) d else bad 20 0) (λ u d. got (many k e) d) ≡ turned (many k) (and_then (when b then got (tt {0}) d else bad 20 0) (λ u d. got e d))
       ruled e d true = refl
       ruled e d false = refl
 
       element :
           (o : Out ℕ)
-          → and_then (and_then o (λ e d. got (many k e) d)) (λ x d. and_then (if kind_kept? x then got (tt {0}) d else bad 20 0) (λ u d. got x d))
-          ≡ turned (many k) (and_then o (λ e d. and_then (if number? (element_kind_rules any_type) e then got (tt {0}) d else bad 20 0) (λ u d. got e d)))
+          → and_then (and_then o (λ e d. got (many k e) d)) (λ x d. and_then (when kind_kept? x then got (tt {0}) d else bad 20 0) (λ u d. got x d))
+          ≡ turned (many k) (and_then o (λ e d. and_then (when number? (element_kind_rules any_type) e then got (tt {0}) d else bad 20 0) (λ u d. got e d)))
       element (got e d) = rw (le-leb 17 k lo, le-leb k 19 hi) (ruled e d (number? (element_kind_rules any_type) e))
       element (bad n p) = refl
 
       behind :
           (o : Out (Unit {0}))
-          → and_then (and_then o (λ u e. and_then (natural t e) (λ x d. got (many k x) d))) (λ x d. and_then (if kind_kept? x then got (tt {0}) d else bad 20 0) (λ u d. got x d))
-          ≡ turned (many k) (and_then o (λ u e. and_then (natural t e) (λ e d. and_then (if number? (element_kind_rules any_type) e then got (tt {0}) d else bad 20 0) (λ u d. got e d))))
+          → and_then (and_then o (λ u e. and_then (natural t e) (λ x d. got (many k x) d))) (λ x d. and_then (when kind_kept? x then got (tt {0}) d else bad 20 0) (λ u d. got x d))
+          ≡ turned (many k) (and_then o (λ u e. and_then (natural t e) (λ e d. and_then (when number? (element_kind_rules any_type) e then got (tt {0}) d else bad 20 0) (λ u d. got e d))))
       behind (got u e) = element (natural t e)
       behind (bad n p) = refl
 
@@ -275,23 +275,23 @@ module _ {t : List ℕ} {at : ℕ} where
     goes_on same R = record { says = R.says ∙ rw same; told = R.told }
 
     pub kind-is-constant : k ≤ 4 → KindReads (constant_of k) t e a → KindReads read_kind t at a
-    unfolding read_kind constant_of ◌>>=◌ if◌then◌else◌
+    unfolding read_kind constant_of ◌>>=◌ when◌then◌else◌
     kind-is-constant l = goes_on (rw (← h, le-leb k 4 l))
 
     pub kind-is-array : k ≡ 15 → KindReads array_of t e a → KindReads read_kind t at a
-    unfolding read_kind array_of ◌>>=◌ if◌then◌else◌
+    unfolding read_kind array_of ◌>>=◌ when◌then◌else◌
     kind-is-array is = goes_on (rw (← h, lt-leb k 4 (omega arith), eq-eqb k 15 is))
 
     pub kind-is-many : 17 ≤ k → k ≤ 19 → KindReads (many_of k) t e a → KindReads read_kind t at a
-    unfolding read_kind many_of ◌>>=◌ if◌then◌else◌
+    unfolding read_kind many_of ◌>>=◌ when◌then◌else◌
     kind-is-many lo hi = goes_on (rw (← h, lt-leb k 4 (omega arith), ne_eqb k 15 (λ q. omega arith), le-leb 17 k lo, le-leb k 19 hi))
 
     pub kind-is-map : k ≡ 20 → KindReads map_of t e a → KindReads read_kind t at a
-    unfolding read_kind map_of kinds_of ◌>>=◌ if◌then◌else◌
+    unfolding read_kind map_of kinds_of ◌>>=◌ when◌then◌else◌
     kind-is-map is = goes_on (rw (← h, lt-leb k 4 (omega arith), ne_eqb k 15 (λ q. omega arith), le-leb 17 k (omega arith), lt-leb k 19 (omega arith), eq-eqb k 20 is))
 
     kind-is-alone : 4 < k → (k ≡ 15 → ⊥) → (17 ≤ k → 20 < k) → KindReads (give (plain k)) t e a → KindReads read_kind t at a
-    unfolding read_kind ◌>>=◌ if◌then◌else◌
+    unfolding read_kind ◌>>=◌ when◌then◌else◌
     kind-is-alone l x y =
         goes_on
         (elim (dec_le 17 k) [

@@ -11,7 +11,7 @@ use Rattle.std.proofs.Math.Decide.{dec_le}
 use Rattle.std.proofs.Math.Nat.{min-eq_left, min-eq_right}
 use Rattle.std.proofs.Math.ListN.{length}
 use borrow.Author.Tests.{le-leb, lt-leb, lt-ltb}
-use Rattle.paper.specs.Reader.{if◌then◌else◌, Reader, Out, got, no as bad, and_then, turned, ◌>>=◌, ◌>>◌, give, each, times, repeat}
+use Rattle.paper.specs.Reader.{when◌then◌else◌, Reader, Out, got, no as bad, and_then, turned, ◌>>=◌, ◌>>◌, give, each, times, repeat}
 use Rattle.paper.specs.Numbers.{put_fixed}
 use Rattle.paper.specs.Lists.{all}
 use Rattle.paper.specs.Ledger.{Kind, mapping}
@@ -63,7 +63,7 @@ abbrev pub behind_comma : Reader ℕ
 behind_comma = byte_is comma >> natural
 
 abbrev all_held : Out (List ℕ) → Out (List ℕ)
-all_held o = and_then o (λ ks e. if all element? ks then got ks e else bad 20 0)
+all_held o = and_then o (λ ks e. when all element? ks then got ks e else bad 20 0)
 
 module _ (t : List ℕ) where
   comma-twenty : (at : ℕ) → Twenty (behind_comma t at)
@@ -71,7 +71,7 @@ module _ (t : List ℕ) where
   comma-twenty at = then-twenty (byte_is comma t at) _ (byte-twenty comma t at) (λ u e. natural-twenty t e)
 
   one_by_one : (n at : ℕ) → all_held (repeat n behind_comma t at) ≡ repeat n element_of t at
-  unfolding element_of heed all ◌>>=◌ ◌>>◌ give if◌then◌else◌
+  unfolding element_of heed all ◌>>=◌ ◌>>◌ give when◌then◌else◌
   one_by_one zero at = rw (repeat-empty behind_comma t at, repeat-empty element_of t at)
   one_by_one (suc n) at = rw (repeat-more behind_comma t n at, repeat-more element_of t n at) (behind (λ e. one_by_one n e) (byte_is comma t at))
     where
@@ -81,7 +81,7 @@ module _ (t : List ℕ) where
           → all_held (and_then o (λ l d. got (a ∷ l) d)) ≡ and_then (all_held o) (λ l d. got (a ∷ l) d)
       rest a is (got l d) = rw is (last a l d (all element? l))
         where
-          last : (a : ℕ) (l : List ℕ) (d : ℕ) (b : Bool) → (if b then got (a ∷ l) d else bad 20 0) ≡ and_then (if b then got l d else bad 20 0) (λ l d. got (a ∷ l) d)
+          last : (a : ℕ) (l : List ℕ) (d : ℕ) (b : Bool) → (when b then got (a ∷ l) d else bad 20 0) ≡ and_then (when b then got l d else bad 20 0) (λ l d. got (a ∷ l) d)
           last a l d true = refl
           last a l d false = refl
       rest a is (bad m p) = refl
@@ -93,21 +93,21 @@ module _ (t : List ℕ) where
       ruled :
           ((e : ℕ) → all_held (repeat n behind_comma t e) ≡ repeat n element_of t e) → (a e : ℕ) (b : Bool) → element? a ≡ b
           → all_held (and_then (repeat n behind_comma t e) (λ l d. got (a ∷ l) d))
-          ≡ and_then (and_then (if b then got (tt {0}) e else bad 20 0) (λ u e. got a e)) (λ a e. and_then (repeat n element_of t e) (λ l d. got (a ∷ l) d))
+          ≡ and_then (and_then (when b then got (tt {0}) e else bad 20 0) (λ u e. got a e)) (λ a e. and_then (repeat n element_of t e) (λ l d. got (a ∷ l) d))
       ruled ih a e true is = rest a is (repeat n behind_comma t e) ∙ ap (λ (o : Out (List ℕ)). and_then o (λ l d. got (a ∷ l) d)) (ih e)
       ruled ih a e false is = none a is (repeat n behind_comma t e) (repeat-twenty behind_comma t comma-twenty n e)
 
       word :
           ((e : ℕ) → all_held (repeat n behind_comma t e) ≡ repeat n element_of t e) → (o : Out ℕ)
           → all_held (and_then o (λ a e. and_then (repeat n behind_comma t e) (λ l d. got (a ∷ l) d)))
-          ≡ and_then (and_then o (λ a e. and_then (if element? a then got (tt {0}) e else bad 20 0) (λ u e. got a e))) (λ a e. and_then (repeat n element_of t e) (λ l d. got (a ∷ l) d))
+          ≡ and_then (and_then o (λ a e. and_then (when element? a then got (tt {0}) e else bad 20 0) (λ u e. got a e))) (λ a e. and_then (repeat n element_of t e) (λ l d. got (a ∷ l) d))
       word ih (got a e) = ruled ih a e (element? a) refl
       word ih (bad m p) = refl
 
       behind :
           ((e : ℕ) → all_held (repeat n behind_comma t e) ≡ repeat n element_of t e) → (o : Out (Unit {0}))
           → all_held (and_then (and_then o (λ u e. natural t e)) (λ a e. and_then (repeat n behind_comma t e) (λ l d. got (a ∷ l) d)))
-          ≡ and_then (and_then o (λ u e. and_then (natural t e) (λ a e. and_then (if element? a then got (tt {0}) e else bad 20 0) (λ u e. got a e)))) (λ a e. and_then (repeat n element_of t e) (λ l d. got (a ∷ l) d))
+          ≡ and_then (and_then o (λ u e. and_then (natural t e) (λ a e. and_then (when element? a then got (tt {0}) e else bad 20 0) (λ u e. got a e)))) (λ a e. and_then (repeat n element_of t e) (λ l d. got (a ∷ l) d))
       behind ih (got u e) = word ih (natural t e)
       behind ih (bad m p) = refl
 
@@ -129,7 +129,7 @@ module _ (n : ℕ) where
 
 module _ (n : ℕ) (t : List ℕ) (at : ℕ) where
   abbrev kept_map : Out (List ℕ) → Out Kind
-  kept_map o = and_then (and_then o (λ ks e. got (mapping ks) e)) (λ k e. and_then (if kind_kept? k then got (tt {0}) e else bad 20 0) (λ u e. got k e))
+  kept_map o = and_then (and_then o (λ ks e. got (mapping ks) e)) (λ k e. and_then (when kind_kept? k then got (tt {0}) e else bad 20 0) (λ u e. got k e))
 
   kinds-are : keeping (kinds_of n) t at ≡ kept_map (repeat n behind_comma t at)
   unfolding keeping kinds_of heed ◌>>=◌ ◌>>◌ give
@@ -137,10 +137,10 @@ module _ (n : ℕ) (t : List ℕ) (at : ℕ) where
 
   -- of a number of types that keeps its rules
   kinds-held : number? types_rules n ≡ true → keeping (kinds_of n) t at ≡ turned mapping (repeat n element_of t at)
-  unfolding kind_kept? if◌then◌else◌
+  unfolding kind_kept? when◌then◌else◌
   kinds-held few = kinds-are ∙ go (repeat n behind_comma t at) (repeat-length behind_comma t n at) ∙ ap (turned mapping) (one_by_one t n at)
     where
-      last : (ks : List ℕ) (e : ℕ) (b : Bool) → and_then (if b then got (tt {0}) e else bad 20 0) (λ u e. got (mapping ks) e) ≡ turned mapping (if b then got ks e else bad 20 0)
+      last : (ks : List ℕ) (e : ℕ) (b : Bool) → and_then (when b then got (tt {0}) e else bad 20 0) (λ u e. got (mapping ks) e) ≡ turned mapping (when b then got ks e else bad 20 0)
       last ks e true = refl
       last ks e false = refl
 
@@ -150,7 +150,7 @@ module _ (n : ℕ) (t : List ℕ) (at : ℕ) where
 
   -- of another there is no map
   kinds-none : number? types_rules n ≡ false → keeping (kinds_of n) t at ≡ bad 20 0
-  unfolding kind_kept? if◌then◌else◌
+  unfolding kind_kept? when◌then◌else◌
   kinds-none out = kinds-are ∙ go (repeat n behind_comma t at) (repeat-length behind_comma t n at) (repeat-twenty behind_comma t (comma-twenty t) n at)
     where
       go : (o : Out (List ℕ)) → ((l : List ℕ) (e : ℕ) → o ≡ got l e → length l ≡ n) → Twenty o → kept_map o ≡ bad 20 0
@@ -206,7 +206,7 @@ module _ {t : List ℕ} {from n at left bytes : ℕ} (g : KindsGoing t from n at
     kinds-bad pos h = record { says = sym (rw (kinds-held n t from (types-kept n lo hi), g.rest, one_more pos, ← h)); told = tt }
 
     pub kinds-done : left ≤ 0 → KindReads (kinds_of n) t from (kinds.Got (record { k = 20; a = n; e = bytes }) (record { at = at }))
-    unfolding noted kind_from if◌then◌else◌
+    unfolding noted kind_from when◌then◌else◌
     kinds-done le =
         let none : left ≡ 0 = omega arith in
         let long : length g.ks ≡ n = omega (arith, g.count) in

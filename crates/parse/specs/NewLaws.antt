@@ -4,7 +4,7 @@ use Rattle.std.specs.Prelude.{◌≡◌, refl, Bool, List, ℕ}
 use Rattle.std.proofs.Math.Path.{sym, ap}
 use Rattle.std.proofs.Common.{◌∙◌}
 use Rattle.std.proofs.Math.Bool.{true, false}
-use Rattle.paper.specs.Reader.{if◌then◌else◌, Reader, Out, got, no as bad, and_then, turned, ◌>>=◌, ◌>>◌, give}
+use Rattle.paper.specs.Reader.{when◌then◌else◌, Reader, Out, got, no as bad, and_then, turned, ◌>>=◌, ◌>>◌, give}
 use Rattle.paper.specs.Ledger.{Kind, New}
 use Rattle.paper.specs.Rules.{noted}
 use Rattle.paper.specs.Listing.{ascii, tab, newline}
@@ -23,14 +23,14 @@ use Rattle.parse.specs.Twenty.{Twenty, byte-twenty, ended-twenty}
 
 module _ (r : Reader Kind) (t : List ℕ) (p : ℕ) where
   keeping-got : {k : Kind} {e : ℕ} → got k e ≡ keeping r t p → (got k e ≡ r t p) × (kind_kept? k ≡ true)
-  unfolding keeping heed ◌>>=◌ ◌>>◌ give if◌then◌else◌
+  unfolding keeping heed ◌>>=◌ ◌>>◌ give when◌then◌else◌
   keeping-got {k} {e} h = go (r t p) h
     where
-      held : (x : Kind) (d : ℕ) (b : Bool) → kind_kept? x ≡ b → got k e ≡ and_then (if b then got (tt {0}) d else bad 20 0) (λ u d. got x d) → (got k e ≡ got x d) × (kind_kept? k ≡ true)
+      held : (x : Kind) (d : ℕ) (b : Bool) → kind_kept? x ≡ b → got k e ≡ and_then (when b then got (tt {0}) d else bad 20 0) (λ u d. got x d) → (got k e ≡ got x d) × (kind_kept? k ≡ true)
       held x d true s q = let z : k ≡ x = cc q in (q, rw z s)
       held x d false s q = not-got (sym q)
 
-      go : (o : Out Kind) → got k e ≡ and_then o (λ x d. and_then (if kind_kept? x then got (tt {0}) d else bad 20 0) (λ u d. got x d)) → (got k e ≡ o) × (kind_kept? k ≡ true)
+      go : (o : Out Kind) → got k e ≡ and_then o (λ x d. and_then (when kind_kept? x then got (tt {0}) d else bad 20 0) (λ u d. got x d)) → (got k e ≡ o) × (kind_kept? k ≡ true)
       go (got x d) q = held x d (kind_kept? x) refl q
       go (bad n m) q = not-got (sym q)
 
@@ -58,7 +58,7 @@ turned-bad {A} g (bad n p) h = let x : 20 ≡ n = cc h in let y : 0 ≡ p = cc h
 -- what comes behind a kind, behind its tab, and the rules of the whole line
 module _ (t : List ℕ) where
   abbrev ruled : Out New → Out New
-  ruled o = and_then o (λ g e. and_then (if kind_kept? g.kind then got (tt {0}) e else bad 20 0) (λ u e. got g e))
+  ruled o = and_then o (λ g e. and_then (when kind_kept? g.kind then got (tt {0}) e else bad 20 0) (λ u e. got g e))
 
   abbrev behind_tab : Out Kind → Out New
   behind_tab o = and_then o (λ k e. and_then (ended newline natural t e) (λ n e. got (record { kind = k; name = n }) e))
@@ -77,7 +77,7 @@ module _ (t : List ℕ) (at : ℕ) where
     kept-is = rw (← word)
 
     pub new-no-kind : KindReads read_kind t p kinds.Bad → NewReads t at new.Bad
-    unfolding keeping heed ◌>>=◌ ◌>>◌ give if◌then◌else◌
+    unfolding keeping heed ◌>>=◌ ◌>>◌ give when◌then◌else◌
     new-no-kind K = record { says = ap (turned noted_new) (go (read_kind t p) (turned-bad noted _ K.says) ∙ sym kept-is); told = tt }
       where
         named : (k : Kind) → kind_kept? k ≡ false → (o : Out ℕ) → Twenty o → bad 20 0 ≡ ruled t (and_then o (λ n e. got (record { kind = k; name = n }) e))
@@ -88,11 +88,11 @@ module _ (t : List ℕ) (at : ℕ) where
         parted k b (got u e) w = named k b (ended newline natural t e) (ended-twenty newline t e)
         parted k b (bad n q) w = rw (w.0, w.1)
 
-        held : (k : Kind) (e : ℕ) (b : Bool) → kind_kept? k ≡ b → bad 20 0 ≡ and_then (if b then got (tt {0}) e else bad 20 0) (λ u e. got k e) → bad 20 0 ≡ behind_kind t (got k e)
+        held : (k : Kind) (e : ℕ) (b : Bool) → kind_kept? k ≡ b → bad 20 0 ≡ and_then (when b then got (tt {0}) e else bad 20 0) (λ u e. got k e) → bad 20 0 ≡ behind_kind t (got k e)
         held k e true b h = not-got h
         held k e false b h = parted k b (byte_is tab t e) (byte-twenty tab t e)
 
-        go : (o : Out Kind) → bad 20 0 ≡ and_then o (λ k e. and_then (if kind_kept? k then got (tt {0}) e else bad 20 0) (λ u e. got k e)) → bad 20 0 ≡ behind_kind t o
+        go : (o : Out Kind) → bad 20 0 ≡ and_then o (λ k e. and_then (when kind_kept? k then got (tt {0}) e else bad 20 0) (λ u e. got k e)) → bad 20 0 ≡ behind_kind t o
         go (got k e) h = held k e (kind_kept? k) refl h
         go (bad n q) h = let x : 20 ≡ n = cc h in let y : 0 ≡ q = cc h in rw (← x, ← y)
 
@@ -114,5 +114,5 @@ module _ (t : List ℕ) (at : ℕ) where
         new-no-name h = record { says = rw (kept-is, ← read, ← sep, ← h); told = tt }
 
         pub new-got : {name : ℕ} {c : Place} → got name c.at ≡ ended newline natural t d → NewReads t at (new.Got (record { k = x.k; a = x.a; e = x.e; name = name }) c)
-        unfolding if◌then◌else◌
+        unfolding when◌then◌else◌
         new-got h = record { says = rw (kept-is, ← read, ← sep, ← h, kept, kept-kind.is); told = K.told }

@@ -6,7 +6,7 @@ use native.Mathlib.Omega.{arith}
 use Rattle.std.proofs.Math.Decide.{dec_le}
 use Rattle.std.proofs.Math.ListN.{get_or-eq_default}
 use Rattle.std.proofs.Math.Seq.{slice, take-nil}
-use Rattle.paper.specs.Reader.{if◌then◌else◌, Out, got, no as bad, and_then, ◌>>◌, give}
+use Rattle.paper.specs.Reader.{when◌then◌else◌, Out, got, no as bad, and_then, ◌>>◌, give}
 use Rattle.paper.specs.Listing.{ascii, newline}
 use Rattle.paper.specs.Scan.{byte_is, literal, hex_bytes, read_string}
 use Rattle.laws.specs.Laws.{not-got}
@@ -21,10 +21,10 @@ use Rattle.parse.specs.Answers.{HexEnd, StringReads}
 
 -- a byte that was found stands inside the text
 byte-there : (b : ℕ) (t : List ℕ) (at : ℕ) {u : Unit {0}} {e : ℕ} → b < 256 → got u e ≡ byte_is b t at → (e ≡ at + 1) × (at < length t)
-unfolding byte_is if◌then◌else◌
+unfolding byte_is when◌then◌else◌
 byte-there b t at {u} {e} l h = go (eqb (get_or t at 256) b) refl (sym h)
   where
-    go : (x : Bool) → eqb (get_or t at 256) b ≡ x → (if x then got tt (at + 1) else bad 20 0) ≡ got u e → (e ≡ at + 1) × (at < length t)
+    go : (x : Bool) → eqb (get_or t at 256) b ≡ x → (when x then got tt (at + 1) else bad 20 0) ≡ got u e → (e ≡ at + 1) × (at < length t)
     go true s q =
         let z : at + 1 ≡ e = cc q in
         let seen = eqb-true (get_or t at 256) b s in

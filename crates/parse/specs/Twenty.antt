@@ -1,14 +1,14 @@
 -- A text is refused by 20 alone. Assumes nothing.
 use Rattle.std.specs.Prelude.{◌≡◌, refl, Bool, true, false, List, [], ◌∷◌, ℕ, zero, suc, ◌+◌, ◌-◌, ◌*◌, eqb, get_or, drop}
-use Rattle.paper.specs.Reader.{if◌then◌else◌, Reader, Out, got, no as bad, and_then, ◌>>=◌, ◌>>◌, give, each, times, repeat}
+use Rattle.paper.specs.Reader.{when◌then◌else◌, Reader, Out, got, no as bad, and_then, ◌>>=◌, ◌>>◌, give, each, times, repeat}
 use Rattle.paper.specs.Scan.{byte_is, ended, digit?, too_large?, digits_on, decimal_in, natural}
 
 abbrev pub Twenty : {A : Type 0} → Out A → Type 0
 Twenty (got a e) = Unit {0}
 Twenty (bad n p) = (n ≡ 20) × (p ≡ 0)
 
-if-twenty : {A : Type 0} (b : Bool) (o u : Out A) → Twenty o → Twenty u → Twenty (if b then o else u)
-unfolding if◌then◌else◌
+if-twenty : {A : Type 0} (b : Bool) (o u : Out A) → Twenty o → Twenty u → Twenty (when b then o else u)
+unfolding when◌then◌else◌
 if-twenty true o u h k = h
 if-twenty false o u h k = k
 

@@ -4,7 +4,7 @@ use Rattle.std.proofs.Math.Path.{refl}
 use Rattle.std.proofs.Common.{arith, lt_of_not-le}
 use Rattle.std.proofs.Math.Decide.{dec_le}
 use borrow.Author.Tests.{le-leb, lt-ltb, le-ltb}
-use Rattle.paper.specs.Reader.{if◌then◌else◌}
+use Rattle.paper.specs.Reader.{when◌then◌else◌}
 use Rattle.paper.specs.Numbers.{signed, put_fixed, put}
 use Rattle.laws.specs.Put.{put_whole, put_kind}
 use Rattle.laws.specs.Values.{unsigned_signed, pow_more, two-pow}
@@ -13,10 +13,10 @@ use Rattle.values.specs.Constants.{Capped, signed-capped}
 
 -- the value of the constant of kind k that has these bits
 unfoldable pub constant_of : ℕ → ℕ → ℤ
-constant_of k a = if ltb k 4 then signed (2 ^ k) a else signed 8 a
+constant_of k a = when ltb k 4 then signed (2 ^ k) a else signed 8 a
 
 pub kind-constant : (k a e : ℕ) → k ≤ 4 → put k ++ put_whole k (constant_of k a) ≡ put_kind (kind_from k a e)
-unfolding constant_of kind_from put_kind if◌then◌else◌
+unfolding constant_of kind_from put_kind when◌then◌else◌
 kind-constant k a e h =
     elim (dec_le k 3) [
       | yes d ↦ rw (le-leb k 3 d, lt-ltb k 4 (omega arith))
@@ -28,7 +28,7 @@ kind-constant k a e h =
 module _ (k a : ℕ) where
   -- i8 to i64, in one law; `top` is the most that the bytes hold
   pub whole-fixed : (j : ℕ) {top r : ℕ} → k ≡ j → j < 4 → Capped a top r → 256 ^ (2 ^ j) ≡ top + 1 → put_fixed (2 ^ j) r ≡ put_whole k (constant_of k a)
-  unfolding put_whole constant_of if◌then◌else◌
+  unfolding put_whole constant_of when◌then◌else◌
   whole-fixed j {top} {r} is low C most =
       rw (is, lt-ltb j 4 low, ← signed-capped (2 ^ j) top most (omega arith) C, unsigned_signed (2 ^ j) _ (pow_more (2 ^ j) (two-pow j)) r (omega (arith, C.below)))
 
@@ -39,5 +39,5 @@ module _ (k a : ℕ) where
         whole-fixed 3 is (omega arith) all refl
 
     pub whole-v64 : 3 < k → put a ≡ put_whole k (constant_of k a)
-    unfolding put_whole constant_of if◌then◌else◌
+    unfolding put_whole constant_of when◌then◌else◌
     whole-v64 h = rw (le-ltb k 4 h, unsigned_signed 8 (256 ^ 7) refl a small)

@@ -4,7 +4,7 @@
 pub mod strings;
 
 ghost use Rattle.std.specs.Prelude.{◌≡◌, [], ◌++◌, ◌≤◌};
-ghost use Rattle.paper.specs.Reader.{if◌then◌else◌};
+ghost use Rattle.paper.specs.Reader.{when◌then◌else◌};
 ghost use Rattle.paper.specs.Numbers.{put};
 ghost use Rattle.paper.specs.Lists.{given?};
 ghost use Rattle.laws.specs.Put.{put_option, put_head, put_whole, put_kind, put_new};
@@ -29,7 +29,7 @@ fn put_option(out: &mut [u8], at: usize, x: Maybe) -> usize
 
 // The number of restrictions, 0. Only a new type has it, and only a new type says its super type.
 fn put_restrictions(out: &mut [u8], at: usize, sup: Maybe) -> usize
-    ensures { Laid out.old at (if given? (option sup) then put 0 else []) out.new result }
+    ensures { Laid out.old at (when given? (option sup) then put 0 else []) out.new result }
 {
     match sup {
         Maybe::Dash => at,

@@ -7,7 +7,7 @@ use Rattle.std.proofs.Math.Option.{Option, none}
 use Prim.Native.Nat.{ℕ, zero, suc, ◌+◌, ◌-◌, ◌≤◌, ◌<◌}
 use native.Mathlib.Omega.{arith}
 use borrow.Author.Tests.{le-leb, lt-leb, eq-eqb, ne_eqb, leb-true}
-use Rattle.paper.specs.Reader.{if◌then◌else◌, Reader, got, only, give, turned}
+use Rattle.paper.specs.Reader.{when◌then◌else◌, Reader, got, only, give, turned}
 use Rattle.paper.specs.Lists.{any, all, given?}
 use Rattle.paper.specs.Ledger.{State, objects_in_all}
 use Rattle.paper.specs.Rules.{around?, clear?, in_range?, few_objects?, count_rules}
@@ -71,17 +71,17 @@ module _ (s : State) (start n : ℕ) where
   range-base up e = rw e refl
 
   pub range_none : (up : ℕ) → (up ≡ 0 → ⊥) → n ≡ 0 → eqb start 0 ≡ in_range? s (maybe up) start n
-  unfolding in_range? if◌then◌else◌
+  unfolding in_range? when◌then◌else◌
   range_none zero ne e = absurd (ne refl)
   range_none (suc u) ne e = rw (eq-eqb n 0 e) refl
 
   pub range-out : (up : ℕ) → (up ≡ 0 → ⊥) → (n ≡ 0 → ⊥) → any (around? s.block (up - 1) start n) s.log ≡ false → false ≡ in_range? s (maybe up) start n
-  unfolding in_range? if◌then◌else◌
+  unfolding in_range? when◌then◌else◌
   range-out zero low ne h = absurd (low refl)
   range-out (suc u) low ne h = let z : suc u - 1 ≡ u = omega arith in rw (ne_eqb n 0 ne, rw z at h)
 
   pub range-in : (up : ℕ) → (up ≡ 0 → ⊥) → (n ≡ 0 → ⊥) → any (around? s.block (up - 1) start n) s.log ≡ true → all (clear? s.block s.types (up - 1) start) s.log ≡ in_range? s (maybe up) start n
-  unfolding in_range? if◌then◌else◌
+  unfolding in_range? when◌then◌else◌
   range-in zero low ne h = absurd (low refl)
   range-in (suc u) low ne h = let z : suc u - 1 ≡ u = omega arith in rw (ne_eqb n 0 ne, rw z at h, z) refl
 

@@ -5,7 +5,7 @@ use Rattle.std.specs.Prelude.{Bool, ◌&&◌, ◌||◌, ℕ, zero, suc, ◌+◌,
 use Rattle.std.proofs.Math.Bool.{true, false}
 use mathlib.Core.List.{List, [], ◌∷◌, ◌++◌}
 use native.Mathlib.Omega.{arith}
-use Rattle.paper.specs.Reader.{if◌then◌else◌}
+use Rattle.paper.specs.Reader.{when◌then◌else◌}
 use Rattle.paper.specs.Lists.{any, total}
 
 -- ── sums ──
@@ -45,31 +45,31 @@ module _ {A : Type 0} where
   one x = 1
 
   pub total-snoc : (p : A → Bool) (n : A → ℕ) (xs : List A) (r : A) → total p n (xs ++ r ∷ []) ≡ total p n xs + total p n (r ∷ [])
-  unfolding total if◌then◌else◌
+  unfolding total when◌then◌else◌
   total-snoc p n [] r = omega arith
   total-snoc p n (x ∷ xs) r = go (total-snoc p n xs r) (p x)
     where
       go :
           total p n (xs ++ r ∷ []) ≡ total p n xs + total p n (r ∷ []) → (b : Bool)
-          → (if b then n x + total p n (xs ++ r ∷ []) else total p n (xs ++ r ∷ [])) ≡ (if b then n x + total p n xs else total p n xs) + total p n (r ∷ [])
+          → (when b then n x + total p n (xs ++ r ∷ []) else total p n (xs ++ r ∷ [])) ≡ (when b then n x + total p n xs else total p n xs) + total p n (r ∷ [])
       go again true = omega (arith, again)
       go again false = again
 
   module _ (p : A → Bool) where
     count-more : (x : A) (xs : List A) → total p one xs ≤ total p one (x ∷ xs)
-    unfolding total if◌then◌else◌
+    unfolding total when◌then◌else◌
     count-more x xs = go (p x)
       where
-        go : (b : Bool) → total p one xs ≤ (if b then 1 + total p one xs else total p one xs)
+        go : (b : Bool) → total p one xs ≤ (when b then 1 + total p one xs else total p one xs)
         go true = omega arith
         go false = omega arith
 
     pub count-one : (x : A) (xs : List A) → p x ≡ true → total p one (x ∷ xs) ≡ 1 + total p one xs
-    unfolding total if◌then◌else◌
+    unfolding total when◌then◌else◌
     count-one x xs e = rw e refl
 
     pub count-not : (x : A) (xs : List A) → p x ≡ false → total p one (x ∷ xs) ≡ total p one xs
-    unfolding total if◌then◌else◌
+    unfolding total when◌then◌else◌
     count-not x xs e = rw e refl
 
     pub count_none : total p one [] ≡ 0
@@ -77,11 +77,11 @@ module _ {A : Type 0} where
     count_none = refl
 
     pub none-counted : (xs : List A) → any p xs ≡ false → total p one xs ≡ 0
-    unfolding any total if◌then◌else◌
+    unfolding any total when◌then◌else◌
     none-counted [] e = refl
     none-counted (x ∷ xs) e = go (λ w. none-counted xs w) (p x) refl e
       where
-        go : (any p xs ≡ false → total p one xs ≡ 0) → (b : Bool) → p x ≡ b → (b || any p xs) ≡ false → (if b then 1 + total p one xs else total p one xs) ≡ 0
+        go : (any p xs ≡ false → total p one xs ≡ 0) → (b : Bool) → p x ≡ b → (b || any p xs) ≡ false → (when b then 1 + total p one xs else total p one xs) ≡ 0
         go again true is w = let z : ◌≡◌ {A = ℕ} 0 1 = cc w in absurd (omega arith)
         go again false is w = again w
 

@@ -5,7 +5,7 @@ use Rattle.std.proofs.Common.{◌∙◌, arith, le-leb}
 use mathlib.Core.List.{List, [], ◌∷◌, ◌++◌, append_assoc, append-nil}
 use Rattle.std.proofs.Math.ListN.{length, length-append}
 use Rattle.std.proofs.lemmas.Bool.{lt-leb}
-use Rattle.paper.specs.Reader.{if◌then◌else◌, Out, got, no, and_then, turned, bytes}
+use Rattle.paper.specs.Reader.{when◌then◌else◌, Out, got, no, and_then, turned, bytes}
 use Rattle.paper.specs.Numbers.{fixed, v64}
 use Rattle.paper.specs.Lists.{last_or}
 use Rattle.paper.specs.Rules.{end_rules}
@@ -146,11 +146,11 @@ module _ {f l₀ l : List ℕ} {b n at₀ rest prev at : ℕ} (g : Ending f l₀
 
 module _ (f : List ℕ) (at n : ℕ) where
   pub skip-no : length f < at + n → Skip f at n (step.No (record { number = 1; place = at }))
-  unfolding bytes if◌then◌else◌
+  unfolding bytes when◌then◌else◌
   skip-no lt = record { says = rw (lt-leb (at + n) (length f) lt); inside = λ x. x }
 
   pub skip-got : at + n ≤ length f → Skip f at n (step.Got (record { at = at + n }))
-  unfolding bytes if◌then◌else◌
+  unfolding bytes when◌then◌else◌
   skip-got le = record { says = rw (le-leb (at + n) (length f) le); inside = λ x. le }
 
 -- ── the block ──

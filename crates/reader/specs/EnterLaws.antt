@@ -6,7 +6,7 @@ use Rattle.std.proofs.Math.Bool.{true, false}
 use mathlib.Core.List.{List, [], ◌∷◌, ◌++◌, append-nil}
 use Rattle.std.proofs.Math.Option.{Option, none, some}
 use Rattle.std.proofs.Math.ListN.{length, length-append}
-use Rattle.paper.specs.Reader.{if◌then◌else◌}
+use Rattle.paper.specs.Reader.{when◌then◌else◌}
 use Rattle.paper.specs.Lists.{same, place, given?, or}
 use Rattle.paper.specs.Ledger.{State, Head, Range, Typ, type_named, type_in, text, pool_before}
 use Rattle.paper.specs.Rules.{entered?, new?, type_of, super_of, base_under, base_of, new_name, new_type, new_range, after_head}
@@ -68,7 +68,7 @@ module _ {f l : List ℕ} (h : Holds f l) {x : Name} (up base : ℕ) where
 head-added :
     (g : Said) (h : Head)
     → add_head g h ≡ add_range (add_new (new? g.state h.name) g (text g.state h.name) (record { super = super_of g.state h.name h.super; base = base_of g.state h })) (new_range g.state h)
-unfolding add_head after_head new_name new_type add_type add_range if◌then◌else◌
+unfolding add_head after_head new_name new_type add_type add_range when◌then◌else◌
 head-added g h = go (new? g.state h.name) refl
   where
     go : (b : Bool) → new? g.state h.name ≡ b → add_head g h ≡ add_range (add_new (new? g.state h.name) g (text g.state h.name) (record { super = super_of g.state h.name h.super; base = base_of g.state h })) (new_range g.state h)
@@ -148,7 +148,7 @@ module _ {g : Said} (k : Sound g) {t : Top} (p : Placed g.state t) where
   names = length g.state.type_names + length (new_name g.state (head_of t))
 
   fits : (type_of g.state t.name.number < names) × (names ≤ 32)
-  unfolding new_name if◌then◌else◌
+  unfolding new_name when◌then◌else◌
   fits = go (new? g.state t.name.number) refl
     where
       go : (b : Bool) → new? g.state t.name.number ≡ b → (type_of g.state t.name.number < names) × (names ≤ 32)

@@ -4,7 +4,7 @@ use Rattle.std.specs.Prelude.{◌≡◌, refl, Bool, true, false, ◌&&◌, List
 use Rattle.std.proofs.Common.{arith}
 use Rattle.std.proofs.Math.Decide.{dec_le}
 use borrow.Author.Tests.{le-leb, lt-leb, eq-eqb, ne_eqb}
-use Rattle.paper.specs.Reader.{if◌then◌else◌}
+use Rattle.paper.specs.Reader.{when◌then◌else◌}
 use Rattle.paper.specs.Numbers.{put_fixed, v64, number}
 use Rattle.paper.specs.Ledger.{State, plain, array, many, mapping}
 use Rattle.paper.specs.Rules.{restriction_rules, field_count_rules, end_rules, values_due}
@@ -66,7 +66,7 @@ module _ (s : State) (known : ℕ) {n at next : ℕ} where
 -- ── how many values a chunk has ──
 
 pub constant-due : (k a e n : ℕ) → k ≤ 4 → 0 ≡ values_due (kind_from k a e) n
-unfolding kind_from values_due if◌then◌else◌
+unfolding kind_from values_due when◌then◌else◌
 constant-due k a e n le =
     elim (dec_le k 3) [
       | Dec.yes h ↦ rw (le-leb k 3 h) refl
@@ -74,10 +74,10 @@ constant-due k a e n le =
     ]
 
 pub other-due : (k a e n : ℕ) → 4 < k → n ≡ values_due (kind_from k a e) n
-unfolding kind_from values_due if◌then◌else◌
+unfolding kind_from values_due when◌then◌else◌
 other-due k a e n lt = rw (lt-leb k 3 (omega arith), ne_eqb k 4 (λ q. omega arith)) (go (eqb k 15) (leb 17 k && leb k 19) (eqb k 20))
   where
-    go : (x y z : Bool) → n ≡ values_due (if x then array a e else if y then many k e else if z then mapping (put_fixed a e) else plain e) n
+    go : (x y z : Bool) → n ≡ values_due (when x then array a e else when y then many k e else when z then mapping (put_fixed a e) else plain e) n
     go true y z = refl
     go false true z = refl
     go false false true = refl

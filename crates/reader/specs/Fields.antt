@@ -1,6 +1,6 @@
 -- The fields of an entry, as steps of all that the table says and of the last end offset. Assumes nothing.
 use Rattle.std.specs.Prelude.{◌≡◌, Bool, List, [], ◌∷◌, ◌++◌, map, ℕ, ◌≤◌, eqb, length}
-use Rattle.paper.specs.Reader.{if◌then◌else◌, Reader, Out, got, no, turned, times}
+use Rattle.paper.specs.Reader.{when◌then◌else◌, Reader, Out, got, no, turned, times}
 use Rattle.paper.specs.Lists.{fold, last_or}
 use Rattle.paper.specs.Ledger.{Kind, New, State, owns?, field_at, fields_of, objects_of}
 use Rattle.paper.specs.Rules.{noted, after_new, values_due, old_due, new_dues}
@@ -25,11 +25,11 @@ upto g = record { state = g.said.state; end = g.end }
 
 -- the known fields that an entry of type t gives, by their places: with no object added all fields are new
 unfoldable pub olds_of : ℕ → State → ℕ → List ℕ
-olds_of added s t = if eqb added 0 then [] else fields_of s t
+olds_of added s t = when eqb added 0 then [] else fields_of s t
 
 -- field i, where it is a known one of type t
 unfoldable pub old_go : ℕ → ℕ → ℕ → Going → Reader Going
-old_go added t i g f at = if owns? t (field_at g.said.state i) then turned (go_old added g i) (end_offset g.end f at) else got g at
+old_go added t i g f at = when owns? t (field_at g.said.state i) then turned (go_old added g i) (end_offset g.end f at) else got g at
 
 -- the known fields at these places
 unfoldable pub olds_go : ℕ → List ℕ → Going → Reader Going

@@ -5,7 +5,7 @@ use Rattle.std.proofs.Math.Path.{refl, sym, ap}
 use Rattle.std.proofs.Common.{◌∙◌, arith, add-one}
 use Rattle.std.proofs.Math.Option.{none, some}
 use borrow.Author.Tests.{le-leb, lt-leb, lt-ltb, le-ltb, ne_eqb, leb-true}
-use Rattle.paper.specs.Reader.{if◌then◌else◌, Reader, Out, got, no, and_then, ◌>>=◌, give, hold, must, only, turned, Rule}
+use Rattle.paper.specs.Reader.{when◌then◌else◌, Reader, Out, got, no, and_then, ◌>>=◌, give, hold, must, only, turned, Rule}
 use Rattle.paper.specs.Numbers.{v64, number}
 use Rattle.paper.specs.Lists.{same, any, place, given?, or}
 use Rattle.paper.specs.Ledger.{State, Typ, text, a_string?, type_named, type_in}
@@ -62,11 +62,11 @@ string-there {f} {l} h {n} e =
 -- ── a type by its name ──
 
 place-below : {A : Type 0} (p : A → Bool) (i : ℕ) (xs : List A) (u : ℕ) → place p i xs ≡ some u → u < i + length xs
-unfolding place if◌then◌else◌
+unfolding place when◌then◌else◌
 place-below p i [] u h = differ (cc h)
 place-below p i (x ∷ xs) u h = go (λ w. place-below p (suc i) xs u w) (p x) h
   where
-    go : (place p (suc i) xs ≡ some u → u < suc i + length xs) → (b : Bool) → (if b then some i else place p (suc i) xs) ≡ some u → u < i + suc (length xs)
+    go : (place p (suc i) xs ≡ some u → u < suc i + length xs) → (b : Bool) → (when b then some i else place p (suc i) xs) ≡ some u → u < i + suc (length xs)
     go again true w = let z : i ≡ u = cc w in omega arith
     go again false w = omega (arith, again w)
 
@@ -188,7 +188,7 @@ only-due q f at = go (q f at)
 
 module _ {f l : List ℕ} (h : Holds f l) (t : ℕ) {n at next : ℕ} where
   pub super-none : n ≡ 0 → {c : Cursor} → c.at ≡ next → SuperJudged (view f l) t n at next (above.Got (record { number = 0; up = 0 }) c)
-  unfolding super_name_rules super_named if◌then◌else◌
+  unfolding super_name_rules super_named when◌then◌else◌
   super-none e here =
       let q : hold {A = ℕ} (super_name_rules (view f l) t n) at (got n next) ≡ got 0 next = rw (e, le-leb 0 (length (strs_of f l)) (omega arith), chain-none (length (types_of l)) (types_of l) t) refl in
       record { says = rw (q, here) refl; inside = λ m lo hi. rw here hi; told = refl }
@@ -200,7 +200,7 @@ module _ {f l : List ℕ} (h : Holds f l) (t : ℕ) {n at next : ℕ} where
       record { says = rw q refl; inside = λ m lo hi. lo; told = tt }
 
   pub super-placed : (n ≡ 0 → ⊥) → n ≤ strings_in l → {o : Found} → Known f l n o → {r : Above} → SuperPlaced (types_of l) t n (found o) at next r → SuperJudged (view f l) t n at next r
-  unfolding super_name_rules super_named if◌then◌else◌
+  unfolding super_name_rules super_named when◌then◌else◌
   super-placed low high {o} k {r} p =
       let q : hold {A = ℕ} (super_name_rules (view f l) t n) at (got n next) ≡ hold (known_rules (types_of l) t (found o)) at (got n next) =
       rw (le-leb n (length (strs_of f l)) (omega (arith, h.strs-count)), ne_eqb n 0 low, k.is) refl in

@@ -6,7 +6,7 @@ use Rattle.std.proofs.Math.Bool.{true, false}
 use Rattle.std.proofs.Math.Dec.{leb, ltb, eqb}
 use Rattle.std.proofs.lemmas.List.{length-map}
 use borrow.Author.Tests.{le-leb, lt-leb, lt-ltb, le-ltb, eq-eqb, ne_eqb, leb-true, ltb-true, ltb-false, eqb-false}
-use Rattle.paper.specs.Reader.{if◌then◌else◌, Reader, Out, got, no, and_then, turned, ◌>>=◌, give, must, repeat}
+use Rattle.paper.specs.Reader.{when◌then◌else◌, Reader, Out, got, no, and_then, turned, ◌>>=◌, give, must, repeat}
 use Rattle.paper.specs.Numbers.{signed, put_fixed, fixed, v64, number}
 use Rattle.paper.specs.Ledger.{Kind, constant, plain, array, many, mapping, State}
 use Rattle.paper.specs.Rules.{single_kind?, element_kind?, kind?, kind_rules, element_kind_rules, types_rules, any_type, a_type?, noted}
@@ -70,12 +70,12 @@ named-types s = refl
 
 module _ {f : List ℕ} {at : ℕ} {a : Number} where
   pub bits-fixed : {b : ℕ} (k w : ℕ) → k < 4 → w ≡ 2 ^ k → b ≤ 2 ^ 64 → Read (fixed w) b f at a → Read (bits_of k) (2 ^ 64) f at a
-  unfolding bits_of if◌then◌else◌
+  unfolding bits_of when◌then◌else◌
   bits-fixed k w lt is le R =
       record { says = R.says ∙ rw (lt-ltb k 4 lt) (ap (λ (x : ℕ). fixed x f at) is); inside = R.inside; below = omega (arith, R.below) }
 
   pub bits-v64 : (k : ℕ) → 4 ≤ k → Read v64 (2 ^ 64) f at a → Read (bits_of k) (2 ^ 64) f at a
-  unfolding bits_of if◌then◌else◌
+  unfolding bits_of when◌then◌else◌
   bits-v64 k le R = record { says = R.says ∙ rw (le-ltb k 4 le); inside = R.inside; below = R.below }
 
 -- ── which numbers are listed ──
@@ -201,33 +201,33 @@ module _ (named : ℕ → Bool) {f : List ℕ} {at : ℕ} {a : Number} (read : R
 
 -- the bytes of a constant's value once it is read; a v64 has eight
 abbrev pub width_of : ℕ → ℕ
-width_of k = if ltb k 4 then 2 ^ k else 8
+width_of k = when ltb k 4 then 2 ^ k else 8
 
 module _ (k a e : ℕ) where
   pub kind-constant : k ≤ 4 → kind_from k a e ≡ constant k (signed (width_of k) a)
-  unfolding kind_from if◌then◌else◌
+  unfolding kind_from when◌then◌else◌
   kind-constant le = go (ltb k 4) refl
     where
-      go : (b : Bool) → ltb k 4 ≡ b → kind_from k a e ≡ constant k (signed (if b then 2 ^ k else 8) a)
+      go : (b : Bool) → ltb k 4 ≡ b → kind_from k a e ≡ constant k (signed (when b then 2 ^ k else 8) a)
       go true h = rw (le-leb k 3 (omega (arith, ltb-true k 4 h)))
       go false h = rw (lt-leb k 3 (omega (arith, ltb-false k 4 h)), eq-eqb k 4 (omega (arith, ltb-false k 4 h)))
 
   pub kind-array : k ≡ 15 → kind_from k a e ≡ array a e
-  unfolding kind_from if◌then◌else◌
+  unfolding kind_from when◌then◌else◌
   kind-array is = rw (lt-leb k 3 (omega arith), ne_eqb k 4 (λ z. omega arith), eq-eqb k 15 is)
 
   pub kind-many : 17 ≤ k → k ≤ 19 → kind_from k a e ≡ many k e
-  unfolding kind_from if◌then◌else◌
+  unfolding kind_from when◌then◌else◌
   kind-many lo hi =
       rw (lt-leb k 3 (omega arith), ne_eqb k 4 (λ z. omega arith), ne_eqb k 15 (λ z. omega arith), le-leb 17 k lo, le-leb k 19 hi)
 
   pub kind-mapping : k ≡ 20 → kind_from k a e ≡ mapping (put_fixed a e)
-  unfolding kind_from if◌then◌else◌
+  unfolding kind_from when◌then◌else◌
   kind-mapping is =
       rw (lt-leb k 3 (omega arith), ne_eqb k 4 (λ z. omega arith), ne_eqb k 15 (λ z. omega arith), outside 17 k 19 (λ l h. omega arith), eq-eqb k 20 is)
 
   pub kind-plain : Alone k → kind_from k a e ≡ plain e
-  unfolding kind_from if◌then◌else◌
+  unfolding kind_from when◌then◌else◌
   kind-plain alone =
       let lo = alone.no-constant in
       rw (lt-leb k 3 (omega arith), ne_eqb k 4 (λ z. omega arith), ne_eqb k 15 alone.no-array, outside 17 k 19 alone.no-many, ne_eqb k 20 alone.no-map)
@@ -272,13 +272,13 @@ then-give g row same (no n p) = refl
 -- ── a constant ──
 
 whole_is : (k : ℕ) (f : List ℕ) (at : ℕ) → whole_of k f at ≡ and_then (bits_of k f at) (λ n e. got (signed (width_of k) n) e)
-unfolding whole_of bits_of if◌then◌else◌ ◌>>=◌ give
+unfolding whole_of bits_of when◌then◌else◌ ◌>>=◌ give
 whole_is k f at = go (ltb k 4)
   where
     go :
         (b : Bool)
-        → (if b then (fixed (2 ^ k) >>= λ n. give (signed (2 ^ k) n)) else (v64 >>= λ n. give (signed 8 n))) f at
-        ≡ and_then ((if b then fixed (2 ^ k) else v64) f at) (λ n e. got (signed (if b then 2 ^ k else 8) n) e)
+        → (when b then (fixed (2 ^ k) >>= λ n. give (signed (2 ^ k) n)) else (v64 >>= λ n. give (signed 8 n))) f at
+        ≡ and_then ((when b then fixed (2 ^ k) else v64) f at) (λ n e. got (signed (when b then 2 ^ k else 8) n) e)
     go true = refl
     go false = refl
 
@@ -409,27 +409,27 @@ module _ (named : ℕ → Bool) {f : List ℕ} {at : ℕ} {a : Number} (read : R
       goes_on same B = record { says = B.says ∙ ap (turned noted) (sym same); inside = λ lo. B.inside ((was-got read is).inside lo); told = B.told }
 
       pub kind-is-constant : {b : KindRead} → k ≤ 4 → KindReadBy (constant_of k) f c.at b → KindReads named f at b
-      unfolding kind constant_of if◌then◌else◌ ◌>>=◌
+      unfolding kind constant_of when◌then◌else◌ ◌>>=◌
       kind-is-constant le B = goes_on (rw (ruled (listed-constant k le), le-leb k 4 le)) B
 
       pub kind-is-array : {b : KindRead} → k ≡ 15 → KindReadBy (array_of named) f c.at b → KindReads named f at b
-      unfolding kind array_of if◌then◌else◌ ◌>>=◌
+      unfolding kind array_of when◌then◌else◌ ◌>>=◌
       kind-is-array at15 B = goes_on (rw (ruled (listed-array k at15), lt-leb k 4 (omega arith), eq-eqb k 15 at15)) B
 
       pub kind-is-many : {b : KindRead} → 17 ≤ k → k ≤ 19 → KindReadBy (many_of named k) f c.at b → KindReads named f at b
-      unfolding kind many_of if◌then◌else◌ ◌>>=◌
+      unfolding kind many_of when◌then◌else◌ ◌>>=◌
       kind-is-many lo hi B =
           goes_on (rw (ruled (listed-many k lo hi), lt-leb k 4 (omega arith), ne_eqb k 15 (λ e. omega arith), le-leb 17 k lo, le-leb k 19 hi)) B
 
       pub kind-is-map : {b : KindRead} → k ≡ 20 → KindReadBy (mapping_of named) f c.at b → KindReads named f at b
-      unfolding kind mapping_of if◌then◌else◌ ◌>>=◌
+      unfolding kind mapping_of when◌then◌else◌ ◌>>=◌
       kind-is-map at20 B =
           goes_on (rw (ruled (listed-map k at20), lt-leb k 4 (omega arith), ne_eqb k 15 (λ e. omega arith), outside 17 k 19 (λ l h. omega arith), eq-eqb k 20 at20)) B
 
       -- the number is all, and `first` tells that besides
       module _ (element : element_kind? k ≡ true) (alone : Alone k) where
         kind-is-plain : kind named f at ≡ got (plain k) c.at
-        unfolding kind give if◌then◌else◌ ◌>>=◌
+        unfolding kind give when◌then◌else◌ ◌>>=◌
         kind-is-plain =
             rw (
               ruled (listed-element k alone.no-constant element),
@@ -503,12 +503,12 @@ map? (many c k) = false
 map? (mapping ks) = true
 
 no-map : (k a e : ℕ) → (k ≡ 20 → ⊥) → map? (kind_from k a e) ≡ false
-unfolding kind_from if◌then◌else◌
+unfolding kind_from when◌then◌else◌
 no-map k a e other = rw (ne_eqb k 20 other) (go (leb k 3) (eqb k 4) (eqb k 15) (leb 17 k && leb k 19))
   where
     go :
         (x y z w : Bool)
-        → map? (if x then constant k (signed (2 ^ k) a) else if y then constant k (signed 8 a) else if z then array a e else if w then many k e else plain e) ≡ false
+        → map? (when x then constant k (signed (2 ^ k) a) else when y then constant k (signed 8 a) else when z then array a e else when w then many k e else plain e) ≡ false
     go true y z w = refl
     go false true z w = refl
     go false false true w = refl

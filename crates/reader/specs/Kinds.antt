@@ -1,6 +1,6 @@
 -- Kinds, as the code reads them. Assumes nothing.
 use Rattle.std.specs.Prelude.{◌≡◌, Bool, true, false, ◌||◌, List, ℕ, ◌-◌, ◌^◌, ◌≤◌, ltb, length}
-use Rattle.paper.specs.Reader.{if◌then◌else◌, Reader, Out, got, no, turned, ◌>>=◌, give, repeat}
+use Rattle.paper.specs.Reader.{when◌then◌else◌, Reader, Out, got, no, turned, ◌>>=◌, give, repeat}
 use Rattle.paper.specs.Numbers.{fixed, v64, number}
 use Rattle.paper.specs.Ledger.{Kind, constant, array, many, mapping}
 use Rattle.paper.specs.Rules.{any_type, element_kind_rules, types_rules, noted}
@@ -27,7 +27,7 @@ named? x = named_by x.strict x.types
 
 -- the bits of a constant's value: its sign is not told apart yet
 unfoldable pub bits_of : ℕ → Reader ℕ
-bits_of k = if ltb k 4 then fixed (2 ^ k) else v64
+bits_of k = when ltb k 4 then fixed (2 ^ k) else v64
 
 unfoldable pub constant_of : ℕ → Reader Kind
 constant_of k = do

@@ -7,7 +7,7 @@ use Rattle.std.proofs.Math.Bool.{false}
 use Rattle.std.proofs.Math.Option.{some}
 use Rattle.std.proofs.Math.Seq.{get_or-append_seam}
 use borrow.Author.Tests.{le-leb, lt-leb}
-use Rattle.paper.specs.Reader.{if◌then◌else◌, got, ◌>>=◌, give, started}
+use Rattle.paper.specs.Reader.{when◌then◌else◌, got, ◌>>=◌, give, started}
 use Rattle.paper.specs.Numbers.{coding, low_first, v64, number}
 use Rattle.paper.specs.Lists.{same, any, place, given?, total}
 use Rattle.paper.specs.Ledger.{Range, text, a_string?, type_named, type_in, before?, size}
@@ -44,7 +44,7 @@ pub record OneByte (f : List ℕ) (at n : ℕ) : Type 0 where
   pub read : Read v64 (2 ^ 64) f at (Got n (record { at = at + 1 }))
 
 low-v64 : (f : List ℕ) (p : ℕ) → p < length f → get_or f p 0 < 128 → v64 f p ≡ got (get_or f p 0) (p + 1)
-unfolding v64 started coding low_first ◌>>=◌ give if◌then◌else◌
+unfolding v64 started coding low_first ◌>>=◌ give when◌then◌else◌
 low-v64 f p h lt = rw (one_byte f p h, lt-leb 128 (get_or f p 0) lt)
 
 pub byte-there : (f : List ℕ) (at n : ℕ) → at < length f → n ≡ get_or f at 0 → n < 128 → OneByte f at n
@@ -229,7 +229,7 @@ top_of n t new m up start count =
 module _ {f l l' : List ℕ} {at r : ℕ} {h : Top} (k : Knew f l l' at r h) where
   -- no type came to those that are known
   types-kept : types_of l' ≡ types_of l
-  unfolding add_head after_head new_type if◌then◌else◌
+  unfolding add_head after_head new_type when◌then◌else◌
   types-kept =
       let old : new? (view f l) h.name.number ≡ false = sym k.top.left.placed.name.fresh ∙ k.fresh in
       ap (λ (g : Said). g.state.types) k.top.left.now.says ∙ rw old (append-nil (types_of l))

@@ -3,7 +3,7 @@ use Rattle.std.specs.Prelude.{◌≡◌, List, [], ℕ, ◌+◌, ◌-◌, ◌≤
 use Rattle.std.proofs.Math.Path.{refl, sym, ap}
 use Rattle.std.proofs.Common.{◌∙◌, arith, le_refl}
 use borrow.Author.Tests.{eq-eqb, ne_eqb}
-use Rattle.paper.specs.Reader.{if◌then◌else◌, got, and_then, turned}
+use Rattle.paper.specs.Reader.{when◌then◌else◌, got, and_then, turned}
 use Rattle.paper.specs.Ledger.{State, Field, no_field, field_at, owns?}
 use Rattle.paper.specs.Rules.{values_due, old_due}
 use Rattle.paper.specs.File.{end_offset}
@@ -33,7 +33,7 @@ open-later {g} {t} {i} {j} o le =
 module _ {f l : List ℕ} (h : Holds f l) {t i : ℕ} (o : Open (said f l) t i) (lt : i < fields_in l) {d : Field} (is : d ≡ get_or (flds_of l) i no_field) where
   -- it is of another type
   pub old-other : (added end : ℕ) {c : Cursor} → (d.owner ≡ t → ⊥) → Went f l t (i + 1) c.at (Got end c) (old_go added t i (going f l end) f c.at)
-  unfolding old_go owns? field_at if◌then◌else◌
+  unfolding old_go owns? field_at when◌then◌else◌
   old-other added end not-mine =
       record {
         holds = h;
@@ -52,7 +52,7 @@ module _ {f l : List ℕ} (h : Holds f l) {t i : ℕ} (o : Open (said f l) t i) 
 
     module _ (added end : ℕ) {at : ℕ} {a : Number} (read : Read (end_offset end) (2 ^ 64) f at a) where
       old-is : old_go added t i (going f l end) f at ≡ turned (go_old added (going f l end) i) (end_offset end f at)
-      unfolding old_go owns? field_at if◌then◌else◌
+      unfolding old_go owns? field_at when◌then◌else◌
       old-is = rw (← is, eq-eqb d.owner t mine)
 
       pub old-no : {e : Refusal} → a ≡ No e → Went f l t (i + 1) at a (old_go added t i (going f l end) f at)

@@ -4,7 +4,7 @@ use Rattle.std.proofs.Common.{◌∙◌, arith, add-one, drop-cons, eq-eqb, ne_e
 use Rattle.std.specs.Prelude.{Bool, true, false, length, get_or, drop}
 use mathlib.Core.List.{List, [], ◌∷◌}
 use Prim.Native.Nat.{ℕ, ◌+◌, ◌<◌}
-use Rattle.paper.specs.Reader.{if◌then◌else◌, Out, got, no, and_then, turned, ◌>>=◌, give, each, times}
+use Rattle.paper.specs.Reader.{when◌then◌else◌, Out, got, no, and_then, turned, ◌>>=◌, give, each, times}
 use Rattle.paper.specs.Lists.{places}
 use Rattle.paper.specs.Ledger.{State, Field, no_field, field_at, owns?, fields_of}
 use Rattle.paper.specs.File.{end_offset}
@@ -22,7 +22,7 @@ own_from t i fs = places (owns? t) i (drop i fs)
 
 -- all of them are given, unless no object is added
 pub olds-known : (added : ℕ) (s : State) (t : ℕ) → (added ≡ 0 → ⊥) → olds_of added s t ≡ fields_of s t
-unfolding olds_of if◌then◌else◌
+unfolding olds_of when◌then◌else◌
 olds-known added s t some = rw (ne_eqb added 0 some)
 
 pub olds-all : (added : ℕ) (s : State) (t : ℕ) → (added ≡ 0 → ⊥) → olds_of added s t ≡ own_from t 0 s.fields
@@ -30,7 +30,7 @@ unfolding fields_of own_from
 olds-all added s t some = olds-known added s t some
 
 pub olds-none : (added : ℕ) (s : State) (t : ℕ) → added ≡ 0 → olds_of added s t ≡ []
-unfolding olds_of if◌then◌else◌
+unfolding olds_of when◌then◌else◌
 olds-none added s t none = rw (eq-eqb added 0 none)
 
 -- those that stand in a stretch of the fields are all of them
@@ -42,7 +42,7 @@ pub own-ends : {t : ℕ} {fs : List Field} {r : Stretch} → Stretched t fs r �
 unfolding own_from
 own-ends s = s.behind
 
-pub own-step : (t i : ℕ) (fs : List Field) → i < length fs → own_from t i fs ≡ (if owns? t (get_or fs i no_field) then i ∷ own_from t (i + 1) fs else own_from t (i + 1) fs)
+pub own-step : (t i : ℕ) (fs : List Field) → i < length fs → own_from t i fs ≡ (when owns? t (get_or fs i no_field) then i ∷ own_from t (i + 1) fs else own_from t (i + 1) fs)
 unfolding own_from places
 own-step t i fs lt = rw (add-one i, drop-cons fs i no_field lt) refl
 
@@ -65,7 +65,7 @@ module _ (added : ℕ) (f : List ℕ) where
   pub olds-step :
       (t i : ℕ) (g : Going) (at : ℕ) → i < length g.said.state.fields
       → olds_go added (own_from t i g.said.state.fields) g f at ≡ and_then (old_go added t i g f at) (λ g' e. olds_go added (own_from t (i + 1) g'.said.state.fields) g' f e)
-  unfolding old_go field_at go_old olds_go if◌then◌else◌
+  unfolding old_go field_at go_old olds_go when◌then◌else◌
   olds-step t i g at lt = ap (λ (is : List ℕ). olds_go added is g f at) (own-step t i g.said.state.fields lt) ∙ which (owns? t (get_or g.said.state.fields i no_field))
     where
       after : List ℕ
@@ -75,19 +75,19 @@ module _ (added : ℕ) (f : List ℕ) where
       through (got e p) = refl
       through (no k p) = refl
 
-      which : (b : Bool) → olds_go added (if b then i ∷ after else after) g f at ≡ and_then (if b then turned (go_old added g i) (end_offset g.end f at) else got g at) (λ g' e. olds_go added (own_from t (i + 1) g'.said.state.fields) g' f e)
+      which : (b : Bool) → olds_go added (when b then i ∷ after else after) g f at ≡ and_then (when b then turned (go_old added g i) (end_offset g.end f at) else got g at) (λ g' e. olds_go added (own_from t (i + 1) g'.said.state.fields) g' f e)
       which true = olds-one i after g at ∙ through (end_offset g.end f at)
       which false = refl
 
   -- what is known stays
   pub old-keeps : (t i : ℕ) (g g' : Going) (at e : ℕ) → got g' e ≡ old_go added t i g f at → g'.said.state ≡ g.said.state
-  unfolding old_go go_old if◌then◌else◌
+  unfolding old_go go_old when◌then◌else◌
   old-keeps t i g g' at e q = which (owns? t (field_at g.said.state i)) q
     where
       through : (o : Out ℕ) → got g' e ≡ turned (go_old added g i) o → g'.said.state ≡ g.said.state
       through (got x p) r = let z : g' ≡ go_old added g i x = cc r in ap (λ (h : Going). h.said.state) z
       through (no k p) r = let z : ◌≡◌ {A = ℕ} 0 1 = cc r in absurd (omega arith)
 
-      which : (b : Bool) → got g' e ≡ (if b then turned (go_old added g i) (end_offset g.end f at) else got g at) → g'.said.state ≡ g.said.state
+      which : (b : Bool) → got g' e ≡ (when b then turned (go_old added g i) (end_offset g.end f at) else got g at) → g'.said.state ≡ g.said.state
       which true r = through (end_offset g.end f at) r
       which false r = let z : g' ≡ g = cc r in ap (λ (h : Going). h.said.state) z

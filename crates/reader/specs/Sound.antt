@@ -6,7 +6,7 @@ use Rattle.std.proofs.Common.{ap, ◌∙◌, arith, length-append}
 use mathlib.Core.List.{List, [], ◌∷◌, ◌++◌}
 use Rattle.std.proofs.Math.ListN.{get_or-append}
 use borrow.Author.Tests.{eq-eqb, ne_eqb}
-use Rattle.paper.specs.Reader.{if◌then◌else◌}
+use Rattle.paper.specs.Reader.{when◌then◌else◌}
 use Rattle.paper.specs.Bounds.{most_pairs, most_types, most_fields}
 use Rattle.paper.specs.Lists.{any, total}
 use Rattle.paper.specs.Ledger.{State, Range, Field, Due, here?, of?, field_at, no_field}
@@ -176,7 +176,7 @@ unfoldable pub due_times : ℕ → List (Due × ℕ) → ℕ
 due_times i ds = total (at? any-due field_of_due i) one ds
 
 not-due : (s : State) (t i : ℕ) (ds : List (Due × ℕ)) → Every (Before s t i) ds → (j : ℕ) → i ≤ j → (field_at s j).owner ≡ t → due_times j ds ≡ 0
-unfolding due_times total if◌then◌else◌
+unfolding due_times total when◌then◌else◌
 not-due s t i [] h j le o = refl
 not-due s t i (d ∷ ds) h j le o =
     rw (ne_eqb d.0.field j (λ e. omega (arith, h.0 (rw e o)))) (not-due s t i ds h.1 j le o)
@@ -186,7 +186,7 @@ keys-declared s [] h = tt
 keys-declared s (d ∷ ds) h = (h.0.below, keys-declared s ds h.1)
 
 all-due : (ds : List (Due × ℕ)) → total any-due one ds ≡ length ds
-unfolding total if◌then◌else◌
+unfolding total when◌then◌else◌
 all-due [] = refl
 all-due (d ∷ ds) = omega (arith, all-due ds)
 
@@ -254,7 +254,7 @@ module _ {s s' : State} {f : Field} (h : Fielded s s' f) where
       }
 
 past-not-due : (n : ℕ) (ds : List (Due × ℕ)) → Keys field_of_due n ds → due_times n ds ≡ 0
-unfolding due_times total if◌then◌else◌
+unfolding due_times total when◌then◌else◌
 past-not-due n [] h = refl
 past-not-due n (d ∷ ds) h = rw (ne_eqb d.0.field n (λ e. omega (arith, h.0))) (past-not-due n ds h.1)
 

@@ -7,7 +7,7 @@ use Rattle.std.proofs.Math.Decide.{dec_le}
 use Rattle.std.proofs.Math.ListN.{length, take, length-drop, drop_of_length-le}
 use Rattle.std.proofs.Math.Seq.{slice, take-nil, take-length, drop-length}
 use borrow.Author.Tests.{le-leb, lt-leb}
-use Rattle.paper.specs.Reader.{if◌then◌else◌, Out, got, no, times, each, and_then, ◌>>=◌, give, must, bytes}
+use Rattle.paper.specs.Reader.{when◌then◌else◌, Out, got, no, times, each, and_then, ◌>>=◌, give, must, bytes}
 use Rattle.paper.specs.Numbers.{fixed, number, v64, high_first}
 use Rattle.paper.specs.Lists.{last_or}
 use Rattle.paper.specs.Ledger.{State, field_at}
@@ -22,11 +22,11 @@ use Rattle.reader.specs.Strings.{add_strings, ends, piece, pieces, capped, Risin
 -- ── a place that is cut at the file's end ──
 
 cap-len : (len n : ℕ) → len ≤ n → capped len n ≡ len
-unfolding capped if◌then◌else◌
+unfolding capped when◌then◌else◌
 cap-len len n h = rw (le-leb len n h)
 
 cap-n : (len n : ℕ) → n < len → capped len n ≡ n
-unfolding capped if◌then◌else◌
+unfolding capped when◌then◌else◌
 cap-n len n h = rw (lt-leb len n h)
 
 pub cap-most : (len n : ℕ) → capped len n ≤ len
@@ -69,10 +69,10 @@ module _ (f : List ℕ) (b from e : ℕ) (le : from ≤ e) where
 -- ── ends ──
 
 pub four-on : (f : List ℕ) (at e q : ℕ) → fixed 4 f at ≡ got e q → q ≡ at + 4
-unfolding fixed bytes ◌>>=◌ give if◌then◌else◌
+unfolding fixed bytes ◌>>=◌ give when◌then◌else◌
 four-on f at e q h = go (leb (at + 4) (length f)) h
   where
-    go : (t : Bool) → and_then (if t then got (take 4 (drop at f)) (at + 4) else no 1 at) (λ bs m. got (high_first bs) m) ≡ got e q → q ≡ at + 4
+    go : (t : Bool) → and_then (when t then got (take 4 (drop at f)) (at + 4) else no 1 at) (λ bs m. got (high_first bs) m) ≡ got e q → q ≡ at + 4
     go true k = cc k
     go false k = not-got k
 

@@ -1,6 +1,6 @@
 -- The string block, as the code reads it. Assumes nothing.
 use Rattle.std.specs.Prelude.{ℕ, ◌+◌, ◌-◌, ◌*◌, ◌^◌, ◌≤◌, List, [], ◌∷◌, ◌≡◌, leb, length, take, drop}
-use Rattle.paper.specs.Reader.{if◌then◌else◌, Reader, Out, got, no, times, bytes}
+use Rattle.paper.specs.Reader.{when◌then◌else◌, Reader, Out, got, no, times, bytes}
 use Rattle.paper.specs.Lists.{last_or}
 use Rattle.paper.specs.Rules.{with_strings}
 use Rattle.paper.specs.File.{string_end}
@@ -39,7 +39,7 @@ pieces f b from (e ∷ es) = piece f b from e ∷ pieces f b e es
 
 -- a place in the file, or its end
 unfoldable pub capped : ℕ → ℕ → ℕ
-capped len n = if leb len n then len else n
+capped len n = when leb len n then len else n
 
 -- ends that do not fall
 abbrev pub Rising : ℕ → List ℕ → Type 0

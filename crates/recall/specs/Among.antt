@@ -8,7 +8,7 @@ use Prim.Native.Nat.{ℕ, zero, suc, ◌+◌, ◌-◌, ◌≤◌, ◌<◌}
 use native.Mathlib.Omega.{arith}
 use Rattle.std.proofs.Math.Numerals.{add-one}
 use Rattle.std.proofs.Math.ListN.{length}
-use Rattle.paper.specs.Reader.{if◌then◌else◌, Reader, got, give, each, times}
+use Rattle.paper.specs.Reader.{when◌then◌else◌, Reader, got, give, each, times}
 use Rattle.paper.specs.Lists.{same, place, or, fold}
 use Rattle.paper.specs.Ledger.{New, State, text, a_string?}
 use Rattle.paper.specs.Rules.{any_type, field_name_rules, after_new}
@@ -88,7 +88,7 @@ record AmongOne (f : List ℕ) (s : State) (name : List ℕ) (typ n i : ℕ) (l 
   more : List (New × ℕ)
   strings : upto.state.strings ≡ s.strings
   reads : times (n - (i + 1)) (new_field any_type typ) (upto_new typ) upto f g.at ≡ got more q
-  is : place (goes_by s name) 0 l ≡ (if b then some i else place (goes_by s name) (i + 1) more)
+  is : place (goes_by s name) 0 l ≡ (when b then some i else place (goes_by s name) (i + 1) more)
 
 module _ {f starts : List ℕ} {blocks at n : ℕ} {name : List ℕ} {i here : ℕ} (G : AmongGoing f starts blocks at n name i here) where
   module _ (lt : i < n) {g : NewField} (N : NewTold f here g) {b : Bool} (I : IsString f starts blocks g.name name b) where
@@ -114,13 +114,13 @@ module _ {f starts : List ℕ} {blocks at n : ℕ} {name : List ℕ} {i here : �
         }
 
     pub among-on : b ≡ false → AmongGoing f starts blocks at n name (i + 1) g.at
-    unfolding if◌then◌else◌
+    unfolding when◌then◌else◌
     among-on is =
         record {
           most = omega arith;
           left = λ s B typ u e l q h.
               let O = one s B typ u e l q h in
-              record { upto = O.upto; more = O.more; strings = O.strings; reads = O.reads; is = O.is ∙ ap (λ (b : Bool). if b then some i else place (goes_by s name) (i + 1) O.more) is };
+              record { upto = O.upto; more = O.more; strings = O.strings; reads = O.reads; is = O.is ∙ ap (λ (b : Bool). when b then some i else place (goes_by s name) (i + 1) O.more) is };
         }
 
 module _ {f : List ℕ} (t : Trail) {at n : ℕ} {name : List ℕ} {i here : ℕ} (G : AmongGoing f t.starts t.blocks at n name i here) where
@@ -136,13 +136,13 @@ module _ {f : List ℕ} (t : Trail) {at n : ℕ} {name : List ℕ} {i here : ℕ
       }
 
   pub among-found : i < n → {g : NewField} → NewTold f here g → {b : Bool} → IsString f t.starts t.blocks g.name name b → b ≡ true → Among f t at n name i
-  unfolding or if◌then◌else◌
+  unfolding or when◌then◌else◌
   among-found lt N I is =
       record {
         most = omega arith;
         is = λ s K typ u e l q h.
             let O = one G lt N I s K.texts typ u e l q h in
-            sym (ap (λ (o : Option ℕ). or o n) (O.is ∙ ap (λ (b : Bool). if b then some i else place (goes_by s name) (i + 1) O.more) is));
+            sym (ap (λ (o : Option ℕ). or o n) (O.is ∙ ap (λ (b : Bool). when b then some i else place (goes_by s name) (i + 1) O.more) is));
       }
 
 -- ── the k-th of so many readings ──

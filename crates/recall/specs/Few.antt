@@ -5,7 +5,7 @@ use Rattle.std.proofs.Math.Path.{refl}
 use Rattle.std.proofs.Math.Bool.{true, false}
 use Rattle.std.proofs.Common.{arith}
 use borrow.Author.Tests.{leb-true}
-use Rattle.paper.specs.Reader.{if◌then◌else◌}
+use Rattle.paper.specs.Reader.{when◌then◌else◌}
 use Rattle.paper.specs.Bounds.{most_objects}
 use Rattle.paper.specs.Lists.{total, given?, or}
 use Rattle.paper.specs.Ledger.{Head, Range, State, nothing, of?, size, objects_of, before?, pool_before, base?, objects_in_all}
@@ -39,11 +39,11 @@ low-snoc j [] r h c f = (c, omega arith, tt)
 low-snoc j (x ∷ rs) r h c f = (h.0, h.1, low-snoc (suc j) rs r h.2 c (omega arith))
 
 low-total : (p : Range → Bool) (j : ℕ) (rs : List Range) → Low j rs → total p size rs ≤ 65535 * length rs
-unfolding total size if◌then◌else◌
+unfolding total size when◌then◌else◌
 low-total p j [] h = omega arith
 low-total p j (r ∷ rs) h = go (low-total p (suc j) rs h.2) (p r)
   where
-    go : total p size rs ≤ 65535 * length rs → (b : Bool) → (if b then r.count + total p size rs else total p size rs) ≤ 65535 * suc (length rs)
+    go : total p size rs ≤ 65535 * length rs → (b : Bool) → (when b then r.count + total p size rs else total p size rs) ≤ 65535 * suc (length rs)
     go ih true = omega (arith, h.0)
     go ih false = omega arith
 

@@ -9,7 +9,7 @@ use Prim.Native.Nat.{ℕ, zero, suc, ◌+◌, ◌<◌}
 use native.Mathlib.Omega.{arith}
 use Rattle.std.proofs.Math.ListN.{length, get_or, get_or-append}
 use Rattle.std.proofs.Math.Seq.{get_or-append-add}
-use Rattle.paper.specs.Reader.{if◌then◌else◌}
+use Rattle.paper.specs.Reader.{when◌then◌else◌}
 use Rattle.paper.specs.Lists.{same, place, place_named, places, fold}
 use Rattle.paper.specs.Ledger.{New, Entry, Field, State, text, no_field, field_at, owns?, fields_of, called?, field_named}
 use Rattle.paper.specs.Rules.{noted, type_of, after_head, after_new, after_entry}
@@ -22,7 +22,7 @@ use Rattle.laws.specs.Count.{made, fold-fields}
 named-behind :
     {A B : Type 0} (p : A → B → Bool) (i : ℕ) (xs ys : List A) (ns ms : List B) → length xs ≡ length ns → place_named p i xs ns ≡ none
     → place_named p i (xs ++ ys) (ns ++ ms) ≡ place_named p (i + length xs) ys ms
-unfolding place_named if◌then◌else◌
+unfolding place_named when◌then◌else◌
 named-behind p i [] ys [] ms l h = let z : i ≡ i + 0 = omega arith in ap (λ (k : ℕ). place_named p k ys ms) z
 named-behind p i [] ys (n ∷ ns) ms l h = absurd (omega arith)
 named-behind p i (x ∷ xs) ys [] ms l h = absurd (omega arith)
@@ -30,12 +30,12 @@ named-behind p i (x ∷ xs) ys (n ∷ ns) ms l h = go (named-behind p (suc i) xs
   where
     go :
         (place_named p (suc i) xs ns ≡ none → place_named p (suc i) (xs ++ ys) (ns ++ ms) ≡ place_named p (suc i + length xs) ys ms) → (b : Bool)
-        → (if b then some i else place_named p (suc i) xs ns) ≡ none → (if b then some i else place_named p (suc i) (xs ++ ys) (ns ++ ms)) ≡ place_named p (i + suc (length xs)) ys ms
+        → (when b then some i else place_named p (suc i) xs ns) ≡ none → (when b then some i else place_named p (suc i) (xs ++ ys) (ns ++ ms)) ≡ place_named p (i + suc (length xs)) ys ms
     go ih true q = let z : ◌≡◌ {A = ℕ} 0 1 = cc q in absurd (omega arith)
     go ih false q = let z : suc i + length xs ≡ i + suc (length xs) = omega arith in ih q ∙ ap (λ (k : ℕ). place_named p k ys ms) z
 
 places-append : {A : Type 0} (p : A → Bool) (i : ℕ) (xs ys : List A) → places p i (xs ++ ys) ≡ places p i xs ++ places p (i + length xs) ys
-unfolding places if◌then◌else◌
+unfolding places when◌then◌else◌
 places-append p i [] ys = let z : i ≡ i + 0 = omega arith in ap (λ (k : ℕ). places p k ys) z
 places-append p i (x ∷ xs) ys = go (places-append p (suc i) xs ys ∙ ap (λ (k : ℕ). places p (suc i) xs ++ places p k ys) z) (p x)
   where
@@ -44,18 +44,18 @@ places-append p i (x ∷ xs) ys = go (places-append p (suc i) xs ys ∙ ap (λ (
 
     go :
         places p (suc i) (xs ++ ys) ≡ places p (suc i) xs ++ places p (i + suc (length xs)) ys → (b : Bool)
-        → (if b then i ∷ places p (suc i) (xs ++ ys) else places p (suc i) (xs ++ ys)) ≡ (if b then i ∷ places p (suc i) xs else places p (suc i) xs) ++ places p (i + suc (length xs)) ys
+        → (when b then i ∷ places p (suc i) (xs ++ ys) else places p (suc i) (xs ++ ys)) ≡ (when b then i ∷ places p (suc i) xs else places p (suc i) xs) ++ places p (i + suc (length xs)) ys
     go ih true = ap (λ (l : List ℕ). i ∷ l) ih
     go ih false = ih
 
 places-below : {A : Type 0} (p : A → Bool) (i : ℕ) (xs : List A) (k : ℕ) → k < length (places p i xs) → get_or (places p i xs) k 0 < i + length xs
-unfolding places if◌then◌else◌
+unfolding places when◌then◌else◌
 places-below p i [] k lt = absurd (omega arith)
 places-below p i (x ∷ xs) k lt = go (places-below p (suc i) xs) (p x) k lt
   where
     go :
         ((k : ℕ) → k < length (places p (suc i) xs) → get_or (places p (suc i) xs) k 0 < suc i + length xs) → (b : Bool) (k : ℕ)
-        → k < length (if b then i ∷ places p (suc i) xs else places p (suc i) xs) → get_or (if b then i ∷ places p (suc i) xs else places p (suc i) xs) k 0 < i + suc (length xs)
+        → k < length (when b then i ∷ places p (suc i) xs else places p (suc i) xs) → get_or (when b then i ∷ places p (suc i) xs else places p (suc i) xs) k 0 < i + suc (length xs)
     go ih true zero lt = omega arith
     go ih true (suc k) lt = omega (arith, ih k (omega arith))
     go ih false k lt = omega (arith, ih k lt)
@@ -69,12 +69,12 @@ module _ (owner : ℕ) where
   new-named name txt i (g ∷ gs) = rw (eq-eqb owner owner refl, new-named name txt (suc i) gs) refl
 
   new-places : (i : ℕ) (gs : List New) → length (places (owns? owner) i (map (made owner) gs)) ≡ length gs
-  unfolding places owns? made if◌then◌else◌
+  unfolding places owns? made when◌then◌else◌
   new-places i [] = refl
   new-places i (g ∷ gs) = rw (eq-eqb owner owner refl) (ap suc (new-places (suc i) gs))
 
   new-place : (i : ℕ) (gs : List New) (k : ℕ) → k < length gs → get_or (places (owns? owner) i (map (made owner) gs)) k 0 ≡ i + k
-  unfolding places owns? made if◌then◌else◌
+  unfolding places owns? made when◌then◌else◌
   new-place i [] k lt = absurd (omega arith)
   new-place i (g ∷ gs) zero lt = rw (eq-eqb owner owner refl) (omega arith)
   new-place i (g ∷ gs) (suc k) lt = rw (eq-eqb owner owner refl) (new-place (suc i) gs k (omega arith) ∙ omega arith)
@@ -82,13 +82,13 @@ module _ (owner : ℕ) where
   -- of another type none of them is
   module _ (t : ℕ) (ne : owner ≡ t → ⊥) where
     else-named : (name : List ℕ) (i : ℕ) (gs : List New) (ns : List (List ℕ)) → place_named (called? t name) i (map (made owner) gs) ns ≡ none
-    unfolding place_named called? owns? made if◌then◌else◌
+    unfolding place_named called? owns? made when◌then◌else◌
     else-named name i [] ns = refl
     else-named name i (g ∷ gs) [] = refl
     else-named name i (g ∷ gs) (n ∷ ns) = rw (ne_eqb owner t ne) (else-named name (suc i) gs ns)
 
     else-places : (i : ℕ) (gs : List New) → places (owns? t) i (map (made owner) gs) ≡ []
-    unfolding places owns? made if◌then◌else◌
+    unfolding places owns? made when◌then◌else◌
     else-places i [] = refl
     else-places i (g ∷ gs) = rw (ne_eqb owner t ne) (else-places (suc i) gs)
 

@@ -6,7 +6,7 @@ use mathlib.Core.List.{List, [], ◌∷◌, ◌++◌, map, map-append}
 use Rattle.std.proofs.Math.Option.{Option, none, some}
 use Rattle.std.proofs.Math.ListN.{length, get_or, length-map}
 use Rattle.std.proofs.lemmas.Bool.{eqb-false}
-use Rattle.paper.specs.Reader.{if◌then◌else◌, got, times}
+use Rattle.paper.specs.Reader.{when◌then◌else◌, got, times}
 use Rattle.paper.specs.Lists.{same, place, place_named, places, or, fold}
 use Rattle.paper.specs.Ledger.{New, Head, Entry, Field, State, nothing, field_at, fields_of, field_named}
 use Rattle.paper.specs.Rules.{any_type, with_strings, type_of, after_head, after_entry}
@@ -165,13 +165,13 @@ moved m none = none
 moved m (some j) = some (m + j)
 
 place-from : {A B : Type 0} (p : B → Bool) (w : A → B) (m i : ℕ) (l : List A) → place p (m + i) (map w l) ≡ moved m (place (λ x. p (w x)) i l)
-unfolding place moved if◌then◌else◌
+unfolding place moved when◌then◌else◌
 place-from p w m i [] = refl
 place-from {A} {B} p w m i (x ∷ l) =
     let z : suc (m + i) ≡ m + suc i = omega arith in
     go (p (w x)) (ap (λ (k : ℕ). place p k (map w l)) z ∙ place-from p w m (suc i) l)
   where
-    go : (b : Bool) → place p (suc (m + i)) (map w l) ≡ moved m (place (λ x. p (w x)) (suc i) l) → (if b then some (m + i) else place p (suc (m + i)) (map w l)) ≡ moved m (if b then some i else place (λ x. p (w x)) (suc i) l)
+    go : (b : Bool) → place p (suc (m + i)) (map w l) ≡ moved m (place (λ x. p (w x)) (suc i) l) → (when b then some (m + i) else place p (suc (m + i)) (map w l)) ≡ moved m (when b then some i else place (λ x. p (w x)) (suc i) l)
     go true ih = refl
     go false ih = ih
 

@@ -12,7 +12,7 @@ use Rattle.std.proofs.Math.Dec.{ltb}
 use Rattle.std.proofs.Math.ListN.{get_or, length-set}
 use Rattle.std.proofs.Math.Seq.{get_or-set_same, get_or-set_other}
 use borrow.Author.Tests.{le-leb, lt-ltb, le-ltb}
-use Rattle.paper.specs.Reader.{if◌then◌else◌}
+use Rattle.paper.specs.Reader.{when◌then◌else◌}
 use Rattle.paper.specs.Lists.{any}
 use Rattle.paper.specs.Ledger.{holds?}
 use Rattle.values.specs.Items.{in_ranges}
@@ -113,7 +113,7 @@ module _ {kinds starts places : List ℕ} {t k : ℕ} (P : Planning kinds starts
     top = 18446744073709551615
 
     pub plan-asked : asked? kinds (t + 32) ≡ true → Planning kinds (set starts t k) (set (set places t top) t k) (t + 1) (k + 32)
-    unfolding if◌then◌else◌
+    unfolding when◌then◌else◌
     plan-asked asks =
         plan-on
         (length-set (set places t top) t k ∙ length-set places t top ∙ P.places-long)
@@ -123,7 +123,7 @@ module _ {kinds starts places : List ℕ} {t k : ℕ} (P : Planning kinds starts
         (λ q. never_both asks q)
 
     pub plan-passed : asked? kinds (t + 32) ≡ false → Planning kinds (set starts t k) (set places t top) (t + 1) k
-    unfolding if◌then◌else◌
+    unfolding when◌then◌else◌
     plan-passed asks =
         plan-on
         (length-set places t top ∙ P.places-long)
@@ -185,7 +185,7 @@ named_more kinds t (suc d) = let z : t + suc d ≡ t + d + 1 = omega arith in rw
 
 module _ {kinds starts places : List ℕ} (P : PlanMade kinds starts places) where
   named-on : (v : ℕ) → asked? kinds (v + 32) ≡ true → named_below kinds (v + 1) ≡ 1 + named_below kinds v
-  unfolding if◌then◌else◌
+  unfolding when◌then◌else◌
   named-on v asks = named_here kinds v ∙ rw asks refl
 
   pub plan-grouped : {first last : List ℕ} → length first ≡ 256 → length last ≡ 256 → Grouped starts first last
@@ -251,13 +251,13 @@ module _ {kinds starts places : List ℕ} (P : PlanMade kinds starts places) whe
           ap₂ (λ (m i : ℕ). take m (drop i l)) wide from
 
       objects-of : {g : Stage} → Reached f k g → (j : ℕ) → asked? kinds j ≡ true → 32 ≤ j → (n : ℕ) → in_ranges (ranges starts j first) (ranges starts j last) n ≡ any (holds? (j - 32) n) g.state.log
-      unfolding ranges from_of to_of there? if◌then◌else◌ in_ranges
+      unfolding ranges from_of to_of there? when◌then◌else◌ in_ranges
       objects-of {g} R j asks h n = rw (le-leb 32 j h) (go (dec_le (j - 31 + 1) 33))
         where
           go :
               Dec (j - 31 + 1 ≤ 33)
-              → in_ranges (take ((if ltb (j - 31) (length starts) then get_or starts (j - 31) 0 else 0) - (if ltb (j - 31) (length starts) then get_or starts (j - 31 - 1) 0 else 0)) (drop (if ltb (j - 31) (length starts) then get_or starts (j - 31 - 1) 0 else 0) first))
-              (take ((if ltb (j - 31) (length starts) then get_or starts (j - 31) 0 else 0) - (if ltb (j - 31) (length starts) then get_or starts (j - 31 - 1) 0 else 0)) (drop (if ltb (j - 31) (length starts) then get_or starts (j - 31 - 1) 0 else 0) last)) n
+              → in_ranges (take ((when ltb (j - 31) (length starts) then get_or starts (j - 31) 0 else 0) - (when ltb (j - 31) (length starts) then get_or starts (j - 31 - 1) 0 else 0)) (drop (when ltb (j - 31) (length starts) then get_or starts (j - 31 - 1) 0 else 0) first))
+              (take ((when ltb (j - 31) (length starts) then get_or starts (j - 31) 0 else 0) - (when ltb (j - 31) (length starts) then get_or starts (j - 31 - 1) 0 else 0)) (drop (when ltb (j - 31) (length starts) then get_or starts (j - 31 - 1) 0 else 0) last)) n
               ≡ any (holds? (j - 32) n) g.state.log
           go (yes d) =
               let near : ltb (j - 31) (length starts) ≡ true = lt-ltb (j - 31) (length starts) (omega (arith, P.starts-long)) in

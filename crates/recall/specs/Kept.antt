@@ -5,7 +5,7 @@ use Rattle.std.proofs.Math.Option.{Option, none, some}
 use Rattle.std.proofs.Math.Decide.{dec_le}
 use Rattle.std.proofs.lemmas.List.{length-map}
 use Rattle.std.proofs.lemmas.Bool.{not-true}
-use Rattle.paper.specs.Reader.{if◌then◌else◌}
+use Rattle.paper.specs.Reader.{when◌then◌else◌}
 use Rattle.paper.specs.Lists.{total, given?, or}
 use Rattle.paper.specs.Ledger.{New, Head, Range, State, nothing, text, type_named, here?, of?}
 use Rattle.paper.specs.Rules.{type_name_rules, place_rules, new?, type_of, entry_of?, entered?, new_name, new_type, new_range, after_head}
@@ -43,7 +43,7 @@ pub record Entrant (s : State) (h : Head) : Type 0 where
   pub most : type_of s h.name ≤ length s.type_names
 
 pub entrant : (s : State) (h : Head) → HeadHeld s h → Entrant s h
-unfolding type_name_rules place_rules new_name new_type new? type_of given? or if◌then◌else◌
+unfolding type_name_rules place_rules new_name new_type new? type_of given? or when◌then◌else◌
 entrant s h H = go (type_named s (text s h.name)) refl H.name.1
   where
     go : (o : Option ℕ) → type_named s (text s h.name) ≡ o → Held (place_rules s o) → Entrant s h

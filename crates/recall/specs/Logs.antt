@@ -10,7 +10,7 @@ use Rattle.std.proofs.Math.Dec.{leb, eqb}
 use Rattle.std.proofs.Math.ListN.{length, get_or-append}
 use Rattle.std.proofs.lemmas.List.{get_or_at}
 use borrow.Author.Tests.{leb-true, leb-false, le-leb, lt-leb, eqb-true, eqb-false, eq-eqb, ne_eqb}
-use Rattle.paper.specs.Reader.{if◌then◌else◌, got}
+use Rattle.paper.specs.Reader.{when◌then◌else◌, got}
 use Rattle.paper.specs.Lists.{any, all, total, given?}
 use Rattle.paper.specs.Ledger.{Typ, Range, nothing, type_in, no_type, of?, here?, size, objects_of, base?, objects_in_all}
 use Rattle.paper.specs.Rules.{new?, super_of, base_of, new_type, new_range, entry_of?, entered?, around?, below?, clear?}
@@ -42,7 +42,7 @@ pub record OneMore (t : Trail) (g h : Stage) (top : Top) : Type 0 where
 
 module _ {f : List ℕ} {k : ℕ} {t : Trail} {g h : Stage} {top : Top} (A : At f k t g) (H : HeadPast f t top) (E : EntryAdded f g t.at h) where
   its-super : (type_in h.state.types top.typ).super ≡ maybe top.up
-  unfolding new_type if◌then◌else◌ type_in super_of
+  unfolding new_type when◌then◌else◌ type_in super_of
   its-super = go (dec_le t.types top.typ)
     where
       go : Dec (t.types ≤ top.typ) → (get_or h.state.types top.typ no_type).super ≡ maybe top.up
@@ -141,7 +141,7 @@ module _ {A : Type 0} where
     pub total-alike : (n : A → ℕ) (xs : List A) → Keys key m xs → total p n xs ≡ total q n xs
     unfolding total
     total-alike n [] h = refl
-    total-alike n (x ∷ xs) h = ap₂ (λ (b : Bool) (s : ℕ). if b then n x + s else s) (alike x h.0) (total-alike n xs h.1)
+    total-alike n (x ∷ xs) h = ap₂ (λ (b : Bool) (s : ℕ). when b then n x + s else s) (alike x h.0) (total-alike n xs h.1)
 
     pub any-alike : (xs : List A) → Keys key m xs → any p xs ≡ any q xs
     unfolding any
@@ -170,11 +170,11 @@ plus-is le = record { low = le; is = λ le. refl }
 pub record ObjectsAre (typ r : ℕ) (g : Stage) : Type 0 where
   pub is : r ≡ objects_of g.state typ
 
-objects-more : {t : Trail} {g h : Stage} {top : Top} → OneMore t g h top → (typ : ℕ) → objects_of h.state typ ≡ objects_of g.state typ + (if eqb top.typ typ then top.count else 0)
+objects-more : {t : Trail} {g h : Stage} {top : Top} → OneMore t g h top → (typ : ℕ) → objects_of h.state typ ≡ objects_of g.state typ + (when eqb top.typ typ then top.count else 0)
 unfolding objects_of of?
 objects-more {g = g} {h = h} O typ =
     let R = O.added in
-    ap (total (of? typ) size) R.log ∙ total-last (of? typ) g.state.log R.range ∙ ap₂ (λ (a b : ℕ). total (of? typ) size g.state.log + (if eqb a typ then b else 0)) R.type R.count
+    ap (total (of? typ) size) R.log ∙ total-last (of? typ) g.state.log R.range ∙ ap₂ (λ (a b : ℕ). total (of? typ) size g.state.log + (when eqb a typ then b else 0)) R.type R.count
 
 objects-same : {g h : Stage} → BlockAdded g h → (typ : ℕ) → objects_of h.state typ ≡ objects_of g.state typ
 unfolding objects_of
@@ -193,7 +193,7 @@ module _ {f : List ℕ} {t : Trail} where
 
   module _ (nz : t.left ≡ 0 → ⊥) {top : Top} (H : HeadPast f t top) where
     pub share_other : {typ sum : ℕ} → (top.typ ≡ typ → ⊥) → Keeps f t (ObjectsAre typ sum) (ObjectsAre typ sum)
-    unfolding if◌then◌else◌
+    unfolding when◌then◌else◌
     share_other {typ} ne =
         record {
           told = λ k g A h q r p.
@@ -203,7 +203,7 @@ module _ {f : List ℕ} {t : Trail} where
 
     -- the sum of the entry's type, which is small
     grown : {k : ℕ} {g : Stage} → At f k t g → (h : Stage) (q : ℕ) → onward g f t.at ≡ got h q → (typ : ℕ) → top.typ ≡ typ → {sum r : ℕ} → sum ≡ objects_of g.state typ → Plus sum top.count r → r ≡ objects_of h.state typ
-    unfolding if◌then◌else◌
+    unfolding when◌then◌else◌
     grown {g = g} A h q r typ same is P =
         let b : objects_of h.state typ ≡ objects_of g.state typ + top.count = objects-more (one_more A nz H h q r) typ ∙ rw (eq-eqb top.typ typ same) refl in
         let few = objects-few (reached-next A h q r) typ in
@@ -220,7 +220,7 @@ unfolding given?
 base-up zero = refl
 base-up (suc u) = sym (ne_eqb (suc u) 0 (λ e. absurd (omega arith)))
 
-all_more : {t : Trail} {g h : Stage} {top : Top} → OneMore t g h top → Keys type_of_range (length g.state.types) g.state.log → objects_in_all h.state ≡ objects_in_all g.state + (if eqb top.up 0 then top.count else 0)
+all_more : {t : Trail} {g h : Stage} {top : Top} → OneMore t g h top → Keys type_of_range (length g.state.types) g.state.log → objects_in_all h.state ≡ objects_in_all g.state + (when eqb top.up 0 then top.count else 0)
 unfolding objects_in_all base?
 all_more {g = g} {h = h} {top = top} O known =
     let R = O.added in
@@ -230,7 +230,7 @@ all_more {g = g} {h = h} {top = top} O known =
     ∙ total-last (base? ts) g.state.log R.range
     ∙ ap₂ ◌+◌
     (total-alike type_of_range (length g.state.types) (base? ts) (base? g.state.types) (λ r lt. ap (λ (x : Typ). not (given? x.super)) (O.others r.type lt)) size g.state.log known)
-    (ap₂ (λ (b : Bool) (n : ℕ). if b then n else 0) is_base R.count)
+    (ap₂ (λ (b : Bool) (n : ℕ). when b then n else 0) is_base R.count)
 
 -- the sum behind an entry's head
 pub record BasePlus (top : Top) (all r : ℕ) : Type 0 where
@@ -273,7 +273,7 @@ entered-block {block = block} {typ = typ} z =
 
 module _ {f : List ℕ} {t : Trail} (nz : t.left ≡ 0 → ⊥) {top : Top} (H : HeadPast f t top) where
   with-base : {before after : ℕ} → BasePlus top before after → {k : ℕ} {g : Stage} → At f k t g → (h : Stage) (q : ℕ) → onward g f t.at ≡ got h q → before ≡ objects_in_all g.state → after ≡ objects_in_all h.state
-  unfolding if◌then◌else◌
+  unfolding when◌then◌else◌
   with-base {before} {after} P {g = g} A h q r is = by-up (eqb top.up 0) refl
     where
       by-up : (b : Bool) → eqb top.up 0 ≡ b → after ≡ objects_in_all h.state

@@ -3,7 +3,7 @@ use Rattle.std.specs.Prelude.{◌≡◌, List, length, get_or, set}
 use Rattle.std.proofs.Math.Path.{refl}
 use Rattle.std.proofs.Common.{ap, ◌∙◌, add-one, arith, length-set}
 use Prim.Native.Nat.{ℕ, zero, suc, ◌+◌, ◌≤◌, ◌<◌}
-use Rattle.paper.specs.Reader.{if◌then◌else◌}
+use Rattle.paper.specs.Reader.{when◌then◌else◌}
 use Rattle.paper.specs.Lists.{same, place, or, given?}
 use Rattle.paper.specs.Ledger.{State, text, type_named, objects_of}
 use Rattle.laws.specs.Pools.{pool_of}
@@ -44,15 +44,15 @@ module _ {f : List ℕ} {t : Trail} {n : ℕ} {name : Span} (X : Text f t.starts
     pool-far far = record { told = λ s K S lo hi. absurd (omega (arith, K.names.few)) }
 
     pub pool-below : {sums : List ℕ} → (get_or t.sups typ 0 ≡ 0 → ⊥) → NamedPool f t sums n 0
-    unfolding pool_of given? if◌then◌else◌
+    unfolding pool_of given? when◌then◌else◌
     pool-below up = record { told = λ s K S lo hi. rw ((its-place s K lo hi).known lt) (rw (← K.sups typ lt) (go s (get_or t.sups typ 0) up)) }
       where
-        go : (s : State) (u : ℕ) → (u ≡ 0 → ⊥) → 0 ≡ (if given? (maybe u) then 0 else objects_of s typ)
+        go : (s : State) (u : ℕ) → (u ≡ 0 → ⊥) → 0 ≡ (when given? (maybe u) then 0 else objects_of s typ)
         go s zero nz = absurd (nz refl)
         go s (suc u) nz = refl
 
     pub pool-base : {sums : List ℕ} → get_or t.sups typ 0 ≡ 0 → {r : ℕ} → r ≡ get_or sums typ 0 → NamedPool f t sums n r
-    unfolding pool_of given? if◌then◌else◌
+    unfolding pool_of given? when◌then◌else◌
     pool-base none_above is = record { told = λ s K S lo hi. rw ((its-place s K lo hi).known lt) (rw (← K.sups typ lt) (rw none_above (is ∙ S typ))) }
 
 -- ── all strings ──

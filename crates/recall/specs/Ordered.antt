@@ -6,7 +6,7 @@ use Rattle.std.proofs.Math.Path.{ap}
 use Rattle.std.proofs.Math.Option.{Option, none, some}
 use Rattle.std.proofs.lemmas.List.{get_or_at}
 use Rattle.std.proofs.lemmas.Bool.{eqb-false}
-use Rattle.paper.specs.Reader.{if◌then◌else◌}
+use Rattle.paper.specs.Reader.{when◌then◌else◌}
 use Rattle.paper.specs.Lists.{same, place, given?, or}
 use Rattle.paper.specs.Ledger.{Head, Typ, State, nothing, text, type_named, no_type, type_in}
 use Rattle.paper.specs.Rules.{new?, type_of, super_named, chain_ends?, super_of, base_under, base_of, new_name, new_type}
@@ -102,15 +102,15 @@ block-order g h A O = record { order = rw (A.type_names, A.types) O.order }
 
 -- a super type that is named is known
 pub super-low : (s : State) (n u : ℕ) → super_named s n ≡ some u → u < length s.type_names
-unfolding super_named if◌then◌else◌
+unfolding super_named when◌then◌else◌
 super-low s n u h = go (eqb n 0) h
   where
-    go : (b : Bool) → (if b then none else type_named s (text s n)) ≡ some u → u < length s.type_names
+    go : (b : Bool) → (when b then none else type_named s (text s n)) ≡ some u → u < length s.type_names
     go true q = some-none q
     go false q = type-low s (text s n) u q
 
 head-order : (s : State) (h : Head) → HeadHeld s h → Ordered s.type_names s.types → Ordered (s.type_names ++ new_name s h) (s.types ++ new_type s h)
-unfolding new_name new_type base_of type_of new? given? or if◌then◌else◌ type_named super_of
+unfolding new_name new_type base_of type_of new? given? or when◌then◌else◌ type_named super_of
 head-order s h H O = go (place (same (text s h.name)) 0 s.type_names) refl
   where
     go : (o : Option ℕ) → place (same (text s h.name)) 0 s.type_names ≡ o → Ordered (s.type_names ++ new_name s h) (s.types ++ new_type s h)

@@ -4,7 +4,7 @@ use Rattle.std.proofs.Math.Path.{refl}
 use Rattle.std.proofs.Common.{sym, ap, ap₂, ◌∙◌, inl, inr, arith, lt_of_not-le, length-set, get_or-set_same, get_or-set_other, eq-eqb, ne_eqb}
 use Rattle.std.proofs.Math.Decide.{dec_le}
 use native.Nat.{ℕᴺ_discrete}
-use Rattle.paper.specs.Reader.{if◌then◌else◌}
+use Rattle.paper.specs.Reader.{when◌then◌else◌}
 use Rattle.paper.specs.Lists.{any, total}
 use Rattle.paper.specs.Ledger.{Range, of?, holds?}
 use Rattle.lookups.specs.Low.{count_of}
@@ -107,11 +107,11 @@ any_snoc p (y ∷ xs) x = go (any_snoc p xs x) (p y)
 
 module _ (log : List Range) (r : Range) (t : ℕ) where
   count_same : r.type ≡ t → count_of t (log ++ r ∷ []) ≡ count_of t log + 1
-  unfolding count_of of? total if◌then◌else◌
+  unfolding count_of of? total when◌then◌else◌
   count_same e = total-snoc (of? t) (λ x. 1) log r ∙ rw (eq-eqb r.type t e) refl
 
   count-other : (r.type ≡ t → ⊥) → count_of t (log ++ r ∷ []) ≡ count_of t log
-  unfolding count_of of? total if◌then◌else◌
+  unfolding count_of of? total when◌then◌else◌
   count-other ne = total-snoc (of? t) (λ x. 1) log r ∙ rw (ne_eqb r.type t ne) (omega arith)
 
   holds_same : r.type ≡ t → (n : ℕ) → any (holds? t n) (log ++ r ∷ []) ≡ (any (holds? t n) log || (leb (r.first + 1) n && leb n (r.first + r.count)))

@@ -9,7 +9,7 @@ use native.Nat.{ℕᴺ_discrete}
 use Rattle.std.proofs.Math.Dec.{eqb}
 use Rattle.std.proofs.Math.ListN.{length, get_or, length-set, get_or-eq_default}
 use Rattle.std.proofs.lemmas.List.{get_or_at}
-use Rattle.paper.specs.Reader.{if◌then◌else◌}
+use Rattle.paper.specs.Reader.{when◌then◌else◌}
 use Rattle.paper.specs.Lists.{total}
 use Rattle.paper.specs.Ledger.{Typ, Range, nothing, type_in, no_type, of?, size, objects_of, before?, pool_before}
 use Rattle.paper.specs.Rules.{base_under, super_of, base_of, new_type}
@@ -68,13 +68,13 @@ base_above {bases} {typ} {up} {r} nz O = record { is = λ ts B. go up nz O.is ts
 -- ── into a block ──
 
 all-before : (b i : ℕ) (log : List Range) → Keys block_of_range b log → total (before? b i) size log ≡ total (of? i) size log
-unfolding total before? if◌then◌else◌ size
+unfolding total before? when◌then◌else◌ size
 all-before b i [] k = refl
 all-before b i (r ∷ log) k = go (of? i r) (all-before b i log k.1)
   where
     go :
         (x : Bool) → total (before? b i) size log ≡ total (of? i) size log
-        → (if x && ltb r.block b then r.count + total (before? b i) size log else total (before? b i) size log) ≡ (if x then r.count + total (of? i) size log else total (of? i) size log)
+        → (when x && ltb r.block b then r.count + total (before? b i) size log else total (before? b i) size log) ≡ (when x then r.count + total (of? i) size log else total (of? i) size log)
     go true ih = rw (lt-ltb r.block b k.0, ih) refl
     go false ih = ih
 
@@ -98,7 +98,7 @@ pub record TypesOn (ts ts' : List Typ) (typ up : ℕ) : Type 0 where
   pub fresh : length ts ≤ typ → (x : Typ) × (ts' ≡ ts ++ x ∷ []) × (x.base ≡ base_under ts typ (maybe up)) × (typ ≡ length ts)
 
 pub types-on : {f : List ℕ} {g : Stage} {at : ℕ} {h : Stage} {t : Trail} {top : Top} → Knows f g.state t → (E : EntryAdded f g at h) → TopTold f g.state t E.top E.after-top top → TypesOn g.state.types h.state.types top.typ top.up
-unfolding new_type base_of if◌then◌else◌
+unfolding new_type base_of when◌then◌else◌
 types-on {g = g} {top = top} K E X =
     let s = g.state in
     let is-new = new_is s E.top.name X.placed in
@@ -117,12 +117,12 @@ pub record PoolOn (sums befores bases : List ℕ) (types typ count base : ℕ) (
   pub fresh : types ≤ typ → bases' ≡ set bases typ base
 
 module _ {g h : Stage} {top : Top} {sums befores bases : List ℕ} (S : Summed g sums befores bases) (R : RangeAdded g h top) where
-  objects-on : (i : ℕ) → objects_of h.state i ≡ objects_of g.state i + (if eqb top.typ i then top.count else 0)
+  objects-on : (i : ℕ) → objects_of h.state i ≡ objects_of g.state i + (when eqb top.typ i then top.count else 0)
   unfolding objects_of of?
-  objects-on i = ap (total (of? i) size) R.log ∙ total-last (of? i) g.state.log R.range ∙ ap₂ (λ (a b : ℕ). total (of? i) size g.state.log + (if eqb a i then b else 0)) R.type R.count
+  objects-on i = ap (total (of? i) size) R.log ∙ total-last (of? i) g.state.log R.range ∙ ap₂ (λ (a b : ℕ). total (of? i) size g.state.log + (when eqb a i then b else 0)) R.type R.count
 
   before_on : (i : ℕ) → pool_before h.state i ≡ pool_before g.state i
-  unfolding pool_before before? if◌then◌else◌
+  unfolding pool_before before? when◌then◌else◌
   before_on i =
       rw (R.log, R.still) (total-last (before? g.state.block i) g.state.log R.range ∙ none_more)
     where
@@ -130,7 +130,7 @@ module _ {g h : Stage} {top : Top} {sums befores bases : List ℕ} (S : Summed g
       and-false true = refl
       and-false false = refl
 
-      none_more : total (before? g.state.block i) size g.state.log + (if before? g.state.block i R.range then R.range.count else 0) ≡ total (before? g.state.block i) size g.state.log
+      none_more : total (before? g.state.block i) size g.state.log + (when before? g.state.block i R.range then R.range.count else 0) ≡ total (before? g.state.block i) size g.state.log
       none_more = rw (le-ltb R.range.block g.state.block (omega (arith, R.block)), and-false (of? i R.range)) (omega arith)
 
   -- where the sums fit
@@ -138,7 +138,7 @@ module _ {g h : Stage} {top : Top} {sums befores bases : List ℕ} (S : Summed g
       {types base : ℕ} {sums' befores' bases' : List ℕ} → top.typ < 32 → types ≡ length g.state.types → TypesOn g.state.types h.state.types top.typ top.up
       → base ≡ base_under g.state.types top.typ (maybe top.up) → PoolOn sums befores bases types top.typ top.count base sums' befores' bases' → objects_of h.state top.typ ≤ 4294967295
       → Summed h sums' befores' bases'
-  unfolding if◌then◌else◌ type_in
+  unfolding when◌then◌else◌ type_in
   summed-entry {types} {base} {sums'} {befores'} {bases'} room many T base-is P fits =
       record {
         sums-long = ap length P.sums-set ∙ length-set sums top.typ P.sum ∙ S.sums-long;

@@ -2,7 +2,7 @@
 -- the region has. Assumes nothing.
 use Rattle.std.specs.Prelude.{◌≡◌, refl, true, List, [], ◌∷◌, map, ℕ, ◌+◌, ◌<◌, min, eqb, length}
 use Rattle.std.proofs.Common.{sym, ap, ◌∙◌, subst, arith}
-use Rattle.paper.specs.Reader.{if◌then◌else◌}
+use Rattle.paper.specs.Reader.{when◌then◌else◌}
 use Rattle.paper.specs.Lists.{total}
 use Rattle.paper.specs.File.{what}
 use Rattle.paper.specs.Ledger.{Due, State, field_at}
@@ -47,8 +47,8 @@ times-due i (d ∷ ds) [] same = let z : ◌≡◌ {A = ℕ} 0 1 = cc same in ab
 times-due i (d ∷ ds) (e ∷ es) same =
     let first : d.0 ≡ e.0 = cc same in
     let rest : map what ds ≡ map what es = cc same in
-    ap (λ (u : Due). if eqb u.field i then 1 + total (at? any-due field_of_due i) one ds else total (at? any-due field_of_due i) one ds) first
-    ∙ ap (λ (n : ℕ). if eqb e.0.field i then 1 + n else n) (times-due i ds es rest)
+    ap (λ (u : Due). when eqb u.field i then 1 + total (at? any-due field_of_due i) one ds else total (at? any-due field_of_due i) one ds) first
+    ∙ ap (λ (n : ℕ). when eqb e.0.field i then 1 + n else n) (times-due i ds es rest)
 
 still-sound : {g g' : Said} → Sound g → g'.state ≡ g.state → map what g'.due ≡ map what g.due → g'.chunks ≡ g.chunks → Sound g'
 still-sound {g} {g'} k state due chunks =

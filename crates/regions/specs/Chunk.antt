@@ -4,7 +4,7 @@ use Rattle.std.proofs.Common.{sym, ap, ◌∙◌, subst, arith, lt_of_not-le, le
 use Rattle.std.proofs.Math.Path.{fun_ext}
 use Rattle.std.proofs.Math.Decide.{dec_le}
 use native.Nat.{ℕᴺ_discrete}
-use Rattle.paper.specs.Reader.{if◌then◌else◌, repeat}
+use Rattle.paper.specs.Reader.{when◌then◌else◌, repeat}
 use Rattle.paper.specs.Numbers.{put_fixed}
 use Rattle.paper.specs.Lists.{flat}
 use Rattle.paper.specs.Ledger.{Kind, mapping, Field, State, no_field, field_at, Chunk}
@@ -53,7 +53,7 @@ ranged-taken row {pools = pools} C = record { told = λ s K. C.told s (K pools) 
 
 -- a constant's kind has no number of an element's
 constant-same : (k a e d : ℕ) → k ≤ 4 → kind_from k a d ≡ kind_from k a e
-unfolding kind_from if◌then◌else◌
+unfolding kind_from when◌then◌else◌
 constant-same k a e d h =
     elim (dec_le k 3) [
       | yes le ↦ rw (le-leb k 3 le)
@@ -106,7 +106,7 @@ row-say row is these N h = N.say (sym (unnamed-map row.kind row.a row.e is refl)
 pub row_told :
     (n : ℕ) (row : FieldRow) (l : List ℕ) {kinds t : List ℕ} {from : ℕ} {out : List ℕ} {at : ℕ} {m : List ℕ} {r : TextRead} → row.kind ≡ 20 → kinds ≡ put_fixed row.a row.e
     → MapsTold n kinds l t from out at m r → KindTaken n row l t from out at m r
-unfolding kind_from if◌then◌else◌
+unfolding kind_from when◌then◌else◌
 row_told n row l is these T = rw is (rw these at T)
 
 -- ── the chunk ──

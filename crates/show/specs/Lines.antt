@@ -6,7 +6,7 @@ use Rattle.std.proofs.Math.Bool.{true, false}
 use Rattle.std.proofs.Math.Nat.{lt_of_not-le, min-eq_left}
 use Rattle.std.proofs.Math.Decide.{dec_le}
 use borrow.Author.Tests.{lt-leb, ne_eqb}
-use Rattle.paper.specs.Reader.{if◌then◌else◌, Reader, Out, got, and_then, ◌>>=◌, give, Rule, ◌or_no◌, hold, must, each, times, repeat}
+use Rattle.paper.specs.Reader.{when◌then◌else◌, Reader, Out, got, and_then, ◌>>=◌, give, Rule, ◌or_no◌, hold, must, each, times, repeat}
 use Rattle.paper.specs.Numbers.{signed, fixed, v64, number}
 use Rattle.paper.specs.Lists.{flat}
 use Rattle.paper.specs.Ledger.{Element, whole, link, annotation, Chunk, State}
@@ -45,7 +45,7 @@ list e s = small >>= λ n. repeat n (element s e)
 
 module _ {v : Value} where
   pub word-flag : (b : Bool) {r : ℕ} → v ≡ Flag b → FlagWord b r → r ∷ [] ≡ element_word (element_of v)
-  unfolding element_of element_word decimal shown glyph if◌then◌else◌
+  unfolding element_of element_word decimal shown glyph when◌then◌else◌
   word-flag true is w = rw (is, w.0 refl)
   word-flag false is w = rw (is, w.1 refl)
 
@@ -174,7 +174,7 @@ turned-got r g f at v e h =
 
 -- a v64
 v64-got : (t : List ℕ → List ℕ) (s : State) (x : Element) (f : List ℕ) (from q : ℕ) → element s 11 f from ≡ got x q → (n : ℕ) × (v64 f from ≡ got n q) × (t (decimalℤ (signed 8 n)) ≡ t (element_word x))
-unfolding element whole_of if◌then◌else◌ element_word
+unfolding element whole_of when◌then◌else◌ element_word
 v64-got t s x f from q h =
     let (v, a, b) = turned-got (v64 >>= λ n. give (signed 8 n)) whole f from x q h in
     let (n, c, d) = turned-got v64 (signed 8) f from v q a in
@@ -188,7 +188,7 @@ v64-shows t {f} {from} = shows-by (λ s x q h. v64-got t s x f from q h)
 -- the number of a string or of an object
 module _ {e : ℕ} (high : 13 < e) (t : List ℕ → List ℕ) where
   link-got : (s : State) (x : Element) (f : List ℕ) (from q : ℕ) → element s e f from ≡ got x q → (n : ℕ) × (v64 f from ≡ got n q) × (t (decimal n) ≡ t (element_word x))
-  unfolding element number if◌then◌else◌ element_word
+  unfolding element number when◌then◌else◌ element_word
   link-got s x f from q h =
       let link? : (number (link_rules s e) >>= λ n. give (link n)) f from ≡ got x q = rw (ne_eqb e 5 (λ z. omega arith), ne_eqb e 6 (λ z. omega arith), lt-leb e 11 (omega arith), lt-leb e 13 high) at h in
       let (n, a, b) = turned-got (number (link_rules s e)) link f from x q link? in
@@ -203,7 +203,7 @@ module _ {e : ℕ} (high : 13 < e) (t : List ℕ → List ℕ) where
 annotation-parts :
     (s : State) (x : Element) (f : List ℕ) (from q : ℕ) → element s 5 f from ≡ got x q
     → Parted v64 v64 (λ n. tab ∷ decimal n) (λ n. tab ∷ decimal n) f from (tab ∷ element_word x) q
-unfolding element two_numbers give if◌then◌else◌ element_word
+unfolding element two_numbers give when◌then◌else◌ element_word
 annotation-parts s x f from q h =
     let (p, a, b) = turned-got (must two_numbers (annotation_rules s)) (λ p. annotation p.0 p.1) f from x q h in
     let A = bind_inv v64 _ f from p q (must-got two_numbers (annotation_rules s) f from p q a) in

@@ -1,7 +1,7 @@
 -- Maps as text: their words stand in the order in which the elements are read. Once over the number of types. Assumes nothing.
 use Rattle.std.specs.Prelude.{◌≡◌, refl, true, List, [], ◌∷◌, ◌++◌, map, ℕ, ◌+◌, ◌-◌, ◌*◌, ◌≤◌, ◌<◌, length, get_or, take, drop}
 use Rattle.std.proofs.Common.{sym, ap, ◌∙◌, subst, append_assoc, arith, length-drop, take_at}
-use Rattle.paper.specs.Reader.{if◌then◌else◌, Reader, got, ◌>>=◌, give, refuse, repeat}
+use Rattle.paper.specs.Reader.{when◌then◌else◌, Reader, got, ◌>>=◌, give, refuse, repeat}
 use Rattle.paper.specs.Numbers.{put_fixed}
 use Rattle.paper.specs.Lists.{flat, all}
 use Rattle.paper.specs.Ledger.{Element, keys, State}
@@ -241,5 +241,5 @@ module _ (a e : ℕ) (l : List ℕ) {r : ℕ} {m : List ℕ} (laid : (r ≡ a) �
 pub chunk-maps :
     {n k a e : ℕ} {f l : List ℕ} {at : ℕ} {m : List ℕ} {p : ℕ} → k ≡ 20 → Shown (λ s. repeat n (map_in (put_fixed a e) s)) print_chunk f 0 l at m p
     → ChunkShown n k a e f l at m p
-unfolding kind_from if◌then◌else◌ value map_in
+unfolding kind_from when◌then◌else◌ value map_in
 chunk-maps {n} {k} {a} {e} is S = record { laid = λ s c q h. S.laid s c q (rw is at h) }

@@ -3,7 +3,7 @@ use Rattle.std.specs.Prelude.{◌≡◌, refl, Bool, true, false, ◌⊎◌, Lis
 use Rattle.std.proofs.Common.{inl, inr, ⊎_elim, arith, lt_of_not-le, le-leb}
 use Rattle.std.proofs.Math.Decide.{dec_le}
 use Rattle.std.proofs.lemmas.List.Edits.{sets}
-use Rattle.paper.specs.Reader.{if◌then◌else◌}
+use Rattle.paper.specs.Reader.{when◌then◌else◌}
 use Rattle.paper.specs.Numbers.{fixed}
 use Rattle.paper.specs.Rules.{single_kind?}
 use Rattle.paper.specs.Listing.{tab, newline}
@@ -65,17 +65,17 @@ pub width-1 : (e : ℕ) → 6 ≤ e → e < 8 → Width e 1
 width-1 e h k = let b = bare-byte e h k in record { is = b.0; bound = b.1; narrow = omega arith }
 
 pub width-2 : (e : ℕ) → e ≡ 8 → Width e 2
-unfolding bare bound_of if◌then◌else◌
+unfolding bare bound_of when◌then◌else◌
 width-2 e is = rw is (record { is = refl; bound = refl; narrow = omega arith })
 
 pub width-4 : (e : ℕ) → (e ≡ 9) ⊎ (e ≡ 12) → Width e 4
-unfolding bare bound_of if◌then◌else◌
+unfolding bare bound_of when◌then◌else◌
 width-4 e =
     ⊎_elim (λ is. rw is (record { is = refl; bound = refl; narrow = omega arith })) (λ is. rw is (record { is = refl; bound = refl; narrow = omega arith }))
 
 -- what is left of them
 pub width-8 : (e : ℕ) → Fixed e → 8 ≤ e → (e ≡ 8 → ⊥) → ((e ≡ 9) ⊎ (e ≡ 12) → ⊥) → Width e 8
-unfolding bare bound_of if◌then◌else◌
+unfolding bare bound_of when◌then◌else◌
 width-8 e K h a b =
     let c : e ≡ 9 → ⊥ = λ q. b (inl q) in
     let d : e ≡ 12 → ⊥ = λ q. b (inr q) in

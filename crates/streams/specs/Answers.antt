@@ -6,7 +6,7 @@ use Rattle.std.specs.Prelude.{ℕ, zero, suc, ◌+◌, ◌/◌, ◌^◌, ◌≤�
 use Rattle.std.proofs.Math.Decide.{dec_le}
 use Rattle.std.proofs.Math.ListN.{length}
 use Rattle.std.proofs.lemmas.Bool.{lt-leb}
-use Rattle.paper.specs.Reader.{if◌then◌else◌}
+use Rattle.paper.specs.Reader.{when◌then◌else◌}
 use Rattle.paper.specs.Bounds.{most_input, most_output}
 use Rattle.paper.specs.Listing.{ascii, tab, newline, shown, decimal, line}
 use Rattle.paper.specs.Calls.{Answer, done, refused, Left, over_front, left_in, how_many, writes}
@@ -27,7 +27,7 @@ told (refused n) = refusal_line n
 
 -- what a program writes that gives its input to this call
 unfoldable pub written_by : (List ℕ → Answer (List ℕ)) → List ℕ → List ℕ
-written_by call input = if leb (length input) most_input then told (call input) else refusal_line 3
+written_by call input = when leb (length input) most_input then told (call input) else refusal_line 3
 
 -- the text stands at the front of the output, the rest as lent, and its length is the answer
 pub record AtFront (text out out' : List ℕ) (r : ℕ) : Type 0 where
@@ -45,7 +45,7 @@ pub record Told (a : Reply) (left out' : List ℕ) (r : ℕ) : Type 0 where
 -- ── one byte more than is taken is enough to know that there are too many ──
 
 pub written-front : (call : List ℕ → Answer (List ℕ)) (f : List ℕ) → written_by call (take (most_input + 1) f) ≡ written_by call f
-unfolding written_by if◌then◌else◌
+unfolding written_by when◌then◌else◌
 written-front call f =
     elim (dec_le (length f) most_input) [
       | yes d ↦ rw (take_all (most_input + 1) f (omega arith))
@@ -111,12 +111,12 @@ module _ {a : Reply} {left out' : List ℕ} {n r : ℕ} where
 
 module _ (call : List ℕ → Answer (List ℕ)) (f out : List ℕ) {m : List ℕ} {r : ℕ} (room : length out ≡ most_output) where
   pub written-long : most_input < length f → (n : ℕ) → n ≡ 3 → Laid out 0 (refusal_line n) m r → AtFront (written_by call f) out m r
-  unfolding written_by if◌then◌else◌
+  unfolding written_by when◌then◌else◌
   written-long h n is L = rw (lt-leb (length f) most_input h, ← is) (refusal-first n room (omega arith) L)
 
   pub written-told :
       length f ≤ most_input → (work : List ℕ) (a : Reply) {w o : List ℕ} → after a w o ≡ writes (call f) work out → Told a o m r → AtFront (written_by call f) out m r
-  unfolding written_by if◌then◌else◌ writes
+  unfolding written_by when◌then◌else◌ writes
   written-told short work a L T =
       rw
       (le-leb (length f) most_input short)

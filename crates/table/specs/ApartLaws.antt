@@ -6,7 +6,7 @@ use Rattle.std.proofs.Math.Option.{Option, none, some}
 use native.Mathlib.Omega.{arith}
 use Rattle.std.proofs.Math.ListN.{get_or-append}
 use Rattle.std.proofs.Math.Seq.{get_or-append_seam}
-use Rattle.paper.specs.Reader.{if◌then◌else◌}
+use Rattle.paper.specs.Reader.{when◌then◌else◌}
 use Rattle.paper.specs.Lists.{same, place}
 use Rattle.table.specs.View.{Apart}
 use Rattle.table.specs.Loops.{place_in}
@@ -23,42 +23,42 @@ module _ {A : Type 0} (p : A → Bool) where
 
   -- what is found is found in a longer list
   pub place-longer : (k : ℕ) (xs ys : List A) {i : ℕ} → place p k xs ≡ some i → place p k (xs ++ ys) ≡ some i
-  unfolding place if◌then◌else◌
+  unfolding place when◌then◌else◌
   place-longer k [] ys q = absurd (nowhere q)
   place-longer k (x ∷ xs) ys {i} q = go (place-longer (suc k) xs ys) (p x) q
     where
-      go : (place p (suc k) xs ≡ some i → place p (suc k) (xs ++ ys) ≡ some i) → (b : Bool) → (if b then some k else place p (suc k) xs) ≡ some i → (if b then some k else place p (suc k) (xs ++ ys)) ≡ some i
+      go : (place p (suc k) xs ≡ some i → place p (suc k) (xs ++ ys) ≡ some i) → (b : Bool) → (when b then some k else place p (suc k) xs) ≡ some i → (when b then some k else place p (suc k) (xs ++ ys)) ≡ some i
       go rest true e = e
       go rest false e = rest e
 
   -- what is found nowhere before is found behind
   pub place-last : (k : ℕ) (xs : List A) (x : A) → place p k xs ≡ none → p x ≡ true → place p k (xs ++ x ∷ []) ≡ some (k + length xs)
-  unfolding place if◌then◌else◌
+  unfolding place when◌then◌else◌
   place-last k [] x q holds = rw (holds, add-zero) refl
   place-last k (y ∷ ys) x q holds = go (λ e. place-last (suc k) ys x e holds ∙ ap some (omega arith)) (p y) q
     where
-      go : (place p (suc k) ys ≡ none → place p (suc k) (ys ++ x ∷ []) ≡ some (k + suc (length ys))) → (b : Bool) → (if b then some k else place p (suc k) ys) ≡ none → (if b then some k else place p (suc k) (ys ++ x ∷ [])) ≡ some (k + suc (length ys))
+      go : (place p (suc k) ys ≡ none → place p (suc k) (ys ++ x ∷ []) ≡ some (k + suc (length ys))) → (b : Bool) → (when b then some k else place p (suc k) ys) ≡ none → (when b then some k else place p (suc k) (ys ++ x ∷ [])) ≡ some (k + suc (length ys))
       go rest true e = absurd (nowhere (sym e))
       go rest false e = rest e
 
   -- and is looked for there
   pub place-behind : (k : ℕ) (xs ys : List A) → place p k xs ≡ none → place p k (xs ++ ys) ≡ place p (k + length xs) ys
-  unfolding place if◌then◌else◌
+  unfolding place when◌then◌else◌
   place-behind k [] ys q = let z : k + 0 ≡ k = omega arith in rw z refl
   place-behind k (x ∷ xs) ys q = let z : suc k + length xs ≡ k + suc (length xs) = omega arith in go (λ e. place-behind (suc k) xs ys e ∙ ap (λ (j : ℕ). place p j ys) z) (p x) q
     where
-      go : (place p (suc k) xs ≡ none → place p (suc k) (xs ++ ys) ≡ place p (k + suc (length xs)) ys) → (b : Bool) → (if b then some k else place p (suc k) xs) ≡ none → (if b then some k else place p (suc k) (xs ++ ys)) ≡ place p (k + suc (length xs)) ys
+      go : (place p (suc k) xs ≡ none → place p (suc k) (xs ++ ys) ≡ place p (k + suc (length xs)) ys) → (b : Bool) → (when b then some k else place p (suc k) xs) ≡ none → (when b then some k else place p (suc k) (xs ++ ys)) ≡ place p (k + suc (length xs)) ys
       go rest true e = absurd (nowhere (sym e))
       go rest false e = rest e
 
   -- what is found among the first is found in the first
   place-fewer : (n k : ℕ) (xs : List A) {i : ℕ} → place p k xs ≡ some i → i < k + n → place p k (take n xs) ≡ some i
-  unfolding place if◌then◌else◌
+  unfolding place when◌then◌else◌
   place-fewer n k [] q lt = absurd (nowhere q)
   place-fewer zero k (x ∷ xs) {i} q lt = absurd (omega (arith, (place_in p k (x ∷ xs) q).0))
   place-fewer (suc n) k (x ∷ xs) {i} q lt = go (λ e. place-fewer n (suc k) xs e (omega arith)) (p x) q
     where
-      go : (place p (suc k) xs ≡ some i → place p (suc k) (take n xs) ≡ some i) → (b : Bool) → (if b then some k else place p (suc k) xs) ≡ some i → (if b then some k else place p (suc k) (take n xs)) ≡ some i
+      go : (place p (suc k) xs ≡ some i → place p (suc k) (take n xs) ≡ some i) → (b : Bool) → (when b then some k else place p (suc k) xs) ≡ some i → (when b then some k else place p (suc k) (take n xs)) ≡ some i
       go rest true e = e
       go rest false e = rest e
 

@@ -3,7 +3,7 @@ use Rattle.std.specs.Prelude.{◌≡◌, ℕ, suc, ◌+◌, ◌<◌, ◌≤◌, 
 use Rattle.std.proofs.Math.Path.{refl, ap}
 use Rattle.std.proofs.Common.{sym, ap₂, ◌∙◌, add-one, arith, drop_of_length-le, drop-cons}
 use Rattle.std.proofs.Math.Option.{Option, none, some}
-use Rattle.paper.specs.Reader.{if◌then◌else◌}
+use Rattle.paper.specs.Reader.{when◌then◌else◌}
 use Rattle.paper.specs.Lists.{any, all, place, place_named, places, total}
 
 module _ {A : Type 0} (p : A → Bool) (xs : List A) (i : ℕ) where
@@ -50,23 +50,23 @@ module _ {A : Type 0} (p : A → Bool) (xs : List A) (i : ℕ) where
       all-on e = ap (all p) next ∙ rw (sym says ∙ e) refl
 
       pub place_here : b ≡ true → place p i (drop i xs) ≡ some i
-      unfolding place if◌then◌else◌
+      unfolding place when◌then◌else◌
       place_here e = ap (place p i) next ∙ rw (sym says ∙ e) refl
 
       pub place-on : b ≡ false → place p i (drop i xs) ≡ place p (i + 1) (drop (i + 1) xs)
-      unfolding place if◌then◌else◌
+      unfolding place when◌then◌else◌
       place-on e = ap (place p i) next ∙ rw (sym says ∙ e, add-one) refl
 
       pub places-here : b ≡ true → length (places p i (drop i xs)) ≡ 1 + length (places p (i + 1) (drop (i + 1) xs))
-      unfolding places if◌then◌else◌
+      unfolding places when◌then◌else◌
       places-here e = ap (λ (ys : List A). length (places p i ys)) next ∙ rw (sym says ∙ e, add-one) (omega arith)
 
       pub places-on : b ≡ false → length (places p i (drop i xs)) ≡ length (places p (i + 1) (drop (i + 1) xs))
-      unfolding places if◌then◌else◌
+      unfolding places when◌then◌else◌
       places-on e = ap (λ (ys : List A). length (places p i ys)) next ∙ rw (sym says ∙ e, add-one) refl
 
     one_more : (b : Bool) (n : A → ℕ) (ys : List A) → p x ≡ b → total p n (x ∷ ys) ≡ total p n (x ∷ []) + total p n ys
-    unfolding total if◌then◌else◌
+    unfolding total when◌then◌else◌
     one_more true n ys e = rw e (omega arith)
     one_more false n ys e = rw e (omega arith)
 
@@ -85,17 +85,17 @@ module _ {A B : Type 0} (p : A → B → Bool) (xs : List A) (names : List B) (i
     both = ap₂ (place_named p i) (next (λ a. true) xs i d h is) (next (λ a. true) names i d' h' is')
 
     pub named_here : b ≡ true → place_named p i (drop i xs) (drop i names) ≡ some i
-    unfolding place_named if◌then◌else◌
+    unfolding place_named when◌then◌else◌
     named_here e = both ∙ rw (sym says ∙ e) refl
 
     pub named-on : b ≡ false → place_named p i (drop i xs) (drop i names) ≡ place_named p (i + 1) (drop (i + 1) xs) (drop (i + 1) names)
-    unfolding place_named if◌then◌else◌
+    unfolding place_named when◌then◌else◌
     named-on e = both ∙ rw (sym says ∙ e, add-one) refl
 
 -- ── a place that is found is one of the list's ──
 
-found_in : (b : Bool) (k n : ℕ) (o : Option ℕ) {i : ℕ} → (o ≡ some i → (suc k ≤ i) × (i < suc k + n)) → (if b then some k else o) ≡ some i → (k ≤ i) × (i < k + suc n)
-unfolding if◌then◌else◌
+found_in : (b : Bool) (k n : ℕ) (o : Option ℕ) {i : ℕ} → (o ≡ some i → (suc k ≤ i) × (i < suc k + n)) → (when b then some k else o) ≡ some i → (k ≤ i) × (i < k + suc n)
+unfolding when◌then◌else◌
 found_in true k n o {i} rest q = let e : k ≡ i = cc in (omega arith, omega arith)
 found_in false k n o {i} rest q = let r = rest q in (omega arith, omega arith)
 

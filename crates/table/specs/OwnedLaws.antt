@@ -6,7 +6,7 @@ use Rattle.std.proofs.Math.Path.{refl, ap}
 use native.Mathlib.Omega.{arith}
 use Rattle.std.proofs.Math.ListN.{get_or-append}
 use Rattle.std.proofs.Math.Seq.{get_or-append_seam}
-use Rattle.paper.specs.Reader.{if◌then◌else◌}
+use Rattle.paper.specs.Reader.{when◌then◌else◌}
 use Rattle.paper.specs.Lists.{places}
 use Rattle.paper.specs.Ledger.{Field, no_field, owns?}
 use Rattle.table.specs.RowLaws.{lt-or-ge, same_or_not}
@@ -86,7 +86,7 @@ module _ {tally tally' : ℕ → ℕ → ℕ} {flds : List Field} (O : Owned tal
 
 module _ (p : Field → Bool) (xs : List Field) where
   pass-one : (i : ℕ) → i < length xs → p (slice_index_or xs i no_field) ≡ false → places p i (drop i xs) ≡ places p (i + 1) (drop (i + 1) xs)
-  unfolding places if◌then◌else◌
+  unfolding places when◌then◌else◌
   pass-one i lt no_own = ap (places p i) (drop-cons xs i no_field lt) ∙ rw (no_own, add-one) refl
 
   pub pass-over : (n i : ℕ) → i + n ≤ length xs → ((j : ℕ) → i ≤ j → j < i + n → p (slice_index_or xs j no_field) ≡ false) → places p i (drop i xs) ≡ places p (i + n) (drop (i + n) xs)

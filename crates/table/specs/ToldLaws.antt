@@ -8,7 +8,7 @@ use Rattle.std.proofs.Math.Decide.{dec_le}
 use native.Mathlib.Omega.{arith}
 use borrow.Author.Tests.{ltb-true, lt-ltb, le-ltb, leb-true, le-leb, lt-leb, eq-eqb, ne_eqb}
 use Rattle.std.proofs.Math.ListN.{length-append, get_or-append, get_or-eq_default}
-use Rattle.paper.specs.Reader.{if◌then◌else◌}
+use Rattle.paper.specs.Reader.{when◌then◌else◌}
 use Rattle.paper.specs.Lists.{any, all, total, given?}
 use Rattle.paper.specs.Ledger.{Typ, Range, no_type, type_in, of?, here?, before?, base?, holds?, size}
 use Rattle.paper.specs.Rules.{entry_of?, below?, clear?}
@@ -24,8 +24,8 @@ and_split false b h = not_so h
 
 -- ── sums and tests over a list ──
 
-more-step : (b : Bool) (m s s' x : ℕ) → s' ≡ s + x → (if b then m + s' else s') ≡ (if b then m + s else s) + x
-unfolding if◌then◌else◌
+more-step : (b : Bool) (m s s' x : ℕ) → s' ≡ s + x → (when b then m + s' else s') ≡ (when b then m + s else s) + x
+unfolding when◌then◌else◌
 more-step true m s s' x e = omega arith
 more-step false m s s' x e = e
 
@@ -36,11 +36,11 @@ module _ {A : Type 0} where
   total-more p n (y ∷ xs) x = more-step (p y) (n y) (total p n xs) (total p n (xs ++ x ∷ [])) (total p n (x ∷ [])) (total-more p n xs x)
 
   pub one-yes : (p : A → Bool) (n : A → ℕ) (x : A) → p x ≡ true → total p n (x ∷ []) ≡ n x
-  unfolding total if◌then◌else◌
+  unfolding total when◌then◌else◌
   one-yes p n x e = rw e (omega arith)
 
   pub one-no : (p : A → Bool) (n : A → ℕ) (x : A) → p x ≡ false → total p n (x ∷ []) ≡ 0
-  unfolding total if◌then◌else◌
+  unfolding total when◌then◌else◌
   one-no p n x e = rw e refl
 
   pub total-same : (g p q : A → Bool) (n : A → ℕ) → ((x : A) → g x ≡ true → p x ≡ q x) → (xs : List A) → all g xs ≡ true → total p n xs ≡ total q n xs
@@ -48,10 +48,10 @@ module _ {A : Type 0} where
   total-same g p q n h [] ok = refl
   total-same g p q n h (x ∷ xs) ok =
       let s = and_split (g x) (all g xs) ok in
-      ap₂ (λ (b : Bool) (k : ℕ). if b then n x + k else k) (h x s.0) (total-same g p q n h xs s.1)
+      ap₂ (λ (b : Bool) (k : ℕ). when b then n x + k else k) (h x s.0) (total-same g p q n h xs s.1)
 
   pub total-none : (g p : A → Bool) (n : A → ℕ) → ((x : A) → g x ≡ true → p x ≡ false) → (xs : List A) → all g xs ≡ true → total p n xs ≡ 0
-  unfolding total all if◌then◌else◌
+  unfolding total all when◌then◌else◌
   total-none g p n h [] ok = refl
   total-none g p n h (x ∷ xs) ok = let s = and_split (g x) (all g xs) ok in rw (h x s.0) (total-none g p n h xs s.1)
 

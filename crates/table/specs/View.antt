@@ -3,7 +3,7 @@
 use Rattle.std.specs.Prelude.{◌≡◌, ℕ, zero, suc, ◌+◌, ◌-◌, ◌*◌, ◌/◌, ◌%◌, ◌^◌, ◌<◌, ◌≤◌, ◌&&◌, leb, List, [], ◌∷◌, length, get_or, drop, nat_eq, nat_le, slice_index, slice_index_or}
 use Rattle.std.proofs.Math.Option.{Option, none, some}
 use Rattle.std.proofs.Math.Seq.{slice}
-use Rattle.paper.specs.Reader.{if◌then◌else◌}
+use Rattle.paper.specs.Reader.{when◌then◌else◌}
 use Rattle.paper.specs.Numbers.{signed, put_fixed}
 use Rattle.paper.specs.Ledger.{Kind, constant, plain, array, many, mapping, Typ, Field, Range, Due, State}
 use Rattle.paper.specs.Places.{Spot}
@@ -80,15 +80,15 @@ typ_of r = record { super = maybe (slice_index r 2); base = slice_index r 3 }
 -- of types; and by e, its last number, which is k itself where there is only one; of a map it has the kinds, a byte each
 unfoldable pub kind_from : ℕ → ℕ → ℕ → Kind
 kind_from k a e =
-    if leb k 3 then
+    when leb k 3 then
     constant k (signed (2 ^ k) a) else
-    if nat_eq k 4 then
+    when nat_eq k 4 then
     constant k (signed 8 a) else
-    if nat_eq k 15 then
+    when nat_eq k 15 then
     array a e else
-    if nat_le 17 k && leb k 19 then
+    when nat_le 17 k && leb k 19 then
     many k e else
-    if nat_eq k 20 then
+    when nat_eq k 20 then
     mapping (put_fixed a e) else
     plain e
 

@@ -7,7 +7,7 @@ use Prim.Native.Nat.{ℕ, zero, suc, ◌/◌, ◌^◌, ◌≤◌, ◌<◌}
 use Rattle.std.proofs.Math.Decide.{dec_le}
 use Rattle.std.proofs.Math.Dec.{eqb}
 use borrow.Author.Tests.{not-true, not-false, le-leb, lt-ltb}
-use Rattle.paper.specs.Reader.{if◌then◌else◌, Reader, Out, got, no as bad, and_then, ◌>>=◌, ◌>>◌, give, each, times, repeat}
+use Rattle.paper.specs.Reader.{when◌then◌else◌, Reader, Out, got, no as bad, and_then, ◌>>=◌, ◌>>◌, give, each, times, repeat}
 use Rattle.paper.specs.Lists.{flat, all}
 use Rattle.paper.specs.Numbers.{signed, put}
 use Rattle.paper.specs.Ledger.{constant, Element, annotation, State}
@@ -53,30 +53,30 @@ record Found (ok : Element → Bool) (e : ℕ) (t : List ℕ) (at n d : ℕ) : T
 
 module _ (ok : Element → Bool) (e : ℕ) (t : List ℕ) (at : ℕ) where
   found : {n d : ℕ} → got n d ≡ reckoned ok e t at → Found ok e t at n d
-  unfolding reckoned if◌then◌else◌
+  unfolding reckoned when◌then◌else◌
   found {n} {d} h = go (read_element e t at) refl h
     where
-      by : (x : Element) (q : ℕ) → read_element e t at ≡ got x q → (b : Bool) → ok x ≡ b → got n d ≡ (if b then got (number_of e x) q else bad 20 0) → Found ok e t at n d
+      by : (x : Element) (q : ℕ) → read_element e t at ≡ got x q → (b : Bool) → ok x ≡ b → got n d ≡ (when b then got (number_of e x) q else bad 20 0) → Found ok e t at n d
       by x q r true k z =
           let same : q ≡ d = cc z in
           record { element = x; reads = r ∙ ap (λ (p : ℕ). got x p) same; keeps = k; number = cc z }
       by x q r false k z = not-got (sym z)
 
-      go : (o : Out Element) → read_element e t at ≡ o → got n d ≡ and_then o (λ x q. if ok x then got (number_of e x) q else bad 20 0) → Found ok e t at n d
+      go : (o : Out Element) → read_element e t at ≡ o → got n d ≡ and_then o (λ x q. when ok x then got (number_of e x) q else bad 20 0) → Found ok e t at n d
       go (got x q) r z = by x q r (ok x) refl z
       go (bad c p) r z = not-got (sym z)
 
   not_found : bad 20 0 ≡ reckoned ok e t at → judged ok e t at ≡ bad 20 0
-  unfolding reckoned judged heed if◌then◌else◌ ◌>>=◌ ◌>>◌ give
+  unfolding reckoned judged heed when◌then◌else◌ ◌>>=◌ ◌>>◌ give
   not_found h = go (read_element e t at) h
     where
-      by : (x : Element) (q : ℕ) (b : Bool) → bad 20 0 ≡ (if b then got (number_of e x) q else bad 20 0) → and_then (if b then got (tt {0}) q else bad 20 0) (λ u p. got x p) ≡ bad 20 0
+      by : (x : Element) (q : ℕ) (b : Bool) → bad 20 0 ≡ (when b then got (number_of e x) q else bad 20 0) → and_then (when b then got (tt {0}) q else bad 20 0) (λ u p. got x p) ≡ bad 20 0
       by x q true z = not-got z
       by x q false z = refl
 
       go :
-          (o : Out Element) → bad 20 0 ≡ and_then o (λ x q. if ok x then got (number_of e x) q else bad 20 0)
-          → and_then o (λ x q. and_then (if ok x then got (tt {0}) q else bad 20 0) (λ u p. got x p)) ≡ bad 20 0
+          (o : Out Element) → bad 20 0 ≡ and_then o (λ x q. when ok x then got (number_of e x) q else bad 20 0)
+          → and_then o (λ x q. and_then (when ok x then got (tt {0}) q else bad 20 0) (λ u p. got x p)) ≡ bad 20 0
       go (got x q) z = by x q (ok x) z
       go (bad c p) z =
           let x : c ≡ 20 = cc z in
@@ -98,7 +98,7 @@ module _ (ok : Element → Bool) (e : ℕ) (t : List ℕ) (from : ℕ) where
       next_fits = let F = found ok e t p word in rw F.number (writes F.element F.keeps).fits
 
       pub next-lays : {l m : List ℕ} {at r : ℕ} (k : Taken) → k.next.at ≡ d → k.at ≡ r → Laid l at (in_bytes e n) m r → Lays (behind_tab ok e) (put_element e) t from l at m k
-      unfolding behind_tab judged heed if◌then◌else◌ ◌>>=◌ ◌>>◌ give
+      unfolding behind_tab judged heed when◌then◌else◌ ◌>>=◌ ◌>>◌ give
       next-lays k x y L =
           let F = found ok e t p word in
           record {
@@ -128,13 +128,13 @@ module _ (pools t : List ℕ) (from : ℕ) where
 
     module _ {b q : ℕ} (object : got b q ≡ natural t p) {c : Bool} (asked : c ≡ placed? pools a b) where
       pub noted-wrong : not c ≡ true → noted pools t from ≡ bad 20 0
-      unfolding noted heed if◌then◌else◌ ◌>>=◌ ◌>>◌
+      unfolding noted heed when◌then◌else◌ ◌>>=◌ ◌>>◌
       noted-wrong h = rw (← name, ← object, sym asked ∙ not-true c h)
 
       pub noted-lays :
           {l m n : List ℕ} {at d r : ℕ} → not c ≡ false → (k : Taken) → k.next.at ≡ q → k.at ≡ r → Laid l at (put a) m d → Laid m d (put b) n r
           → Lays (noted pools) (put_element 5) t from l at n k
-      unfolding noted heed if◌then◌else◌ ◌>>=◌ ◌>>◌ give put_element
+      unfolding noted heed when◌then◌else◌ ◌>>=◌ ◌>>◌ give put_element
       noted-lays h k x y L M =
           record {
             value = annotation a b;
@@ -145,7 +145,7 @@ module _ (pools t : List ℕ) (from : ℕ) where
 module _ (strings : ℕ) (pools first last t : List ℕ) where
   -- that is what an element of this kind is held to
   noted-as : (at : ℕ) → judged (kept strings pools first last 5) 5 t at ≡ noted pools t at
-  unfolding judged read_element noted kept heed if◌then◌else◌ ◌>>=◌ ◌>>◌ give
+  unfolding judged read_element noted kept heed when◌then◌else◌ ◌>>=◌ ◌>>◌ give
   noted-as at =
       then-then (ended tab natural t at) _ _
       ∙ same_then _ _ (parted t at) (λ a p s.
@@ -269,12 +269,12 @@ all_true (x ∷ l) = all_true l
 
 -- a line held to the same test in other words
 tested-same : (f g : List Element → Bool) → ((v : List Element) → f v ≡ g v) → (e : ℕ) (t : List ℕ) (at : ℕ) → tested f e t at ≡ tested g e t at
-unfolding tested heed ◌>>=◌ ◌>>◌ give if◌then◌else◌
+unfolding tested heed ◌>>=◌ ◌>>◌ give when◌then◌else◌
 tested-same f g same e t at = go (read_value e t at)
   where
     go :
         (o : Out (List Element))
-        → and_then o (λ v d. and_then (if f v then got (tt {0}) d else bad 20 0) (λ u p. got v p)) ≡ and_then o (λ v d. and_then (if g v then got (tt {0}) d else bad 20 0) (λ u p. got v p))
+        → and_then o (λ v d. and_then (when f v then got (tt {0}) d else bad 20 0) (λ u p. got v p)) ≡ and_then o (λ v d. and_then (when g v then got (tt {0}) d else bad 20 0) (λ u p. got v p))
     go (got v d) = rw (same v)
     go (bad n p) = refl
 
@@ -284,7 +284,7 @@ record Constant (k a e : ℕ) : Type 0 where
   is : kind_from k a e ≡ constant k value
 
 kind-constant : (k a e : ℕ) → k ≤ 4 → Constant k a e
-unfolding kind_from if◌then◌else◌
+unfolding kind_from when◌then◌else◌
 kind-constant k a e h =
     elim (dec_le k 3) [
       | yes d ↦ record { value = signed (2 ^ k) a; is = rw (le-leb k 3 d) }

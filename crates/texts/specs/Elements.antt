@@ -7,7 +7,7 @@ use Rattle.std.proofs.Math.Nat.{one-le-pow}
 use Rattle.std.proofs.Math.Decide.{dec_le}
 use Rattle.std.proofs.Math.Dec.{leb, eqb}
 use borrow.Author.Tests.{leb-false, ltb-true, eqb-true, not-true, le-leb, lt-leb, lt-ltb, le-ltb, eq-eqb, ne_eqb}
-use Rattle.paper.specs.Reader.{if◌then◌else◌, Reader, Out, got, no as bad, and_then, ◌>>=◌, ◌>>◌, give}
+use Rattle.paper.specs.Reader.{when◌then◌else◌, Reader, Out, got, no as bad, and_then, ◌>>=◌, ◌>>◌, give}
 use Rattle.paper.specs.Numbers.{signed, unsigned, put_fixed, put}
 use Rattle.paper.specs.Ledger.{Element, flag, whole, float, link, annotation, keys, State}
 use Rattle.paper.specs.Rules.{single_kind?, element_kind?, link?, link_rules, annotation?}
@@ -29,7 +29,7 @@ unfoldable pub kept : ℕ → List ℕ → List ℕ → List ℕ → ℕ → Ele
 kept strings pools first last e (flag b) = eqb e 6
 kept strings pools first last e (whole v) = not (eqb e 5) && (not (eqb e 6) && leb e 11 && whole? (e - 7) v)
 kept strings pools first last e (float w n) = not (leb e 11) && leb e 13 && eqb w (4 * (e - 11)) && ltb n (256 ^ w)
-kept strings pools first last e (link n) = not (leb e 13) && (ltb n (256 ^ 8) && (if eqb e 14 then at_most strings n else some_object first last n))
+kept strings pools first last e (link n) = not (leb e 13) && (ltb n (256 ^ 8) && (when eqb e 14 then at_most strings n else some_object first last n))
 kept strings pools first last e (annotation m n) = eqb e 5 && (ltb m (256 ^ 8) && (ltb n (256 ^ 8) && placed? pools m n))
 kept strings pools first last e (keys n) = false
 
@@ -41,7 +41,7 @@ and_yes false = refl
 pub kept-known :
     {s : State} {e strings : ℕ} {pools first last : List ℕ} → Known s e strings pools first last → element_kind? e ≡ true → (x : Element)
     → element? s e x ≡ kept strings pools first last e x
-unfolding element? kept number? hold? link_rules if◌then◌else◌
+unfolding element? kept number? hold? link_rules when◌then◌else◌
 kept-known K listed (flag b) = refl
 kept-known K listed (whole v) = refl
 kept-known K listed (float w n) = refl
@@ -57,7 +57,7 @@ kept-known {s} {e} {strings} {pools} {first} {last} K listed (link n) = go (leb 
   where
     go :
         (b : Bool) → leb e 13 ≡ b
-        → (not b && (ltb n (256 ^ 8) && (link? s e n && true))) ≡ (not b && (ltb n (256 ^ 8) && (if eqb e 14 then at_most strings n else some_object first last n)))
+        → (not b && (ltb n (256 ^ 8) && (link? s e n && true))) ≡ (not b && (ltb n (256 ^ 8) && (when eqb e 14 then at_most strings n else some_object first last n)))
     go true t = refl
     go false t = rw (and_yes (link? s e n), link-is K listed (leb-false e 13 t) n)
 
@@ -74,10 +74,10 @@ noted pools = do
 -- ── the number that stands for an element ──
 
 unfoldable pub whole_width : ℕ → ℕ
-whole_width e = if ltb (e - 7) 4 then 2 ^ (e - 7) else 8
+whole_width e = when ltb (e - 7) 4 then 2 ^ (e - 7) else 8
 
 unfoldable pub number_of : ℕ → Element → ℕ
-number_of e (flag b) = if b then 255 else 0
+number_of e (flag b) = when b then 255 else 0
 number_of e (whole v) = unsigned (whole_width e) v
 number_of e (float w n) = n
 number_of e (link n) = n
@@ -88,74 +88,74 @@ number_of e (keys n) = 0
 -- the bytes of the number of kind e
 unfoldable pub in_bytes : ℕ → ℕ → List ℕ
 in_bytes e n =
-    if eqb e 6 then
+    when eqb e 6 then
     put_fixed 1 n else
-    if leb e 11 then
-    (if ltb (e - 7) 4 then put_fixed (2 ^ (e - 7)) n else put n) else
-    if leb e 13 then
+    when leb e 11 then
+    (when ltb (e - 7) 4 then put_fixed (2 ^ (e - 7)) n else put n) else
+    when leb e 13 then
     put_fixed (4 * (e - 11)) n else
     put n
 
 -- what such numbers are below
 unfoldable pub bound_in : ℕ → ℕ
 bound_in e =
-    if eqb e 6 then
+    when eqb e 6 then
     256 else
-    if leb e 11 then
-    (if ltb (e - 7) 4 then 256 ^ (2 ^ (e - 7)) else 2 ^ 64) else
-    if leb e 13 then
+    when leb e 11 then
+    (when ltb (e - 7) 4 then 256 ^ (2 ^ (e - 7)) else 2 ^ 64) else
+    when leb e 13 then
     256 ^ (4 * (e - 11)) else
     2 ^ 64
 
 -- an element of kind e that is held to a rule, as its number
 unfoldable pub reckoned : (Element → Bool) → ℕ → Reader ℕ
-reckoned ok e t at = and_then (read_element e t at) λ x d. if ok x then got (number_of e x) d else bad 20 0
+reckoned ok e t at = and_then (read_element e t at) λ x d. when ok x then got (number_of e x) d else bad 20 0
 
 -- ── the same by kinds, as code tells them apart ──
 
 unfoldable pub flag_number : Reader ℕ
-flag_number t at = if eqb (get_or t at 256) 48 then got 0 (at + 1) else if eqb (get_or t at 256) 49 then got 255 (at + 1) else bad 20 0
+flag_number t at = when eqb (get_or t at 256) 48 then got 0 (at + 1) else when eqb (get_or t at 256) 49 then got 255 (at + 1) else bad 20 0
 
 unfoldable pub whole_number : ℕ → Reader ℕ
-whole_number w t at = and_then (integer t at) λ z d. if signed? w z then got (unsigned w z) d else bad 20 0
+whole_number w t at = and_then (integer t at) λ z d. when signed? w z then got (unsigned w z) d else bad 20 0
 
 unfoldable pub link_number : (ℕ → Bool) → Reader ℕ
-link_number ok t at = and_then (natural t at) λ n d. if ok n then got n d else bad 20 0
+link_number ok t at = and_then (natural t at) λ n d. when ok n then got n d else bad 20 0
 
 module _ (strings : ℕ) (pools first last : List ℕ) (e : ℕ) (t : List ℕ) (at : ℕ) where
   pub reckoned-flag : e ≡ 6 → flag_number t at ≡ reckoned (kept strings pools first last e) e t at
-  unfolding reckoned read_element read_flag flag_number kept number_of if◌then◌else◌
+  unfolding reckoned read_element read_flag flag_number kept number_of when◌then◌else◌
   reckoned-flag is = rw is (go (eqb (get_or t at 256) 48) (eqb (get_or t at 256) 49))
     where
       go :
           (x y : Bool)
-          → (if x then got 0 (at + 1) else if y then got 255 (at + 1) else bad 20 0)
-          ≡ and_then (if x then got (flag false) (at + 1) else if y then got (flag true) (at + 1) else bad 20 0) (λ f d. if kept strings pools first last 6 f then got (number_of 6 f) d else bad 20 0)
+          → (when x then got 0 (at + 1) else when y then got 255 (at + 1) else bad 20 0)
+          ≡ and_then (when x then got (flag false) (at + 1) else when y then got (flag true) (at + 1) else bad 20 0) (λ f d. when kept strings pools first last 6 f then got (number_of 6 f) d else bad 20 0)
       go true y = refl
       go false true = refl
       go false false = refl
 
   pub reckoned-whole : 6 < e → e < 12 → whole_number (whole_width e) t at ≡ reckoned (kept strings pools first last e) e t at
-  unfolding reckoned read_element whole_number whole_width kept whole? number_of if◌then◌else◌ ◌>>=◌ give
+  unfolding reckoned read_element whole_number whole_width kept whole? number_of when◌then◌else◌ ◌>>=◌ give
   reckoned-whole h l = simp (ne_eqb e 5 (λ z. omega arith), ne_eqb e 6 (λ z. omega arith), le-leb e 11 (omega arith)) (go (integer t at))
     where
       go :
           (o : Out ℤ)
-          → and_then o (λ z d. if signed? (whole_width e) z then got (unsigned (whole_width e) z) d else bad 20 0)
-          ≡ and_then (and_then o (λ z d. got (whole z) d)) (λ x d. if kept strings pools first last e x then got (number_of e x) d else bad 20 0)
+          → and_then o (λ z d. when signed? (whole_width e) z then got (unsigned (whole_width e) z) d else bad 20 0)
+          ≡ and_then (and_then o (λ z d. got (whole z) d)) (λ x d. when kept strings pools first last e x then got (number_of e x) d else bad 20 0)
       go (got z d) = rw (ne_eqb e 5 (λ z. omega arith), ne_eqb e 6 (λ z. omega arith), le-leb e 11 (omega arith))
       go (bad n p) = refl
 
   -- so many digits fill the width
   reckoned-float : 11 < e → e < 14 → 16 ^ (2 * (4 * (e - 11))) ≡ 256 ^ (4 * (e - 11)) → hex_on (2 * (4 * (e - 11))) 0 t at ≡ reckoned (kept strings pools first last e) e t at
-  unfolding reckoned read_element kept number_of if◌then◌else◌ ◌>>=◌ give
+  unfolding reckoned read_element kept number_of when◌then◌else◌ ◌>>=◌ give
   reckoned-float h l fills =
       rw (ne_eqb e 5 (λ z. omega arith), ne_eqb e 6 (λ z. omega arith), lt-leb e 11 h, le-leb e 13 (omega arith))
       (go (hex-word t (2 * (4 * (e - 11))) 0 0 at (omega arith)))
     where
       go :
           {o : Out ℕ} → Fate (Word (λ n. n < 16 ^ (0 + 2 * (4 * (e - 11)))) t at) o
-          → o ≡ and_then (and_then o (λ n d. got (float (4 * (e - 11)) n) d)) (λ x d. if kept strings pools first last e x then got (number_of e x) d else bad 20 0)
+          → o ≡ and_then (and_then o (λ n d. got (float (4 * (e - 11)) n) d)) (λ x d. when kept strings pools first last e x then got (number_of e x) d else bad 20 0)
       go (gives n d w) =
           let small : n < 256 ^ (4 * (e - 11)) = rw (zero-add, fills) at w.holds in
           rw (lt-leb e 11 h, le-leb e 13 (omega arith), eq-eqb (4 * (e - 11)) (4 * (e - 11)) refl, lt-ltb n (256 ^ (4 * (e - 11))) small)
@@ -167,25 +167,25 @@ module _ (strings : ℕ) (pools first last : List ℕ) (e : ℕ) (t : List ℕ) 
   pub reckoned-f64 : e ≡ 13 → hex_on 16 0 t at ≡ reckoned (kept strings pools first last e) e t at
   reckoned-f64 is = ap (λ (k : ℕ). hex_on (2 * (4 * (k - 11))) 0 t at) (sym is) ∙ reckoned-float (omega arith) (omega arith) (rw is)
 
-  reckoned-link : 13 < e → link_number (λ n. if eqb e 14 then at_most strings n else some_object first last n) t at ≡ reckoned (kept strings pools first last e) e t at
-  unfolding reckoned read_element link_number kept number_of if◌then◌else◌ ◌>>=◌ give
+  reckoned-link : 13 < e → link_number (λ n. when eqb e 14 then at_most strings n else some_object first last n) t at ≡ reckoned (kept strings pools first last e) e t at
+  unfolding reckoned read_element link_number kept number_of when◌then◌else◌ ◌>>=◌ give
   reckoned-link h = rw (ne_eqb e 5 (λ z. omega arith), ne_eqb e 6 (λ z. omega arith), lt-leb e 11 (omega arith), lt-leb e 13 h) (go (natural-word t at))
     where
       go :
           {o : Out ℕ} → Fate (Word Small t at) o
-          → and_then o (λ n d. if (if eqb e 14 then at_most strings n else some_object first last n) then got n d else bad 20 0)
-          ≡ and_then (and_then o (λ n d. got (link n) d)) (λ x d. if kept strings pools first last e x then got (number_of e x) d else bad 20 0)
+          → and_then o (λ n d. when (when eqb e 14 then at_most strings n else some_object first last n) then got n d else bad 20 0)
+          ≡ and_then (and_then o (λ n d. got (link n) d)) (λ x d. when kept strings pools first last e x then got (number_of e x) d else bad 20 0)
       go (gives n d w) = rw (lt-leb e 13 h, lt-ltb n (256 ^ 8) w.holds.below)
       go refuses = refl
 
   pub reckoned-string : e ≡ 14 → link_number (at_most strings) t at ≡ reckoned (kept strings pools first last e) e t at
-  unfolding if◌then◌else◌
-  reckoned-string is = sym (ap (λ (b : Bool). link_number (λ n. if b then at_most strings n else some_object first last n) t at) (eq-eqb e 14 is)) ∙ reckoned-link (omega arith)
+  unfolding when◌then◌else◌
+  reckoned-string is = sym (ap (λ (b : Bool). link_number (λ n. when b then at_most strings n else some_object first last n) t at) (eq-eqb e 14 is)) ∙ reckoned-link (omega arith)
 
   pub reckoned-object : 32 ≤ e → link_number (some_object first last) t at ≡ reckoned (kept strings pools first last e) e t at
-  unfolding if◌then◌else◌
+  unfolding when◌then◌else◌
   reckoned-object h =
-      sym (ap (λ (b : Bool). link_number (λ n. if b then at_most strings n else some_object first last n) t at) (ne_eqb e 14 (λ z. omega arith))) ∙ reckoned-link (omega arith)
+      sym (ap (λ (b : Bool). link_number (λ n. when b then at_most strings n else some_object first last n) t at) (ne_eqb e 14 (λ z. omega arith))) ∙ reckoned-link (omega arith)
 
 -- ── the ways out of each ──
 
@@ -194,11 +194,11 @@ module _ {t : List ℕ} {at b : ℕ} (seen : Peeked t at b) where
   flag_is n is = sym seen.is ∙ is
 
   flag-false : b ≡ 48 → got 0 (at + 1) ≡ flag_number t at
-  unfolding flag_number if◌then◌else◌
+  unfolding flag_number when◌then◌else◌
   flag-false is = rw (eq-eqb (get_or t at 256) 48 (flag_is 48 is))
 
   flag_true : b ≡ 49 → got 255 (at + 1) ≡ flag_number t at
-  unfolding flag_number if◌then◌else◌
+  unfolding flag_number when◌then◌else◌
   flag_true is = rw (flag_is 49 is)
 
   pub flag-bit : 48 ≤ b → b ≤ 49 → got (255 * (b - 48)) (at + 1) ≡ flag_number t at
@@ -209,7 +209,7 @@ module _ {t : List ℕ} {at b : ℕ} (seen : Peeked t at b) where
       ]
 
   pub flag-none : (b ≡ 48 → ⊥) → (b ≡ 49 → ⊥) → bad 20 0 ≡ flag_number t at
-  unfolding flag_number if◌then◌else◌
+  unfolding flag_number when◌then◌else◌
   flag-none x y = rw (ne_eqb (get_or t at 256) 48 (λ z. x (seen.is ∙ z)), ne_eqb (get_or t at 256) 49 (λ z. y (seen.is ∙ z)))
 
 module _ (w : ℕ) {half : ℕ} (narrow : half ≤ 2 ^ 63) (two : 256 ^ w ≡ half + half) (t : List ℕ) (at : ℕ) where
@@ -222,16 +222,16 @@ module _ (w : ℕ) {half : ℕ} (narrow : half ≤ 2 ^ 63) (two : 256 ^ w ≡ ha
 
   module _ (x d : ℕ) (is : got (signed 8 x) d ≡ integer t at) where
     pub whole-low : x < half → got x d ≡ whole_number w t at
-    unfolding whole_number signed signed? unsigned if◌then◌else◌
+    unfolding whole_number signed signed? unsigned when◌then◌else◌
     whole-low h = rw (← is, lt-ltb x 9223372036854775808 (omega arith), halved, lt-ltb x half h)
 
     pub whole-high : 18446744073709551615 - x < half → x < 2 ^ 64 → got (half + (half - 1 - (18446744073709551615 - x))) d ≡ whole_number w t at
-    unfolding whole_number signed signed? unsigned if◌then◌else◌
+    unfolding whole_number signed signed? unsigned when◌then◌else◌
     whole-high h k =
         rw (← is, le-ltb x 9223372036854775808 (omega arith), halved, lt-ltb (18446744073709551615 - x) half h, two) (ap (λ (n : ℕ). got n d) (omega arith))
 
     pub whole_wide : half ≤ x → half ≤ 18446744073709551615 - x → bad 20 0 ≡ whole_number w t at
-    unfolding whole_number signed signed? if◌then◌else◌
+    unfolding whole_number signed signed? when◌then◌else◌
     whole_wide h k =
         elim (dec_le 9223372036854775808 x) [
           | yes y ↦ rw (← is, le-ltb x 9223372036854775808 y, halved, le-ltb (18446744073709551615 - x) half k)
@@ -245,11 +245,11 @@ module _ (ok : ℕ → Bool) (t : List ℕ) (at : ℕ) where
 
   module _ (n d : ℕ) (is : got n d ≡ natural t at) where
     pub link-taken : ok n ≡ true → got n d ≡ link_number ok t at
-    unfolding link_number if◌then◌else◌
+    unfolding link_number when◌then◌else◌
     link-taken h = rw (← is, h)
 
     pub link-none : ok n ≡ false → bad 20 0 ≡ link_number ok t at
-    unfolding link_number if◌then◌else◌
+    unfolding link_number when◌then◌else◌
     link-none h = rw (← is, h)
 
 pub string-there : (most n : ℕ) → n ≤ most → at_most most n ≡ true
@@ -263,7 +263,7 @@ string-missing most n h = lt-leb n most h
 -- ── the widths, as code chooses them ──
 
 pub width-last : (e : ℕ) → 9 < e → e < 12 → whole_width e ≡ 8
-unfolding whole_width if◌then◌else◌
+unfolding whole_width when◌then◌else◌
 width-last e h l =
     elim (dec_le e 10) [
       | yes d ↦ (let is : e ≡ 10 = omega arith in rw is)
@@ -272,7 +272,7 @@ width-last e h l =
 
 -- a bool and i8 are one byte
 pub one_byte : (e : ℕ) → 6 ≤ e → e < 8 → ((n : ℕ) → in_bytes e n ≡ put_fixed 1 n) × (bound_in e ≡ 256)
-unfolding in_bytes bound_in if◌then◌else◌
+unfolding in_bytes bound_in when◌then◌else◌
 one_byte e h l =
     elim (dec_le e 6) [
       | yes d ↦ (let is : e ≡ 6 = omega arith in rw is ((λ n. refl), refl))
@@ -280,12 +280,12 @@ one_byte e h l =
     ]
 
 pub four_bytes : (e : ℕ) → (e ≡ 9) ⊎ (e ≡ 12) → ((n : ℕ) → in_bytes e n ≡ put_fixed 4 n) × (bound_in e ≡ 256 ^ 4)
-unfolding in_bytes bound_in if◌then◌else◌
+unfolding in_bytes bound_in when◌then◌else◌
 four_bytes e (inl is) = rw is ((λ n. refl), refl)
 four_bytes e (inr is) = rw is ((λ n. refl), refl)
 
 pub eight-bytes : (e : ℕ) → (e ≡ 10) ⊎ (e ≡ 13) → (n : ℕ) → in_bytes e n ≡ put_fixed 8 n
-unfolding in_bytes if◌then◌else◌
+unfolding in_bytes when◌then◌else◌
 eight-bytes e (inl is) n = rw is
 eight-bytes e (inr is) n = rw is
 
@@ -306,7 +306,7 @@ pub object-kind : (e : ℕ) → single_kind? e ≡ true → 11 < e → (e ≡ 12
 object-kind e listed h a b c = listed-object e listed (past (past h a) b) c
 
 pub v64-bytes : (e n : ℕ) → (e ≡ 11) ⊎ (13 < e) → in_bytes e n ≡ put n
-unfolding in_bytes if◌then◌else◌
+unfolding in_bytes when◌then◌else◌
 v64-bytes e n (inl is) = rw is
 v64-bytes e n (inr h) = rw (ne_eqb e 6 (λ z. omega arith), lt-leb e 11 (omega arith), lt-leb e 13 h)
 
@@ -322,16 +322,16 @@ unsigned-below w (pos n) h = omega (arith, ltb-true n (256 ^ w / 2) h)
 unsigned-below w (negsuc n) h = omega (arith, one-le-pow w 256 (lit< tt))
 
 writes-whole : (e : ℕ) (v : ℤ) → eqb e 6 ≡ false → leb e 11 ≡ true → whole? (e - 7) v ≡ true → Writes e (whole v)
-unfolding put_element put_whole in_bytes bound_in number_of whole_width whole? if◌then◌else◌
+unfolding put_element put_whole in_bytes bound_in number_of whole_width whole? when◌then◌else◌
 writes-whole e v x y = go (ltb (e - 7) 4) refl
   where
-    go : (b : Bool) → ltb (e - 7) 4 ≡ b → signed? (if b then 2 ^ (e - 7) else 8) v ≡ true → Writes e (whole v)
+    go : (b : Bool) → ltb (e - 7) 4 ≡ b → signed? (when b then 2 ^ (e - 7) else 8) v ≡ true → Writes e (whole v)
     go true z h = record { bytes = rw (x, y, z); fits = rw (x, y, z) (unsigned-below (2 ^ (e - 7)) v h) }
     go false z h = record { bytes = rw (x, y, z); fits = rw (x, y, z) (unsigned-below 8 v h) }
 
 module _ (strings : ℕ) (pools first last : List ℕ) where
   pub kept-writes : (e : ℕ) → eqb e 5 ≡ false → (x : Element) → kept strings pools first last e x ≡ true → Writes e x
-  unfolding kept put_element in_bytes bound_in number_of if◌then◌else◌ put_fixed
+  unfolding kept put_element in_bytes bound_in number_of when◌then◌else◌ put_fixed
   kept-writes e single (flag true) h = let is = eqb-true e 6 h in record { bytes = rw is; fits = rw is (omega arith) }
   kept-writes e single (flag false) h = let is = eqb-true e 6 h in record { bytes = rw is; fits = rw is (omega arith) }
   kept-writes e single (annotation m n) h = not_so (sym single ∙ (and_split (eqb e 5) _ h).0)

@@ -10,7 +10,7 @@ use Rattle.std.proofs.Math.Decide.{ℕ_discrete}
 use Rattle.std.proofs.Math.Dec.{eqb-zero-suc, eqb-suc-zero, eqb-suc-suc}
 use Rattle.std.proofs.Math.ListN.{length}
 use borrow.Author.Tests.{eq-eqb, ne_eqb, lt-ltb, le-leb}
-use Rattle.paper.specs.Reader.{if◌then◌else◌, Reader, Out, got, no as bad, and_then, ◌>>=◌, ◌>>◌, give, each, times, repeat}
+use Rattle.paper.specs.Reader.{when◌then◌else◌, Reader, Out, got, no as bad, and_then, ◌>>=◌, ◌>>◌, give, each, times, repeat}
 use Rattle.paper.specs.Lists.{all}
 use Rattle.paper.specs.Ledger.{Element}
 use Rattle.paper.specs.Listing.{ascii, tab, newline}
@@ -46,11 +46,11 @@ tested test e = do
 -- ── one byte ──
 
 byte-other : (b : ℕ) (t : List ℕ) (at : ℕ) → (get_or t at 256 ≡ b → ⊥) → byte_is b t at ≡ bad 20 0
-unfolding byte_is if◌then◌else◌
+unfolding byte_is when◌then◌else◌
 byte-other b t at n = rw (ne_eqb (get_or t at 256) b n)
 
 byte-here : (b : ℕ) (t : List ℕ) (at : ℕ) → get_or t at 256 ≡ b → byte_is b t at ≡ got tt (at + 1)
-unfolding byte_is if◌then◌else◌
+unfolding byte_is when◌then◌else◌
 byte-here b t at h = rw (eq-eqb (get_or t at 256) b h)
 
 -- ── so many ──
@@ -92,21 +92,21 @@ module _ (ok : Element → Bool) (e : ℕ) (t : List ℕ) where
     tabbed-tab :
         (n : ℕ) (k : List Element → ℕ → Out B) → get_or t at 256 ≡ tab
         → and_then (tabbed (suc n) (read_element e) t at) k ≡ and_then (read_element e t (at + 1)) (λ x d. and_then (tabbed n (read_element e) t d) λ l q. k (x ∷ l) q)
-    unfolding tabbed if◌then◌else◌
+    unfolding tabbed when◌then◌else◌
     tabbed-tab n k h =
         rw (eq-eqb (get_or t at 256) tab h)
         (then-then (read_element e t (at + 1)) _ k
         ∙ same_then _ _ (word (at + 1)) (λ x d w. then-then (tabbed n (read_element e) t d) (λ l q. got (x ∷ l) q) k))
 
     tabbed-none : (n : ℕ) (k : List Element → ℕ → Out B) → (get_or t at 256 ≡ tab → ⊥) → and_then (tabbed (suc n) (read_element e) t at) k ≡ k [] at
-    unfolding tabbed if◌then◌else◌
+    unfolding tabbed when◌then◌else◌
     tabbed-none n k h = rw (ne_eqb (get_or t at 256) tab h)
 
     repeat-tab :
         (m : ℕ) (k : List Element → ℕ → Out B) → get_or t at 256 ≡ tab
         → and_then (repeat (suc m) (behind_tab ok e) t at) k
-        ≡ and_then (read_element e t (at + 1)) (λ x d. if ok x then and_then (repeat m (behind_tab ok e) t d) (λ l q. k (x ∷ l) q) else bad 20 0)
-    unfolding behind_tab judged heed ◌>>=◌ ◌>>◌ give if◌then◌else◌
+        ≡ and_then (read_element e t (at + 1)) (λ x d. when ok x then and_then (repeat m (behind_tab ok e) t d) (λ l q. k (x ∷ l) q) else bad 20 0)
+    unfolding behind_tab judged heed ◌>>=◌ ◌>>◌ give when◌then◌else◌
     repeat-tab m k h =
         rw (repeat-more (behind_tab ok e) m t at, byte-here tab t at h)
         (then-then (and_then (read_element e t (at + 1)) held) _ k
@@ -114,12 +114,12 @@ module _ (ok : Element → Bool) (e : ℕ) (t : List ℕ) where
         ∙ same_then _ _ (word (at + 1)) (λ x d w. go x d (ok x)))
       where
         held : Element → ℕ → Out Element
-        held = λ x d. and_then (if ok x then got (tt {0}) d else bad 20 0) λ u q. got x q
+        held = λ x d. and_then (when ok x then got (tt {0}) d else bad 20 0) λ u q. got x q
 
         go :
             (x : Element) (d : ℕ) (b : Bool)
-            → and_then (and_then (if b then got (tt {0}) d else bad 20 0) (λ u q. got x q)) (λ y q. and_then (and_then (repeat m (behind_tab ok e) t q) (λ l p. got (y ∷ l) p)) k)
-            ≡ (if b then and_then (repeat m (behind_tab ok e) t d) (λ l q. k (x ∷ l) q) else bad 20 0)
+            → and_then (and_then (when b then got (tt {0}) d else bad 20 0) (λ u q. got x q)) (λ y q. and_then (and_then (repeat m (behind_tab ok e) t q) (λ l p. got (y ∷ l) p)) k)
+            ≡ (when b then and_then (repeat m (behind_tab ok e) t d) (λ l q. k (x ∷ l) q) else bad 20 0)
         go x d true = then-then (repeat m (behind_tab ok e) t d) (λ l p. got (x ∷ l) p) k
         go x d false = refl
 
@@ -131,10 +131,10 @@ module _ (ok : Element → Bool) (e : ℕ) (t : List ℕ) where
 
   -- what follows the elements of a line: its end, and a test of them
   unfoldable ends : {B : Type 0} → Bool → ℕ → (ℕ → Out B) → Out B
-  ends b q k = and_then (byte_is newline t q) λ u d. if b then k d else bad 20 0
+  ends b q k = and_then (byte_is newline t q) λ u d. when b then k d else bad 20 0
 
   ends-no : {B : Type 0} (q : ℕ) (k : ℕ → Out B) → ends false q k ≡ bad 20 0
-  unfolding ends if◌then◌else◌
+  unfolding ends when◌then◌else◌
   ends-no q k = refused-then _ (byte-fate newline t q) (λ u d h. refl)
 
   ends-tab : {B : Type 0} (b : Bool) (q : ℕ) (k : ℕ → Out B) → get_or t q 256 ≡ tab → ends b q k ≡ bad 20 0
@@ -164,7 +164,7 @@ module _ (ok : Element → Bool) (e : ℕ) (t : List ℕ) where
       {B : Type 0} (m n : ℕ) → m ≤ n → (at : ℕ) (k : List Element → ℕ → Out B)
       → and_then (tabbed n (read_element e) t at) (λ l q. ends (eqb (length l) m && all ok l) q (k l))
       ≡ and_then (repeat m (behind_tab ok e) t at) (λ l q. ends true q (k l))
-  unfolding all if◌then◌else◌
+  unfolding all when◌then◌else◌
   exact {B} zero n h at k = exact_none n at k ∙ sym (rw (repeat-over (behind_tab ok e) t at))
   exact {B} (suc m) zero h at k = absurd (omega arith)
   exact {B} (suc m) (suc n) h at k = go (ℕ_discrete (get_or t at 256) tab) (λ d j. exact m n (omega arith) d j)
@@ -181,7 +181,7 @@ module _ (ok : Element → Bool) (e : ℕ) (t : List ℕ) where
           by :
               (x : Element) (p : ℕ) (b : Bool)
               → and_then (tabbed n (read_element e) t p) (λ l q. ends (eqb (suc (length l)) (suc m) && (b && all ok l)) q (k (x ∷ l)))
-              ≡ (if b then and_then (repeat m (behind_tab ok e) t p) (λ l q. ends true q (k (x ∷ l))) else bad 20 0)
+              ≡ (when b then and_then (repeat m (behind_tab ok e) t p) (λ l q. ends true q (k (x ∷ l))) else bad 20 0)
           by x p true = same_then _ _ (tabbed-counts (read_element e) (words_of e) t word n p) (λ l q C. rw (eqb-suc-suc (length l) m)) ∙ more p (λ l. k (x ∷ l))
           by x p false = all-refused n p _ (λ l q. rw (and_no (eqb (suc (length l)) (suc m))) (ends-no q (k (x ∷ l))))
 
@@ -193,12 +193,12 @@ module _ (ok : Element → Bool) (e : ℕ) (t : List ℕ) where
     rest n q = and_then (ended newline (tabbed n (read_element e)) t q) (λ v. (heed (test v) >> give v) t)
 
     rest-ends : (n q : ℕ) → rest n q ≡ and_then (tabbed n (read_element e) t q) (λ v d. ends (test v) d (got v))
-    unfolding rest ended ends heed ◌>>=◌ ◌>>◌ give if◌then◌else◌
+    unfolding rest ended ends heed ◌>>=◌ ◌>>◌ give when◌then◌else◌
     rest-ends n q =
         then-then (tabbed n (read_element e) t q) _ _
         ∙ same_then _ _ (tabbed-counts (read_element e) (words_of e) t word n q) (λ v d C. then-then (byte_is newline t d) _ _ ∙ same_then _ _ (byte-fate newline t d) (λ u p h. by v p (test v)))
       where
-        by : (v : List Element) (p : ℕ) (b : Bool) → and_then (if b then got (tt {0}) p else bad 20 0) (λ u q. got v q) ≡ (if b then got v p else bad 20 0)
+        by : (v : List Element) (p : ℕ) (b : Bool) → and_then (when b then got (tt {0}) p else bad 20 0) (λ u q. got v q) ≡ (when b then got v p else bad 20 0)
         by v p true = refl
         by v p false = refl
 
@@ -206,7 +206,7 @@ module _ (ok : Element → Bool) (e : ℕ) (t : List ℕ) where
     rest-exact :
         (n m q : ℕ) → m ≤ n → ((v : List Element) (d : ℕ) → Counted (words_of e) t q n v d → get_or t d 256 ≡ newline → test v ≡ (eqb (length v) m && all ok v))
         → rest n q ≡ ended newline (repeat m (behind_tab ok e)) t q
-    unfolding ends ended ◌>>=◌ ◌>>◌ give if◌then◌else◌
+    unfolding ends ended ◌>>=◌ ◌>>◌ give when◌then◌else◌
     rest-exact n m q h same =
         rest-ends n q
         ∙ same_then _ _ (tabbed-counts (read_element e) (words_of e) t word n q) (λ v d C. same_then _ _ (byte-fate newline t d) (λ u p z. rw (same v d C z.0)))
@@ -214,7 +214,7 @@ module _ (ok : Element → Bool) (e : ℕ) (t : List ℕ) where
 
     rest-none :
         (n q : ℕ) → ((v : List Element) (d : ℕ) → Counted (words_of e) t q n v d → get_or t d 256 ≡ newline → test v ≡ false) → rest n q ≡ bad 20 0
-    unfolding ends if◌then◌else◌
+    unfolding ends when◌then◌else◌
     rest-none n q never =
         rest-ends n q
         ∙ refused-then _ (tabbed-counts (read_element e) (words_of e) t word n q) (λ v d C. refused-then _ (byte-fate newline t d) (λ u p z. rw (never v d C z.0)))
@@ -253,10 +253,10 @@ module _ (ok : Element → Bool) (e : ℕ) (t : List ℕ) (at : ℕ) where
   module _ {u : Unit {0}} {q : ℕ} (val : literal (ascii "val") t at ≡ got u q) where
     -- so many elements as there are tabs for
     counted : {v : List Element} {d : ℕ} → Counted (words_of e) t q most_objects v d → get_or t d 256 ≡ newline → length v ≡ tabs_from t q / words_of e
-    unfolding words_of if◌then◌else◌
+    unfolding words_of when◌then◌else◌
     counted {v} {d} C z = go (eqb e 5) C.tabs
       where
-        go : (b : Bool) → tabs_from t q ≡ length v * (if b then 2 else 1) + tabs_from t d → length v ≡ tabs_from t q / (if b then 2 else 1)
+        go : (b : Bool) → tabs_from t q ≡ length v * (when b then 2 else 1) + tabs_from t d → length v ≡ tabs_from t q / (when b then 2 else 1)
         go true h = omega (arith, h, at-newline t d z)
         go false h = omega (arith, h, at-newline t d z)
 

@@ -3,7 +3,7 @@ use Rattle.std.specs.Prelude.{◌≡◌, refl, Bool, true, false, ℕ}
 use Rattle.std.proofs.Math.Path.{sym}
 use Rattle.std.proofs.Common.{◌∙◌}
 use mathlib.Core.List.{List, [], ◌∷◌}
-use Rattle.paper.specs.Reader.{if◌then◌else◌, Reader, Out, got, no as bad, and_then, ◌>>=◌, ◌>>◌, give, repeat}
+use Rattle.paper.specs.Reader.{when◌then◌else◌, Reader, Out, got, no as bad, and_then, ◌>>=◌, ◌>>◌, give, repeat}
 use Rattle.paper.specs.Lists.{flat, all}
 use Rattle.paper.specs.Ledger.{mapping, Element, State}
 use Rattle.paper.specs.Rules.{element_kind?}
@@ -44,14 +44,14 @@ module _ (strings : ℕ) (pools starts first last kinds t : List ℕ) (from : �
 line-held :
     {t : List ℕ} {r q : Reader (List Element)} {test : List Element → Bool} {F : List Element → Type 0} → Held t r q test F → (at : ℕ)
     → ((literal (ascii "val") >> ended newline r) >>= λ v. heed (test v) >> give v) t at ≡ (literal (ascii "val") >> ended newline q) t at
-unfolding ended heed if◌then◌else◌ ◌>>=◌ ◌>>◌ give held_to
+unfolding ended heed when◌then◌else◌ ◌>>=◌ ◌>>◌ give held_to
 line-held {t} {r} {q} {test} {F} X at = then-then (literal (ascii "val") t at) _ _ ∙ go (literal (ascii "val") t at)
   where
     -- the end of the line, and the test before it or behind it
     ends :
         (a : List Element) (b : Bool) → test a ≡ b → (d : ℕ) {P : Unit {0} → ℕ → Type 0} {o : Out (Unit {0})} → Fate P o → byte_is newline t d ≡ o
-        → and_then (and_then o (λ u e. got a e)) (λ v e. and_then (if test v then got (tt {0}) e else bad 20 0) (λ u p. got v p))
-        ≡ and_then (if b then got a d else bad 20 0) (λ v e. and_then (byte_is newline t e) (λ u p. got v p))
+        → and_then (and_then o (λ u e. got a e)) (λ v e. and_then (when test v then got (tt {0}) e else bad 20 0) (λ u p. got v p))
+        ≡ and_then (when b then got a d else bad 20 0) (λ v e. and_then (byte_is newline t e) (λ u p. got v p))
     ends a true h d (gives u e p) is = rw (h, is)
     ends a true h d refuses is = rw is
     ends a false h d (gives u e p) is = rw h
@@ -59,14 +59,14 @@ line-held {t} {r} {q} {test} {F} X at = then-then (literal (ascii "val") t at) _
 
     words :
         {o : Out (List Element)} → Fate (λ a d. F a) o
-        → and_then (and_then o (λ a d. and_then (byte_is newline t d) (λ u e. got a e))) (λ v e. and_then (if test v then got (tt {0}) e else bad 20 0) (λ u p. got v p))
-        ≡ and_then (and_then o (λ a d. if test a then got a d else bad 20 0)) (λ v e. and_then (byte_is newline t e) (λ u p. got v p))
+        → and_then (and_then o (λ a d. and_then (byte_is newline t d) (λ u e. got a e))) (λ v e. and_then (when test v then got (tt {0}) e else bad 20 0) (λ u p. got v p))
+        ≡ and_then (and_then o (λ a d. when test a then got a d else bad 20 0)) (λ v e. and_then (byte_is newline t e) (λ u p. got v p))
     words (gives a d f) = ends a (test a) refl d (byte-fate newline t d) refl
     words refuses = refl
 
     go :
         (o : Out (Unit {0}))
-        → and_then o (λ u p. and_then (and_then (r t p) (λ a d. and_then (byte_is newline t d) (λ u e. got a e))) (λ v e. and_then (if test v then got (tt {0}) e else bad 20 0) (λ u p. got v p)))
+        → and_then o (λ u p. and_then (and_then (r t p) (λ a d. and_then (byte_is newline t d) (λ u e. got a e))) (λ v e. and_then (when test v then got (tt {0}) e else bad 20 0) (λ u p. got v p)))
         ≡ and_then o (λ u p. and_then (q t p) (λ a d. and_then (byte_is newline t d) (λ u e. got a e)))
     go (got u p) = rw (X.same p) (words (X.fate p))
     go (bad n p) = refl

@@ -5,7 +5,7 @@ use Rattle.std.proofs.Common.{sym, ap, ◌∙◌, arith}
 use Rattle.std.proofs.Math.Bool.{true, false}
 use mathlib.Core.List.{List, [], ◌∷◌, ◌++◌, map, append-nil}
 use borrow.Author.Tests.{lt-ltb, le-leb, lt-leb}
-use Rattle.paper.specs.Reader.{if◌then◌else◌, Reader, got, no as bad, and_then, ◌>>=◌, ◌>>◌, give, repeat}
+use Rattle.paper.specs.Reader.{when◌then◌else◌, Reader, got, no as bad, and_then, ◌>>=◌, ◌>>◌, give, repeat}
 use Rattle.paper.specs.Lists.{flat}
 use Rattle.paper.specs.Ledger.{Element, keys}
 use Rattle.paper.specs.Maps.{key_and_rest, map_of, size_of, keys_due, opened, at_first, through_maps}
@@ -65,15 +65,15 @@ module _ (t : List ℕ) (from : ℕ) where
 
     module _ {n q : ℕ} (word : got n q ≡ natural t p) where
       pub size-large : 65535 < n → bad 20 0 ≡ size_word t from
-      unfolding size_word heed number? hold? small_rules if◌then◌else◌ ◌>>=◌ ◌>>◌
+      unfolding size_word heed number? hold? small_rules when◌then◌else◌ ◌>>=◌ ◌>>◌
       size-large h = rw (← tabbed, ← word, lt-leb n 65535 h) (go (ltb n (256 ^ 8)))
         where
-          go : (b : Bool) → bad 20 0 ≡ and_then (if b && false then got (tt {0}) q else bad 20 0) (λ u. give n t)
+          go : (b : Bool) → bad 20 0 ≡ and_then (when b && false then got (tt {0}) q else bad 20 0) (λ u. give n t)
           go true = refl
           go false = refl
 
       pub size-taken : n ≤ 65535 → got n q ≡ size_word t from
-      unfolding size_word heed number? hold? small_rules if◌then◌else◌ ◌>>=◌ ◌>>◌ give
+      unfolding size_word heed number? hold? small_rules when◌then◌else◌ ◌>>=◌ ◌>>◌ give
       size-taken h = rw (← tabbed, ← word, le-leb n 65535 h, lt-ltb n (256 ^ 8) (omega arith))
 
 -- ── a map ──

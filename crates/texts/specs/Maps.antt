@@ -6,7 +6,7 @@ use Rattle.std.proofs.Common.{sym, ◌∙◌}
 use Rattle.std.proofs.Math.Bool.{true, false}
 use mathlib.Core.List.{List, [], ◌∷◌, ◌++◌, map, append_assoc, append-nil}
 use Prim.Native.Nat.{ℕ, zero, suc}
-use Rattle.paper.specs.Reader.{if◌then◌else◌, Reader, Out, got, no as bad, and_then, ◌>>=◌, ◌>>◌, give, each, times, repeat}
+use Rattle.paper.specs.Reader.{when◌then◌else◌, Reader, Out, got, no as bad, and_then, ◌>>=◌, ◌>>◌, give, each, times, repeat}
 use Rattle.paper.specs.Lists.{flat}
 use Rattle.paper.specs.Ledger.{Element, keys}
 use Rattle.paper.specs.Maps.{key_and_rest, map_of, size_of, size?, keys_due, opened, at_first, through_maps, all_through}
@@ -35,7 +35,7 @@ put_key (k ∷ ks) es = through_maps put_element put_size es ((k ∷ []) ∷ ks 
 -- ── a reading held to a test: whatever is wrong is refused alike ──
 
 unfoldable pub held_to : {A : Type 0} → (A → Bool) → Out A → Out A
-held_to test o = and_then o λ v d. if test v then got v d else bad 20 0
+held_to test o = and_then o λ v d. when test v then got v d else bad 20 0
 
 -- q reads what r reads and the test lets pass; F holds of all that r reads, and what r refuses is refused by 20
 pub record Held {A : Type 0} (t : List ℕ) (r q : Reader A) (test : A → Bool) (F : A → Type 0) : Type 0 where
@@ -47,40 +47,40 @@ Anything a = Unit {0}
 
 -- what q reads was read by r
 pub held-read : {A : Type 0} {t : List ℕ} {r q : Reader A} {test : A → Bool} {F : A → Type 0} {at : ℕ} {v : A} {d : ℕ} → Held t r q test F → q t at ≡ got v d → F v
-unfolding held_to if◌then◌else◌
+unfolding held_to when◌then◌else◌
 held-read {A} {t} {r} {q} {test} {F} {at} {v} {d} X h = go (X.fate at) (sym (X.same at) ∙ h)
   where
-    by : (a : A) (e : ℕ) → F a → (b : Bool) → (if b then got a e else bad 20 0) ≡ got v d → F v
+    by : (a : A) (e : ℕ) → F a → (b : Bool) → (when b then got a e else bad 20 0) ≡ got v d → F v
     by a e f true z = let is : a ≡ v = cc z in rw is at f
     by a e f false z = not-got z
 
-    go : {o : Out A} → Fate (λ a e. F a) o → and_then o (λ a e. if test a then got a e else bad 20 0) ≡ got v d → F v
+    go : {o : Out A} → Fate (λ a e. F a) o → and_then o (λ a e. when test a then got a e else bad 20 0) ≡ got v d → F v
     go (gives a e f) z = by a e f (test a) z
     go refuses z = not-got z
 
 -- the same test in other words
 pub held-as : {A : Type 0} {t : List ℕ} {r q : Reader A} {P Q : A → Bool} {F : A → Type 0} → ((a : A) → P a ≡ Q a) → Held t r q P F → Held t r q Q F
-unfolding held_to if◌then◌else◌
+unfolding held_to when◌then◌else◌
 held-as {A} {t} {r} {q} {P} {Q} {F} alike X = record { fate = X.fate; same = λ at. X.same at ∙ go (r t at) }
   where
-    go : (o : Out A) → and_then o (λ a e. if P a then got a e else bad 20 0) ≡ and_then o (λ a e. if Q a then got a e else bad 20 0)
+    go : (o : Out A) → and_then o (λ a e. when P a then got a e else bad 20 0) ≡ and_then o (λ a e. when Q a then got a e else bad 20 0)
     go (got a e) = rw (alike a)
     go (bad n p) = refl
 
 held-give : {A : Type 0} {t : List ℕ} (a : A) {test : A → Bool} {F : A → Type 0} → test a ≡ true → F a → Held t (give a) (give a) test F
-unfolding give held_to if◌then◌else◌
+unfolding give held_to when◌then◌else◌
 held-give a h f = record { fate = λ at. gives a at f; same = λ at. rw h }
 
 -- a value that is held to its test at once
 held-judged : {A : Type 0} {t : List ℕ} (r : Reader A) (ok : A → Bool) {F : A → Type 0} → ((at : ℕ) → Fate (λ a d. F a) (r t at)) → Held t r (r >>= λ a. heed (ok a) >> give a) ok F
-unfolding held_to heed if◌then◌else◌ ◌>>=◌ ◌>>◌ give
+unfolding held_to heed when◌then◌else◌ ◌>>=◌ ◌>>◌ give
 held-judged {A} {t} r ok fate = record { fate = fate; same = λ at. go (r t at) }
   where
-    by : (a : A) (d : ℕ) (b : Bool) → and_then (if b then got (tt {0}) d else bad 20 0) (λ u e. got a e) ≡ (if b then got a d else bad 20 0)
+    by : (a : A) (d : ℕ) (b : Bool) → and_then (when b then got (tt {0}) d else bad 20 0) (λ u e. got a e) ≡ (when b then got a d else bad 20 0)
     by a d true = refl
     by a d false = refl
 
-    go : (o : Out A) → and_then o (λ a d. and_then (if ok a then got (tt {0}) d else bad 20 0) (λ u e. got a e)) ≡ and_then o (λ a d. if ok a then got a d else bad 20 0)
+    go : (o : Out A) → and_then o (λ a d. and_then (when ok a then got (tt {0}) d else bad 20 0) (λ u e. got a e)) ≡ and_then o (λ a d. when ok a then got a d else bad 20 0)
     go (got a d) = by a d (ok a)
     go (bad n p) = refl
 
@@ -93,7 +93,7 @@ held-tab : {A : Type 0} {t : List ℕ} {r q : Reader A} {test : A → Bool} {F :
 unfolding held_to ◌>>◌
 held-tab {A} {t} {r} {q} {test} X = record { fate = λ at. fate-then _ (byte-fate tab t at) (λ u d h. X.fate d); same = λ at. go (byte_is tab t at) }
   where
-    go : (o : Out (Unit {0})) → and_then o (λ u. q t) ≡ and_then (and_then o (λ u. r t)) (λ a d. if test a then got a d else bad 20 0)
+    go : (o : Out (Unit {0})) → and_then o (λ u. q t) ≡ and_then (and_then o (λ u. r t)) (λ a d. when test a then got a d else bad 20 0)
     go (got u d) = X.same d
     go (bad n p) = refl
 
@@ -104,30 +104,30 @@ module _
     (join : (a : A) (b : B) → F a → G a b → (R (c a b) ≡ (P a && Q a b)) × H (c a b)) where
   second-kept :
       (a : A) → F a → P a ≡ true → {o : Out B} → Fate (λ b e. G a b) o
-      → and_then (and_then o (λ b e. if Q a b then got b e else bad 20 0)) (λ b e. got (c a b) e) ≡ and_then (and_then o (λ b e. got (c a b) e)) (λ v e. if R v then got v e else bad 20 0)
-  unfolding if◌then◌else◌
+      → and_then (and_then o (λ b e. when Q a b then got b e else bad 20 0)) (λ b e. got (c a b) e) ≡ and_then (and_then o (λ b e. got (c a b) e)) (λ v e. when R v then got v e else bad 20 0)
+  unfolding when◌then◌else◌
   second-kept a f z (gives b e g) = rw ((join a b f g).0, z) (by (Q a b))
     where
-      by : (x : Bool) → and_then (if x then got b e else bad 20 0) (λ b d. got (c a b) d) ≡ (if x then got (c a b) e else bad 20 0)
+      by : (x : Bool) → and_then (when x then got b e else bad 20 0) (λ b d. got (c a b) d) ≡ (when x then got (c a b) e else bad 20 0)
       by true = refl
       by false = refl
   second-kept a f z refuses = refl
 
-  second-lost : (a : A) → F a → P a ≡ false → {o : Out B} → Fate (λ b e. G a b) o → bad 20 0 ≡ and_then (and_then o (λ b e. got (c a b) e)) (λ v e. if R v then got v e else bad 20 0)
-  unfolding if◌then◌else◌
+  second-lost : (a : A) → F a → P a ≡ false → {o : Out B} → Fate (λ b e. G a b) o → bad 20 0 ≡ and_then (and_then o (λ b e. got (c a b) e)) (λ v e. when R v then got v e else bad 20 0)
+  unfolding when◌then◌else◌
   second-lost a f z (gives b e g) = rw ((join a b f g).0, z)
   second-lost a f z refuses = refl
 
   both-held :
       {o : Out A} → Fate (λ a d. F a) o
-      → and_then (and_then o (λ a d. if P a then got a d else bad 20 0)) (λ a d. and_then (u a t d) (λ b e. got (c a b) e))
-      ≡ and_then (and_then o (λ a d. and_then (s a t d) (λ b e. got (c a b) e))) (λ v e. if R v then got v e else bad 20 0)
-  unfolding held_to if◌then◌else◌
+      → and_then (and_then o (λ a d. when P a then got a d else bad 20 0)) (λ a d. and_then (u a t d) (λ b e. got (c a b) e))
+      ≡ and_then (and_then o (λ a d. and_then (s a t d) (λ b e. got (c a b) e))) (λ v e. when R v then got v e else bad 20 0)
+  unfolding held_to when◌then◌else◌
   both-held (gives a d f) = by (P a) refl
     where
       by :
           (x : Bool) → P a ≡ x
-          → and_then (if x then got a d else bad 20 0) (λ a d. and_then (u a t d) (λ b e. got (c a b) e)) ≡ and_then (and_then (s a t d) (λ b e. got (c a b) e)) (λ v e. if R v then got v e else bad 20 0)
+          → and_then (when x then got a d else bad 20 0) (λ a d. and_then (u a t d) (λ b e. got (c a b) e)) ≡ and_then (and_then (s a t d) (λ b e. got (c a b) e)) (λ v e. when R v then got v e else bad 20 0)
       by true z = rw ((Y a).same d) (second-kept a f z ((Y a).fate d))
       by false z = second-lost a f z ((Y a).fate d)
   both-held refuses = refl

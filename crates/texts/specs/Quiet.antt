@@ -6,7 +6,7 @@ use Rattle.std.proofs.Common.{ap, ◌∙◌, add-one, add-zero, zero-add, suc-mu
 use native.Mathlib.Omega.{arith}
 use Rattle.std.proofs.Math.Decide.{dec_le}
 use Rattle.std.proofs.Math.ListN.{length, get_or-eq_default}
-use Rattle.paper.specs.Reader.{if◌then◌else◌, Reader, Out, got, no as bad, and_then, ◌>>=◌, ◌>>◌, give}
+use Rattle.paper.specs.Reader.{when◌then◌else◌, Reader, Out, got, no as bad, and_then, ◌>>=◌, ◌>>◌, give}
 use Rattle.paper.specs.Ledger.{flag, whole, float, link, annotation}
 use Rattle.paper.specs.Listing.{tab, newline, dash}
 use Rattle.paper.specs.Scan.{digit?, too_large?, digits_on, decimal_in, natural, negative, positive, integer, nibble, hex_on, byte_is, ended, read_flag, read_element, tabbed}
@@ -17,7 +17,7 @@ use Rattle.words.specs.Answers.{Peeked}
 
 unfoldable pub tabs_in : List ℕ → ℕ
 tabs_in [] = 0
-tabs_in (b ∷ ts) = if eqb b newline then 0 else if eqb b tab then suc (tabs_in ts) else tabs_in ts
+tabs_in (b ∷ ts) = when eqb b newline then 0 else when eqb b tab then suc (tabs_in ts) else tabs_in ts
 
 -- in the line, from a place on
 unfoldable pub tabs_from : List ℕ → ℕ → ℕ
@@ -29,7 +29,7 @@ pub record Quiet (b : ℕ) : Type 0 where
   pub no-newline : b ≡ 10 → ⊥
 
 tabs-quiet : (b : ℕ) (ts : List ℕ) → Quiet b → tabs_in (b ∷ ts) ≡ tabs_in ts
-unfolding tabs_in if◌then◌else◌
+unfolding tabs_in when◌then◌else◌
 tabs-quiet b ts Q = rw (ne_eqb b 10 Q.no-newline, ne_eqb b 9 Q.no-tab)
 
 module _ (t : List ℕ) (p : ℕ) where
@@ -59,11 +59,11 @@ module _ (t : List ℕ) (p : ℕ) where
       ]
 
   pub over-tab : get_or t p 256 ≡ 9 → tabs_from t p ≡ suc (tabs_from t (p + 1))
-  unfolding tabs_from tabs_in if◌then◌else◌
+  unfolding tabs_from tabs_in when◌then◌else◌
   over-tab is = rw (inside (byte_inside (omega arith) is), is)
 
   pub at-newline : get_or t p 256 ≡ 10 → tabs_from t p ≡ 0
-  unfolding tabs_from tabs_in if◌then◌else◌
+  unfolding tabs_from tabs_in when◌then◌else◌
   at-newline is = rw (inside (byte_inside (omega arith) is), is)
 
   pub at-end : length t ≤ p → tabs_from t p ≡ 0
@@ -147,7 +147,7 @@ pub record Small (n : ℕ) : Type 0 where
   pub below : n < 2 ^ 64
 
 digits-word : (t : List ℕ) (ts : List ℕ) (v e : ℕ) → drop e t ≡ ts → v < 2 ^ 64 → Fate (Word Small t e) (digits_on v e ts)
-unfolding digits_on if◌then◌else◌ too_large? tabs_from
+unfolding digits_on when◌then◌else◌ too_large? tabs_from
 digits-word t [] v e q h = gives v e (record { tabs = refl; holds = record { below = h } })
 digits-word t (b ∷ ts) v e q h =
     let next = drop-on t e b ts q in
@@ -156,7 +156,7 @@ digits-word t (b ∷ ts) v e q h =
     go :
         (x : Bool) → digit? b ≡ x → (y : Bool) → leb (2 ^ 64) (10 * v + (b - 48)) ≡ y → drop (e + 1) t ≡ ts
         → ((w : ℕ) → w < 2 ^ 64 → Fate (Word Small t (e + 1)) (digits_on w (e + 1) ts))
-        → Fate (Word Small t e) (if x then (if y then bad 20 0 else digits_on (10 * v + (b - 48)) (e + 1) ts) else got v e)
+        → Fate (Word Small t e) (when x then (when y then bad 20 0 else digits_on (10 * v + (b - 48)) (e + 1) ts) else got v e)
     go false d y l next on = gives v e (record { tabs = refl; holds = record { below = h } })
     go true d true l next on = refuses
     go true d false l next on =
@@ -164,7 +164,7 @@ digits-word t (b ∷ ts) v e q h =
         later t e (e + 1) same (on (10 * v + (b - 48)) (leb-false (2 ^ 64) (10 * v + (b - 48)) l))
 
 pub natural-word : (t : List ℕ) (at : ℕ) → Fate (Word Small t at) (natural t at)
-unfolding natural decimal_in if◌then◌else◌ tabs_from
+unfolding natural decimal_in when◌then◌else◌ tabs_from
 natural-word t at = on (drop at t) refl
   where
     on : (ts : List ℕ) → drop at t ≡ ts → Fate (Word Small t at) (decimal_in at ts)
@@ -176,7 +176,7 @@ natural-word t at = on (drop at t) refl
 
         go :
             (x : Bool) → eqb b 48 ≡ x → (y : Bool) → digit? b ≡ y → drop (at + 1) t ≡ ts
-            → Fate (Word Small t at) (if x then got 0 (at + 1) else if y then digits_on (b - 48) (at + 1) ts else bad 20 0)
+            → Fate (Word Small t at) (when x then got 0 (at + 1) else when y then digits_on (b - 48) (at + 1) ts else bad 20 0)
         go true z y d next =
             let is = eqb-true b 48 z in
             gives 0 (at + 1) (record { tabs = same (record { no-tab = λ e. omega arith; no-newline = λ e. omega arith }) next; holds = record { below = omega arith } })
@@ -186,14 +186,14 @@ natural-word t at = on (drop at t) refl
 -- ── signed decimals ──
 
 pub integer-word : (t : List ℕ) (at : ℕ) → Fate (Word Any t at) (integer t at)
-unfolding integer negative positive if◌then◌else◌
+unfolding integer negative positive when◌then◌else◌
 integer-word t at = go (eqb (get_or t at 256) dash) refl
   where
     minus : {o : Out ℕ} → Fate (Word Small t at) o → Fate (Word Any t at) (negative o)
     minus refuses = refuses
     minus (gives n e w) = by (eqb n 0) (ltb (2 ^ 63) n)
       where
-        by : (x y : Bool) → Fate (Word Any t at) (if x then bad 20 0 else if y then bad 20 0 else got (negsuc (n - 1)) e)
+        by : (x y : Bool) → Fate (Word Any t at) (when x then bad 20 0 else when y then bad 20 0 else got (negsuc (n - 1)) e)
         by true y = refuses
         by false true = refuses
         by false false = gives (negsuc (n - 1)) e (record { tabs = w.tabs; holds = tt })
@@ -202,11 +202,11 @@ integer-word t at = go (eqb (get_or t at 256) dash) refl
     plus refuses = refuses
     plus (gives n e w) = by (leb (2 ^ 63) n)
       where
-        by : (x : Bool) → Fate (Word Any t at) (if x then bad 20 0 else got (pos n) e)
+        by : (x : Bool) → Fate (Word Any t at) (when x then bad 20 0 else got (pos n) e)
         by true = refuses
         by false = gives (pos n) e (record { tabs = w.tabs; holds = tt })
 
-    go : (x : Bool) → eqb (get_or t at 256) dash ≡ x → Fate (Word Any t at) (if x then negative (natural t (at + 1)) else positive (natural t at))
+    go : (x : Bool) → eqb (get_or t at 256) dash ≡ x → Fate (Word Any t at) (when x then negative (natural t (at + 1)) else positive (natural t at))
     go true z =
         let is = eqb-true (get_or t at 256) dash z in
         minus (later t at (at + 1) (over-quiet t at (record { no-tab = λ e. omega arith; no-newline = λ e. omega arith })) (natural-word t (at + 1)))
@@ -215,19 +215,19 @@ integer-word t at = go (eqb (get_or t at 256) dash) refl
 -- ── hex digits ──
 
 nibble-quiet : (b : ℕ) → ltb (nibble b) 16 ≡ true → Quiet b
-unfolding nibble if◌then◌else◌
+unfolding nibble when◌then◌else◌
 nibble-quiet b h = record { no-tab = λ e. not_so (rw e at h); no-newline = λ e. not_so (rw e at h) }
 
 -- k digits more, behind j that gave v
 pub hex-word : (t : List ℕ) (k j v at : ℕ) → v < 16 ^ j → Fate (Word (λ n. n < 16 ^ (j + k)) t at) (hex_on k v t at)
-unfolding hex_on if◌then◌else◌
+unfolding hex_on when◌then◌else◌
 hex-word t zero j v at h = gives v at (record { tabs = refl; holds = rw add-zero h })
 hex-word t (suc k) j v at h = go (ltb (nibble (get_or t at 256)) 16) refl (λ w l. hex-word t k (suc j) w (at + 1) l)
   where
     go :
         (x : Bool) → ltb (nibble (get_or t at 256)) 16 ≡ x
         → ((w : ℕ) → w < 16 ^ suc j → Fate (Word (λ n. n < 16 ^ (suc j + k)) t (at + 1)) (hex_on k w t (at + 1)))
-        → Fate (Word (λ n. n < 16 ^ (j + suc k)) t at) (if x then hex_on k (16 * v + nibble (get_or t at 256)) t (at + 1) else bad 20 0)
+        → Fate (Word (λ n. n < 16 ^ (j + suc k)) t at) (when x then hex_on k (16 * v + nibble (get_or t at 256)) t (at + 1) else bad 20 0)
     go false z on = refuses
     go true z on =
         let low = ltb-true (nibble (get_or t at 256)) 16 z in
@@ -238,12 +238,12 @@ hex-word t (suc k) j v at h = go (ltb (nibble (get_or t at 256)) 16) refl (λ w 
 -- ── elements ──
 
 flag_word : (t : List ℕ) (at : ℕ) → Fate (Word Any t at) (read_flag t at)
-unfolding read_flag if◌then◌else◌
+unfolding read_flag when◌then◌else◌
 flag_word t at = go (eqb (get_or t at 256) 48) refl (eqb (get_or t at 256) 49) refl
   where
     go :
         (x : Bool) → eqb (get_or t at 256) 48 ≡ x → (y : Bool) → eqb (get_or t at 256) 49 ≡ y
-        → Fate (Word Any t at) (if x then got (flag false) (at + 1) else if y then got (flag true) (at + 1) else bad 20 0)
+        → Fate (Word Any t at) (when x then got (flag false) (at + 1) else when y then got (flag true) (at + 1) else bad 20 0)
     go true z y w =
         let is = eqb-true (get_or t at 256) 48 z in
         gives (flag false) (at + 1) (record { tabs = over-quiet t at (record { no-tab = λ e. omega arith; no-newline = λ e. omega arith }); holds = tt })
@@ -258,15 +258,15 @@ unfolding ◌>>=◌ give
 turned-word r g F = fate-then _ F (λ a e w. gives (g a) e (record { tabs = w.tabs; holds = tt }))
 
 single-word : (k : ℕ) (t : List ℕ) (at : ℕ) → eqb k 5 ≡ false → Fate (Word Any t at) (read_element k t at)
-unfolding read_element if◌then◌else◌
+unfolding read_element when◌then◌else◌
 single-word k t at single = rw single (go (eqb k 6) (leb k 11) (leb k 13))
   where
     go :
         (x y z : Bool)
         → Fate (Word Any t at)
-        ((if x then read_flag else
-        if y then (integer >>= λ v. give (whole v)) else
-        if z then (hex_on (2 * (4 * (k - 11))) 0 >>= λ n. give (float (4 * (k - 11)) n)) else (natural >>= λ n. give (link n))) t at)
+        ((when x then read_flag else
+        when y then (integer >>= λ v. give (whole v)) else
+        when z then (hex_on (2 * (4 * (k - 11))) 0 >>= λ n. give (float (4 * (k - 11)) n)) else (natural >>= λ n. give (link n))) t at)
     go true y z = flag_word t at
     go false true z = turned-word integer whole (integer-word t at)
     go false false true = turned-word (hex_on (2 * (4 * (k - 11))) 0) (float (4 * (k - 11))) (hex-word t (2 * (4 * (k - 11))) 0 0 at (omega arith))
@@ -275,24 +275,24 @@ single-word k t at single = rw single (go (eqb k 6) (leb k 11) (leb k 13))
 -- ── one byte ──
 
 pub byte-fate : (b : ℕ) (t : List ℕ) (at : ℕ) → Fate (λ u e. (get_or t at 256 ≡ b) × (e ≡ at + 1)) (byte_is b t at)
-unfolding byte_is if◌then◌else◌
+unfolding byte_is when◌then◌else◌
 byte-fate b t at = go (eqb (get_or t at 256) b) refl
   where
-    go : (x : Bool) → eqb (get_or t at 256) b ≡ x → Fate (λ u e. (get_or t at 256 ≡ b) × (e ≡ at + 1)) (if x then got (tt {0}) (at + 1) else bad 20 0)
+    go : (x : Bool) → eqb (get_or t at 256) b ≡ x → Fate (λ u e. (get_or t at 256 ≡ b) × (e ≡ at + 1)) (when x then got (tt {0}) (at + 1) else bad 20 0)
     go true z = gives tt (at + 1) (eqb-true (get_or t at 256) b z, refl)
     go false z = refuses
 
 -- ── the words of an element: an annotation has two, and a tab between them ──
 
 unfoldable pub words_of : ℕ → ℕ
-words_of k = if eqb k 5 then 2 else 1
+words_of k = when eqb k 5 then 2 else 1
 
 pub words-two : (k : ℕ) → k ≡ 5 → words_of k ≡ 2
-unfolding words_of if◌then◌else◌
+unfolding words_of when◌then◌else◌
 words-two k is = rw is
 
 pub words-one : (k : ℕ) → (k ≡ 5 → ⊥) → words_of k ≡ 1
-unfolding words_of if◌then◌else◌
+unfolding words_of when◌then◌else◌
 words-one k other = rw (ne_eqb k 5 other)
 
 -- with the tab before them there are as many tabs as words
@@ -312,21 +312,21 @@ parted t at =
     gives n d (record { tabs = w.tabs ∙ over-tab t e h.0 ∙ ap (λ (p : ℕ). suc (tabs_from t p)) (sym h.1); below = w.holds.below })))
 
 annotation-word : (t : List ℕ) (at : ℕ) → Fate (Worded 2 t at) (read_element 5 t at)
-unfolding read_element if◌then◌else◌ ◌>>=◌ give
+unfolding read_element when◌then◌else◌ ◌>>=◌ give
 annotation-word t at =
     fate-then _ (parted t at) (λ m e h.
     fate-then _ (natural-word t e) (λ n d w.
     gives (annotation m n) d (record { tabs = omega (arith, h.tabs, w.tabs) })))
 
 pub element-word : (k : ℕ) (t : List ℕ) (at : ℕ) → Fate (Worded (words_of k) t at) (read_element k t at)
-unfolding words_of if◌then◌else◌
+unfolding words_of when◌then◌else◌
 element-word k t at = go (eqb k 5) refl
   where
     single : {A : Type 0} {o : Out A} → Fate (Word Any t at) o → Fate (Worded 1 t at) o
     single (gives a e w) = gives a e (record { tabs = omega (arith, w.tabs) })
     single refuses = refuses
 
-    go : (b : Bool) → eqb k 5 ≡ b → Fate (Worded (if b then 2 else 1) t at) (read_element k t at)
+    go : (b : Bool) → eqb k 5 ≡ b → Fate (Worded (when b then 2 else 1) t at) (read_element k t at)
     go true z = rw (eqb-true k 5 z) (annotation-word t at)
     go false z = single (single-word k t at z)
 
@@ -339,13 +339,13 @@ pub record Counted {A : Type 0} (w : ℕ) (t : List ℕ) (at n : ℕ) (l : List 
 
 pub tabbed-counts :
     {A : Type 0} (r : Reader A) (w : ℕ) (t : List ℕ) → ((at : ℕ) → Fate (Worded w t at) (r t at)) → (n at : ℕ) → Fate (Counted w t at n) (tabbed n r t at)
-unfolding tabbed if◌then◌else◌
+unfolding tabbed when◌then◌else◌
 tabbed-counts {A} r w t W zero at = gives [] at (record { tabs = rw (zero-mul w) (sym (zero-add _)); few = omega arith })
 tabbed-counts {A} r w t W (suc n) at = go (eqb (get_or t at 256) tab) refl (λ e. tabbed-counts r w t W n e)
   where
     go :
         (x : Bool) → eqb (get_or t at 256) tab ≡ x → ((e : ℕ) → Fate (Counted w t e n) (tabbed n r t e))
-        → Fate (Counted w t at (suc n)) (if x then and_then (r t (at + 1)) (λ a e. and_then (tabbed n r t e) λ l d. got (a ∷ l) d) else got [] at)
+        → Fate (Counted w t at (suc n)) (when x then and_then (r t (at + 1)) (λ a e. and_then (tabbed n r t e) λ l d. got (a ∷ l) d) else got [] at)
     go false z more = gives [] at (record { tabs = rw (zero-mul w) (sym (zero-add _)); few = omega arith })
     go true z more =
         let first = over-tab t at (eqb-true (get_or t at 256) tab z) in

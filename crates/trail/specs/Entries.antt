@@ -8,7 +8,7 @@ use native.Mathlib.Omega.{arith}
 use Rattle.std.proofs.Math.ListN.{length, get_or, length-append, length-set, get_or-append}
 use Rattle.std.proofs.lemmas.List.{length-map}
 use Rattle.std.proofs.Math.Seq.{get_or_at, get_or-set_same, get_or-set_other}
-use Rattle.paper.specs.Reader.{if◌then◌else◌, got, times}
+use Rattle.paper.specs.Reader.{when◌then◌else◌, got, times}
 use Rattle.paper.specs.Numbers.{v64, number}
 use Rattle.paper.specs.Lists.{places, fold, last_or}
 use Rattle.paper.specs.Ledger.{New, Head, Entry, Typ, State, text, no_type, type_named, type_in, owns?, fields_of}
@@ -67,20 +67,20 @@ module _ {t : Trail} {typ : ℕ} where
 
 -- so many more for the type t₀
 abbrev more : ℕ → ℕ → ℕ → ℕ
-more t₀ n i = if eqb i t₀ then n else 0
+more t₀ n i = when eqb i t₀ then n else 0
 
-places-snoc : {A : Type 0} (p : A → Bool) (i : ℕ) (l : List A) (x : A) → length (places p i (l ++ x ∷ [])) ≡ length (places p i l) + (if p x then 1 else 0)
-unfolding places if◌then◌else◌
+places-snoc : {A : Type 0} (p : A → Bool) (i : ℕ) (l : List A) (x : A) → length (places p i (l ++ x ∷ [])) ≡ length (places p i l) + (when p x then 1 else 0)
+unfolding places when◌then◌else◌
 places-snoc p i [] x = last (p x)
   where
-    last : (b : Bool) → length (if b then i ∷ [] else []) ≡ 0 + (if b then 1 else 0)
+    last : (b : Bool) → length (when b then i ∷ [] else []) ≡ 0 + (when b then 1 else 0)
     last true = refl
     last false = refl
 places-snoc {A} p i (y ∷ l) x = go (p y) (places-snoc p (suc i) l x)
   where
     go :
-        (b : Bool) → length (places p (suc i) (l ++ x ∷ [])) ≡ length (places p (suc i) l) + (if p x then 1 else 0)
-        → length (if b then i ∷ places p (suc i) (l ++ x ∷ []) else places p (suc i) (l ++ x ∷ [])) ≡ length (if b then i ∷ places p (suc i) l else places p (suc i) l) + (if p x then 1 else 0)
+        (b : Bool) → length (places p (suc i) (l ++ x ∷ [])) ≡ length (places p (suc i) l) + (when p x then 1 else 0)
+        → length (when b then i ∷ places p (suc i) (l ++ x ∷ []) else places p (suc i) (l ++ x ∷ [])) ≡ length (when b then i ∷ places p (suc i) l else places p (suc i) l) + (when p x then 1 else 0)
     go true ih = omega (arith, ih)
     go false ih = ih
 
@@ -99,22 +99,22 @@ eqb_swap a b = go (eqb a b) refl
     go false q = sym (ne_eqb b a (λ e. not-both (sym (eq-eqb a b (sym e)) ∙ q)))
 
 one_field : (t₀ : ℕ) (s : State) (g : New) (i : ℕ) → length (fields_of (after_new t₀ s g) i) ≡ length (fields_of s i) + more t₀ 1 i
-unfolding fields_of after_new owns? if◌then◌else◌
-one_field t₀ s g i = places-snoc (owns? i) 0 s.fields (record { owner = t₀; kind = noted g.kind }) ∙ ap (λ (b : Bool). length (places (owns? i) 0 s.fields) + (if b then 1 else 0)) (eqb_swap t₀ i)
+unfolding fields_of after_new owns? when◌then◌else◌
+one_field t₀ s g i = places-snoc (owns? i) 0 s.fields (record { owner = t₀; kind = noted g.kind }) ∙ ap (λ (b : Bool). length (places (owns? i) 0 s.fields) + (when b then 1 else 0)) (eqb_swap t₀ i)
 
 more-sum : (t₀ n i : ℕ) → more t₀ 1 i + more t₀ n i ≡ more t₀ (suc n) i
-unfolding if◌then◌else◌
+unfolding when◌then◌else◌
 more-sum t₀ n i = go (eqb i t₀)
   where
-    go : (b : Bool) → (if b then 1 else 0) + (if b then n else 0) ≡ (if b then suc n else 0)
+    go : (b : Bool) → (when b then 1 else 0) + (when b then n else 0) ≡ (when b then suc n else 0)
     go true = omega arith
     go false = refl
 
 more-none : (t₀ i : ℕ) → more t₀ 0 i ≡ 0
-unfolding if◌then◌else◌
+unfolding when◌then◌else◌
 more-none t₀ i = go (eqb i t₀)
   where
-    go : (b : Bool) → ◌≡◌ {A = ℕ} (if b then 0 else 0) 0
+    go : (b : Bool) → ◌≡◌ {A = ℕ} (when b then 0 else 0) 0
     go true = refl
     go false = refl
 
@@ -145,11 +145,11 @@ after-told s h gs =
     record { strings = N.strings; names = N.names; types = N.types; all = N.all; fields = N.fields }
 
 more-here : (t₀ n i : ℕ) → i ≡ t₀ → more t₀ n i ≡ n
-unfolding if◌then◌else◌
+unfolding when◌then◌else◌
 more-here t₀ n i e = rw (eq-eqb i t₀ e)
 
 more-else : (t₀ n i : ℕ) → (i ≡ t₀ → ⊥) → more t₀ n i ≡ 0
-unfolding if◌then◌else◌
+unfolding when◌then◌else◌
 more-else t₀ n i e = rw (ne_eqb i t₀ e)
 
 -- ── the trail behind an entry ──
@@ -178,11 +178,11 @@ more-fields : (s : State) (h : Head) (gs : List New) {s₂ : State} → After s 
 more-fields s h gs A is i e = omega (arith, A.fields i, more-here (type_of s h.name) (length gs) i (e ∙ is))
 
 places-fewer : {A : Type 0} (p : A → Bool) (i : ℕ) (l : List A) → length (places p i l) ≤ length l
-unfolding places if◌then◌else◌
+unfolding places when◌then◌else◌
 places-fewer p i [] = omega arith
 places-fewer {A} p i (x ∷ l) = go (p x) (places-fewer p (suc i) l)
   where
-    go : (b : Bool) → length (places p (suc i) l) ≤ length l → length (if b then i ∷ places p (suc i) l else places p (suc i) l) ≤ suc (length l)
+    go : (b : Bool) → length (places p (suc i) l) ≤ length l → length (when b then i ∷ places p (suc i) l else places p (suc i) l) ≤ suc (length l)
     go true ih = omega (arith, ih)
     go false ih = omega (arith, ih)
 
@@ -204,7 +204,7 @@ module _ {f : List ℕ} {t : Trail} {entry : Fields} {behind : Behind} where
   pub enter-known :
       entry.top.typ < t.types
       → Entered f t entry behind (record { at = behind.at; left = t.left - 1; end = behind.value; blocks = t.blocks; strings = t.strings; fields = t.fields + entry.more; starts = t.starts; types = t.types; froms = t.froms; tos = t.tos; sups = t.sups; owns = set t.owns entry.top.typ (entry.have + entry.more) })
-  unfolding new_name new_type if◌then◌else◌
+  unfolding new_name new_type when◌then◌else◌
   enter-known lt =
       record {
         told = λ s K h q T gs had news room left.
@@ -237,7 +237,7 @@ module _ {f : List ℕ} {t : Trail} {entry : Fields} {behind : Behind} where
   module _ (W : Within f entry.top.name) (ge : t.types ≤ entry.top.typ) where
     pub enter-new :
         Entered f t entry behind (record { at = behind.at; left = t.left - 1; end = behind.value; blocks = t.blocks; strings = t.strings; fields = t.fields + entry.more; starts = t.starts; types = entry.top.typ + 1; froms = set t.froms entry.top.typ entry.top.name.start; tos = set t.tos entry.top.typ entry.top.name.end; sups = set t.sups entry.top.typ entry.top.up; owns = set t.owns entry.top.typ (entry.have + entry.more) })
-    unfolding new_name new_type if◌then◌else◌ type_in type_named
+    unfolding new_name new_type when◌then◌else◌ type_in type_named
     enter-new =
         record {
           told = λ s K h q T gs had news room left.
@@ -364,14 +364,14 @@ count_held s known n h =
 
 -- how many known fields an entry gives
 pub known_is : (s : State) (h : Head) (typ have count known : ℕ) → typ ≡ type_of s h.name → have ≡ length (fields_of s typ) → count ≡ h.count → (count ≡ 0 → known ≡ 0) → ((count ≡ 0 → ⊥) → known ≡ have) → known ≡ length (known_due s h)
-unfolding known_due if◌then◌else◌
+unfolding known_due when◌then◌else◌
 known_is s h typ have count known t-is have-is c-is zero? other? =
     elim (dec_equal count 0) [
       | inl z ↦
-          let w : 0 ≡ length (if eqb h.count 0 then [] else fields_of s (type_of s h.name)) = rw (eq-eqb h.count 0 (sym c-is ∙ z)) refl in
+          let w : 0 ≡ length (when eqb h.count 0 then [] else fields_of s (type_of s h.name)) = rw (eq-eqb h.count 0 (sym c-is ∙ z)) refl in
           zero? z ∙ w
       | inr nz ↦
-          let w : length (fields_of s (type_of s h.name)) ≡ length (if eqb h.count 0 then [] else fields_of s (type_of s h.name)) = rw (ne_eqb h.count 0 (λ e. nz (c-is ∙ e))) refl in
+          let w : length (fields_of s (type_of s h.name)) ≡ length (when eqb h.count 0 then [] else fields_of s (type_of s h.name)) = rw (ne_eqb h.count 0 (λ e. nz (c-is ∙ e))) refl in
           other? nz ∙ have-is ∙ ap (λ (i : ℕ). length (fields_of s i)) t-is ∙ w
     ]
 

@@ -2,7 +2,7 @@
 use Rattle.std.specs.Prelude.{◌≡◌, refl, List, ◌∷◌, map, ℕ, zero, suc, ◌+◌, ◌-◌, ◌≤◌, ◌<◌, length}
 use Rattle.std.proofs.Common.{sym, ap, ap₂, ◌∙◌, subst, arith, le-leb, lt-ltb}
 use Rattle.std.proofs.lemmas.List.{length-map}
-use Rattle.paper.specs.Reader.{if◌then◌else◌, got, give, times}
+use Rattle.paper.specs.Reader.{when◌then◌else◌, got, give, times}
 use Rattle.paper.specs.Numbers.{number}
 use Rattle.paper.specs.Lists.{fold, flat, last_or}
 use Rattle.paper.specs.Ledger.{Entry}
@@ -27,7 +27,7 @@ unfolding upto_entry
 entry-upto g e k f p more m r = r
 
 pub strings-open : (g : Stage) (f : List ℕ) (at : ℕ) → g.pairs < 32 → at + g.end ≤ length f → (strs : List (List ℕ)) (p n q : ℕ) → string_block (numbered g) f (at + g.end) ≡ got strs p → number small_rules f p ≡ got n q → opens g f at ≡ got (record { state = with_strings (numbered g) strs; pairs = g.pairs + 1; left = n; end = 0 }) q
-unfolding opens opened small give if◌then◌else◌
+unfolding opens opened small give when◌then◌else◌
 strings-open g f at few room strs p n q r w =
     let tests : opens g f at ≡ opened g f (at + g.end) = rw (lt-ltb g.pairs 32 few, le-leb (at + g.end) (length f) room) refl in
     tests ∙ bind-got (string_block (numbered g)) _ f (at + g.end) r ∙ bind-got (number small_rules) _ f p w

@@ -6,7 +6,7 @@ use Rattle.std.proofs.Math.Option.{Option, none, some}
 use native.Mathlib.Omega.{arith}
 use Rattle.std.proofs.Math.Numerals.{add-one}
 use Rattle.std.proofs.Math.Decide.{dec_le}
-use Rattle.paper.specs.Reader.{if◌then◌else◌, got, Rule, give, only}
+use Rattle.paper.specs.Reader.{when◌then◌else◌, got, Rule, give, only}
 use Rattle.paper.specs.Numbers.{v64, number}
 use Rattle.paper.specs.Lists.{same, place, given?, or}
 use Rattle.paper.specs.Ledger.{Head, State, text, a_string?, type_named, type_in, fields_of}
@@ -176,7 +176,7 @@ module _ {f : List ℕ} {t : Trail} {at typ : ℕ} where
         (x ∙ ap some (sym n-is), T.place n q v, omega arith, rw n-is c)
 
     pub super-none : b.value ≡ 0 → SuperPast f t at typ (record { up = 0; at = b.at })
-    unfolding super_of super_named if◌then◌else◌
+    unfolding super_of super_named when◌then◌else◌
     super-none z =
         record {
           told = λ s K name o q is h.
@@ -188,7 +188,7 @@ module _ {f : List ℕ} {t : Trail} {at typ : ℕ} where
       its-type :
           (s : State) → Knows f s t → (name : ℕ) (o : Option ℕ) (q : ℕ) → typ ≡ type_of s name → only (new? s name) (number (super_name_rules s (type_of s name))) f at ≡ got o q
           → (super_named s b.value ≡ some u) × (u < 32)
-      unfolding super_named given? type_named if◌then◌else◌
+      unfolding super_named given? type_named when◌then◌else◌
       its-type s K name o q is h =
           let (x, y, most, c) = its-name s K name o q is h in
           let w : bytes_of f r ≡ text s b.value = text-is K b.value X (omega arith) most in

@@ -1,7 +1,7 @@
 -- The numbers of a kind that a file gives are those of one that is listed. Assumes nothing.
 use Rattle.std.specs.Prelude.{◌≡◌, refl, Bool, true, false, List, [], ◌∷◌, ℕ, suc, ◌+◌, ◌≤◌, ◌<◌, leb, length, get_or, take, drop}
 use Rattle.std.proofs.Common.{sym, arith, leb-true}
-use Rattle.paper.specs.Reader.{if◌then◌else◌, Out, got, no, turned, and_then, hold, must, from_start, started, bytes, Rule}
+use Rattle.paper.specs.Reader.{when◌then◌else◌, Out, got, no, turned, and_then, hold, must, from_start, started, bytes, Rule}
 use Rattle.paper.specs.Numbers.{fixed, coding, v64, number}
 use Rattle.paper.specs.Ledger.{Kind, plain}
 use Rattle.paper.specs.Rules.{element_kind?, any_type, kind_rules, element_kind_rules, noted}
@@ -22,10 +22,10 @@ pub record RowKept (r : KindRow) : Type 0 where
 -- ── what is read begins within the file ──
 
 bytes-there : (n : ℕ) (f : List ℕ) (at : ℕ) (bs : List ℕ) (e : ℕ) → bytes n f at ≡ got bs e → at ≤ length f
-unfolding bytes if◌then◌else◌
+unfolding bytes when◌then◌else◌
 bytes-there n f at bs e h = go (leb (at + n) (length f)) refl h
   where
-    go : (t : Bool) → leb (at + n) (length f) ≡ t → (if t then got (take n (drop at f)) (at + n) else no 1 at) ≡ got bs e → at ≤ length f
+    go : (t : Bool) → leb (at + n) (length f) ≡ t → (when t then got (take n (drop at f)) (at + n) else no 1 at) ≡ got bs e → at ≤ length f
     go true t h = omega (arith, leb-true (at + n) (length f) t)
     go false t h = not-got h
 
@@ -70,7 +70,7 @@ row_kept f at q r low h = go (kind any_type f at) refl h
 
 -- where no kind is read
 pub row-none : RowKept (record { first = 5; bits = 0; last = 5 })
-unfolding kind_from if◌then◌else◌ noted kind_kept? number? hold? element_kind_rules element_kind?
+unfolding kind_from when◌then◌else◌ noted kind_kept? number? hold? element_kind_rules element_kind?
 row-none = record { own = plain 5; is = refl; kept = refl }
 
 -- that all bytes are below 256 is known of what a function is lent

@@ -7,7 +7,7 @@ use mathlib.Core.List.{List, [], ◌∷◌, ◌++◌}
 use Rattle.std.proofs.Math.Dec.{leb, ltb}
 use Rattle.std.proofs.Math.ListN.{length, take, length-append, length-set}
 use Rattle.std.proofs.Math.Seq.{take-suc-set}
-use Rattle.paper.specs.Reader.{if◌then◌else◌, Reader, got, no, ◌>>=◌, give}
+use Rattle.paper.specs.Reader.{when◌then◌else◌, Reader, got, no, ◌>>=◌, give}
 use Rattle.paper.specs.Numbers.{v64, fixed, number}
 use Rattle.paper.specs.Lists.{places, last_or}
 use Rattle.paper.specs.Ledger.{Entry, State, nothing, fields_of}
@@ -55,7 +55,7 @@ opened g = do
 
 -- into the next pair, behind this one's data region
 unfoldable pub opens : Stage → Reader Stage
-opens g f at = if ltb g.pairs 32 then (if leb (at + g.end) (length f) then opened g f (at + g.end) else no 1 at) else no 3 at
+opens g f at = when ltb g.pairs 32 then (when leb (at + g.end) (length f) then opened g f (at + g.end) else no 1 at) else no 3 at
 
 -- over an entry
 unfoldable pub enters : Stage → Reader Stage
@@ -64,7 +64,7 @@ enters g = do
   give (record { state = after_entry g.state e.0; pairs = g.pairs; left = g.left - 1; end = last_or g.end e.1 })
 
 unfoldable pub onward : Stage → Reader Stage
-onward g = if eqb g.left 0 then opens g else enters g
+onward g = when eqb g.left 0 then opens g else enters g
 
 unfoldable pub steps : ℕ → Stage → Reader Stage
 steps zero g = give g
@@ -73,12 +73,12 @@ steps (suc k) g = do
   steps k h
 
 pub onward-block : (g : Stage) (f : List ℕ) (at : ℕ) → g.left ≡ 0 → opens g f at ≡ onward g f at
-unfolding onward if◌then◌else◌
-onward-block g f at z = ap (λ (b : Bool). (if b then opens g else enters g) f at) (sym (eq-eqb g.left 0 z))
+unfolding onward when◌then◌else◌
+onward-block g f at z = ap (λ (b : Bool). (when b then opens g else enters g) f at) (sym (eq-eqb g.left 0 z))
 
 pub onward-entry : (g : Stage) (f : List ℕ) (at : ℕ) → (g.left ≡ 0 → ⊥) → enters g f at ≡ onward g f at
-unfolding onward if◌then◌else◌
-onward-entry g f at nz = ap (λ (b : Bool). (if b then opens g else enters g) f at) (sym (ne_eqb g.left 0 nz))
+unfolding onward when◌then◌else◌
+onward-entry g f at nz = ap (λ (b : Bool). (when b then opens g else enters g) f at) (sym (ne_eqb g.left 0 nz))
 
 -- one step more
 pub steps-more : (k : ℕ) (g : Stage) (f : List ℕ) (at : ℕ) {h : Stage} {p : ℕ} {m : Stage} {q : ℕ} → steps k g f at ≡ got h p → onward h f p ≡ got m q → steps (suc k) g f at ≡ got m q
@@ -225,10 +225,10 @@ module _ (f : List ℕ) (g : Stage) (at : ℕ) (h : Stage) (q : ℕ) where
       }
 
   pub opens-parts : opens g f at ≡ got h q → Opened f g at h q
-  unfolding opens if◌then◌else◌
+  unfolding opens when◌then◌else◌
   opens-parts r = first (ltb g.pairs 32) refl (leb (at + g.end) (length f)) refl r
     where
-      first : (a : Bool) → ltb g.pairs 32 ≡ a → (b : Bool) → leb (at + g.end) (length f) ≡ b → (if a then (if b then opened g f (at + g.end) else no 1 at) else no 3 at) ≡ got h q → Opened f g at h q
+      first : (a : Bool) → ltb g.pairs 32 ≡ a → (b : Bool) → leb (at + g.end) (length f) ≡ b → (when a then (when b then opened g f (at + g.end) else no 1 at) else no 3 at) ≡ got h q → Opened f g at h q
       first true x true y r = opened-parts (ltb-true g.pairs 32 x) (leb-true (at + g.end) (length f) y) r
       first true x false y r = not-got r
       first false x b y r = not-got r
@@ -303,15 +303,15 @@ module _ {f : List ℕ} {t : Trail} where
   -- ── a step ──
 
   pub step_block : t.left ≡ 0 → {r : Trail} → BlockPast f t r → StepPast f t r
-  unfolding onward if◌then◌else◌
-  step_block z B = record { told = λ g at T h q r. B.told g at T h q (ap (λ (b : Bool). (if b then opens g else enters g) f at) (sym (eq-eqb g.left 0 (sym T.left ∙ z))) ∙ r) }
+  unfolding onward when◌then◌else◌
+  step_block z B = record { told = λ g at T h q r. B.told g at T h q (ap (λ (b : Bool). (when b then opens g else enters g) f at) (sym (eq-eqb g.left 0 (sym T.left ∙ z))) ∙ r) }
 
   pub step-entry : (t.left ≡ 0 → ⊥) → {r : Trail} → EntryPast f t r → StepPast f t r
-  unfolding onward if◌then◌else◌
+  unfolding onward when◌then◌else◌
   step-entry nz {r} E =
       record {
         told = λ g at T h q w.
-            let enter-read : enters g f at ≡ got h q = ap (λ (b : Bool). (if b then opens g else enters g) f at) (sym (ne_eqb g.left 0 (λ z. nz (T.left ∙ z)))) ∙ w in
+            let enter-read : enters g f at ≡ got h q = ap (λ (b : Bool). (when b then opens g else enters g) f at) (sym (ne_eqb g.left 0 (λ z. nz (T.left ∙ z)))) ∙ w in
             let (e, reads, is) = enters-parts f g at h q enter-read in
             let reads' : entry any_type (record { state = g.state; end = t.end }) f t.at ≡ got e q = rw (T.end, T.place) reads in
             let X = E.told g.state T.knows (omega arith) e q reads' in

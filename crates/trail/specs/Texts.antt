@@ -7,7 +7,7 @@ use Prim.Native.Nat.{ℕ, zero, suc, ◌+◌, ◌-◌, ◌*◌, ◌≤◌, ◌<�
 use native.Mathlib.Omega.{arith}
 use Rattle.std.proofs.Math.ListN.{length, get_or-append}
 use Rattle.std.proofs.Math.Seq.{slice}
-use Rattle.paper.specs.Reader.{if◌then◌else◌, Out, got, no, and_then, hold, must, ◌or_no◌, give, bytes, times}
+use Rattle.paper.specs.Reader.{when◌then◌else◌, Out, got, no, and_then, hold, must, ◌or_no◌, give, bytes, times}
 use Rattle.paper.specs.Numbers.{v64, fixed, number}
 use Rattle.paper.specs.Lists.{same, last_or}
 use Rattle.paper.specs.Ledger.{State}
@@ -157,10 +157,10 @@ module _ (f : List ℕ) where
       (rw F.is (y, a), omega (arith, b, on))
 
 bytes-got : (n : ℕ) (f : List ℕ) (at : ℕ) (bs : List ℕ) (q : ℕ) → bytes n f at ≡ got bs q → (bs ≡ take n (drop at f)) × (q ≡ at + n) × (at + n ≤ length f)
-unfolding bytes if◌then◌else◌
+unfolding bytes when◌then◌else◌
 bytes-got n f at bs q h = go (leb (at + n) (length f)) refl h
   where
-    go : (t : Bool) → leb (at + n) (length f) ≡ t → (if t then got (take n (drop at f)) (at + n) else no 1 at) ≡ got bs q → (bs ≡ take n (drop at f)) × (q ≡ at + n) × (at + n ≤ length f)
+    go : (t : Bool) → leb (at + n) (length f) ≡ t → (when t then got (take n (drop at f)) (at + n) else no 1 at) ≡ got bs q → (bs ≡ take n (drop at f)) × (q ≡ at + n) × (at + n ≤ length f)
     go true t h = (cc h, cc h, leb-true (at + n) (length f) t)
     go false t h = not-got h
 

@@ -6,7 +6,7 @@ use mathlib.Core.List.{List, [], ◌∷◌}
 use Rattle.std.proofs.Math.Option.{Option, none, some}
 use Rattle.std.proofs.Math.Numerals.{add-one}
 use Rattle.std.proofs.Math.ListN.{length, drop, drop_of_length-le}
-use Rattle.paper.specs.Reader.{if◌then◌else◌}
+use Rattle.paper.specs.Reader.{when◌then◌else◌}
 use Rattle.paper.specs.Lists.{same, place, or}
 use Rattle.table.specs.ApartLaws.{same_self}
 use Rattle.table.specs.View.{Apart}
@@ -70,26 +70,26 @@ module _ {f : List ℕ} {n : ℕ} {froms tos : List ℕ} {w : List ℕ} {i : ℕ
       }
 
   module _ (lt : i < n) {r : Bool} (A : IsAt f w (get_or froms i 0) (get_or tos i 0) r) where
-    here : (names : List (List ℕ)) → Names f n froms tos names → place (same w) 0 names ≡ (if r then some i else place (same w) (i + 1) (drop (i + 1) names))
+    here : (names : List (List ℕ)) → Names f n froms tos names → place (same w) 0 names ≡ (when r then some i else place (same w) (i + 1) (drop (i + 1) names))
     unfolding place
     here names N =
         let z = A.is (get_or names i []) (N.stands i lt) in
         g.left names N ∙ ap (place (same w) i) (drop-cons names i [] (omega (arith, N.count))) ∙ rw (z, add-one i) refl
 
     pub find-found : r ≡ true → Found f n froms tos w i
-    unfolding or if◌then◌else◌
+    unfolding or when◌then◌else◌
     find-found q =
         record {
           most = omega arith;
-          is = λ names N. sym (ap (λ (o : Option ℕ). or o (length names)) (here names N ∙ ap (λ (b : Bool). if b then some i else place (same w) (i + 1) (drop (i + 1) names)) q));
+          is = λ names N. sym (ap (λ (o : Option ℕ). or o (length names)) (here names N ∙ ap (λ (b : Bool). when b then some i else place (same w) (i + 1) (drop (i + 1) names)) q));
         }
 
     pub find-on : r ≡ false → Finding f n froms tos w (i + 1)
-    unfolding if◌then◌else◌
+    unfolding when◌then◌else◌
     find-on q =
         record {
           most = omega arith;
-          left = λ names N. here names N ∙ ap (λ (b : Bool). if b then some i else place (same w) (i + 1) (drop (i + 1) names)) q;
+          left = λ names N. here names N ∙ ap (λ (b : Bool). when b then some i else place (same w) (i + 1) (drop (i + 1) names)) q;
         }
 
 -- ── a name that stands where a type's name does ──
@@ -119,14 +119,14 @@ find-there {f} {n} {froms} {tos} {name} {r} A lt =
 -- ── new or known ──
 
 pub place-below : {A : Type 0} (p : A → Bool) (i : ℕ) (l : List A) (j : ℕ) → place p i l ≡ some j → j < i + length l
-unfolding place if◌then◌else◌
+unfolding place when◌then◌else◌
 place-below p i [] j h = absurd (nothing h)
   where
     nothing : none ≡ some j → ⊥
     nothing h = let z : ◌≡◌ {A = ℕ} 0 1 = cc h in absurd (omega arith)
 place-below {A} p i (x ∷ l) j h = go (λ k q. place-below p (suc i) l k q) (p x) h
   where
-    go : ((k : ℕ) → place p (suc i) l ≡ some k → k < suc i + length l) → (b : Bool) → (if b then some i else place p (suc i) l) ≡ some j → j < i + suc (length l)
+    go : ((k : ℕ) → place p (suc i) l ≡ some k → k < suc i + length l) → (b : Bool) → (when b then some i else place p (suc i) l) ≡ some j → j < i + suc (length l)
     go again true q = let z : i ≡ j = cc q in omega arith
     go again false q = omega (arith, again j q)
 

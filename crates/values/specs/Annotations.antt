@@ -4,7 +4,7 @@ use Rattle.std.proofs.Math.Path.{sym}
 use native.Mathlib.Omega.{arith}
 use Rattle.std.proofs.Math.ListN.{get_or-eq_default}
 use borrow.Author.Tests.{ne_eqb, le-leb, lt-leb}
-use Rattle.paper.specs.Reader.{if◌then◌else◌, Reader, ◌>>=◌, give, must, ◌or_no◌}
+use Rattle.paper.specs.Reader.{when◌then◌else◌, Reader, ◌>>=◌, give, must, ◌or_no◌}
 use Rattle.paper.specs.Numbers.{v64}
 use Rattle.paper.specs.File.{two_numbers}
 use Rattle.numbers.specs.Cursors.{Read, was-got, was-refused}
@@ -16,7 +16,7 @@ use Rattle.values.specs.Pass.{forget, Passed}
 
 -- object n of the base type that string m names, or 0 and 0
 unfoldable pub placed? : List ℕ → ℕ → ℕ → Bool
-placed? pools m n = if m == 0 then (n == 0) else (nat_le 1 n && nat_le n (slice_index pools (m - 1)))
+placed? pools m n = when m == 0 then (n == 0) else (nat_le 1 n && nat_le n (slice_index pools (m - 1)))
 
 unfoldable pub annotated : (ℕ → ℕ → Bool) → Reader ℕ
 annotated ok = must two_numbers (λ p. (ok p.0 p.1 or_no 14) ∷ []) >>= λ p. give p.1
@@ -25,22 +25,22 @@ annotated ok = must two_numbers (λ p. (ok p.0 p.1 or_no 14) ∷ []) >>= λ p. g
 
 module _ (pools : List ℕ) (m n : ℕ) where
   pub placed-null : m ≡ 0 → (n == 0) ≡ placed? pools m n
-  unfolding placed? if◌then◌else◌
+  unfolding placed? when◌then◌else◌
   placed-null h = rw h
 
   module _ (named : m ≡ 0 → ⊥) where
     pub placed-half : n ≡ 0 → false ≡ placed? pools m n
-    unfolding placed? if◌then◌else◌
+    unfolding placed? when◌then◌else◌
     placed-half h = rw (ne_eqb m 0 named, h)
 
     pub placed-far : (n ≢ 0) → length pools < m → false ≡ placed? pools m n
-    unfolding placed? if◌then◌else◌
+    unfolding placed? when◌then◌else◌
     placed-far h far =
         let past : length pools ≤ m - 1 = omega arith in
         rw (ne_eqb m 0 named, le-leb 1 n (omega arith), get_or-eq_default pools 0 past, lt-leb n 0 (omega arith))
 
     pub placed-some : (n ≢ 0) → nat_le n (slice_index pools (m - 1)) ≡ placed? pools m n
-    unfolding placed? if◌then◌else◌
+    unfolding placed? when◌then◌else◌
     placed-some h = rw (ne_eqb m 0 named, le-leb 1 n (omega arith))
 
 -- ── the two numbers, as code reads them ──

@@ -4,7 +4,7 @@ use Rattle.std.proofs.Math.Path.{refl, ap}
 use Rattle.std.proofs.Common.{◌∙◌, inl, inr, arith, lt_of_not-le}
 use Rattle.std.proofs.Math.Decide.{dec_le}
 use borrow.Author.Tests.{leb-false, le-leb, lt-leb, le-ltb, ne_eqb}
-use Rattle.paper.specs.Reader.{if◌then◌else◌, Reader, Out, got, and_then, ◌>>=◌, give, hold, must, ◌or_no◌}
+use Rattle.paper.specs.Reader.{when◌then◌else◌, Reader, Out, got, and_then, ◌>>=◌, give, hold, must, ◌or_no◌}
 use Rattle.paper.specs.Numbers.{signed, fixed, v64, number}
 use Rattle.paper.specs.Ledger.{Element, flag, whole, float, link, State}
 use Rattle.paper.specs.Rules.{bool_rules, link?, link_rules}
@@ -16,36 +16,36 @@ use Rattle.values.specs.Items.{linked, at_most}
 
 unfoldable pub bare : ℕ → Reader ℕ
 bare k =
-    if nat_eq k 6 then
+    when nat_eq k 6 then
     fixed 1 else
-    if leb k 11 then
-    (if ltb (k - 7) 4 then fixed (2 ^ (k - 7)) else v64) else
-    if leb k 13 then
+    when leb k 11 then
+    (when ltb (k - 7) 4 then fixed (2 ^ (k - 7)) else v64) else
+    when leb k 13 then
     fixed (4 * (k - 11)) else
     linked (at_most (2 ^ 63 - 1))
 
 unfoldable pub bound_of : ℕ → ℕ
 bound_of k =
-    if nat_eq k 6 then
+    when nat_eq k 6 then
     256 else
-    if leb k 11 then
-    (if ltb (k - 7) 4 then 256 ^ (2 ^ (k - 7)) else 2 ^ 64) else
-    if leb k 13 then
+    when leb k 11 then
+    (when ltb (k - 7) 4 then 256 ^ (2 ^ (k - 7)) else 2 ^ 64) else
+    when leb k 13 then
     256 ^ (4 * (k - 11)) else
     2 ^ 63
 
 -- ── what it stands for ──
 
 unfoldable pub whole_made : ℕ → ℕ → ℤ
-whole_made k n = if nat_lt (k - 7) 4 then signed (2 ^ (k - 7)) n else signed 8 n
+whole_made k n = when nat_lt (k - 7) 4 then signed (2 ^ (k - 7)) n else signed 8 n
 
 unfoldable pub made : ℕ → ℕ → Element
 made k n =
-    if nat_eq k 6 then
+    when nat_eq k 6 then
     flag (n == 255) else
-    if leb k 11 then
+    when leb k 11 then
     whole (whole_made k n) else
-    if leb k 13 then
+    when leb k 13 then
     float (4 * (k - 11)) n else
     link n
 
@@ -86,8 +86,8 @@ turned-inv r g f at v p q =
     (B.value, B.first ∙ ap (λ (n : ℕ). got B.value n) z, cc B.rest)
 
 module _ (s : State) (k : ℕ) (f : List ℕ) (at : ℕ) (e : Element) (p : ℕ) where
-  stands-whole : (whole_of (k - 7) >>= λ v. give (whole v)) f at ≡ got e p → (n : ℕ) × ((if ltb (k - 7) 4 then fixed (2 ^ (k - 7)) else v64) f at ≡ got n p) × (whole (whole_made k n) ≡ e)
-  unfolding whole_of whole_made if◌then◌else◌
+  stands-whole : (whole_of (k - 7) >>= λ v. give (whole v)) f at ≡ got e p → (n : ℕ) × ((when ltb (k - 7) 4 then fixed (2 ^ (k - 7)) else v64) f at ≡ got n p) × (whole (whole_made k n) ≡ e)
+  unfolding whole_of whole_made when◌then◌else◌
   stands-whole q =
       let (v, x, y) = turned-inv (whole_of (k - 7)) whole f at e p q in
       let (n, a, b) = go (nat_lt (k - 7) 4) v x in
@@ -95,8 +95,8 @@ module _ (s : State) (k : ℕ) (f : List ℕ) (at : ℕ) (e : Element) (p : ℕ)
     where
       go :
           (t : Bool) (v : ℤ)
-          → (if t then (fixed (2 ^ (k - 7)) >>= λ n. give (signed (2 ^ (k - 7)) n)) else (v64 >>= λ n. give (signed 8 n))) f at ≡ got v p
-          → (n : ℕ) × ((if t then fixed (2 ^ (k - 7)) else v64) f at ≡ got n p) × ((if t then signed (2 ^ (k - 7)) n else signed 8 n) ≡ v)
+          → (when t then (fixed (2 ^ (k - 7)) >>= λ n. give (signed (2 ^ (k - 7)) n)) else (v64 >>= λ n. give (signed 8 n))) f at ≡ got v p
+          → (n : ℕ) × ((when t then fixed (2 ^ (k - 7)) else v64) f at ≡ got n p) × ((when t then signed (2 ^ (k - 7)) n else signed 8 n) ≡ v)
       go true v x = turned-inv (fixed (2 ^ (k - 7))) (signed (2 ^ (k - 7))) f at v p x
       go false v x = turned-inv v64 (signed 8) f at v p x
 
@@ -109,14 +109,14 @@ module _ (s : State) (k : ℕ) (f : List ℕ) (at : ℕ) (e : Element) (p : ℕ)
 
   -- an annotation has two numbers
   pub element-stands : nat_eq k 5 ≡ false → Linkable s k → element s k f at ≡ got e p → Stands k f at e p
-  unfolding element bare made if◌then◌else◌ bool_rules
+  unfolding element bare made when◌then◌else◌ bool_rules
   element-stands one L q = go (k == 6) refl (nat_le k 11) refl (nat_le k 13) refl (rw one at q)
     where
       go :
           (x : Bool) → (k == 6) ≡ x → (y : Bool) → nat_le k 11 ≡ y → (z : Bool) → nat_le k 13 ≡ z
-          → (if x then (must (fixed 1) bool_rules >>= λ b. give (flag (b == 255))) else
-          if y then (whole_of (k - 7) >>= λ v. give (whole v)) else
-          if z then (fixed (4 * (k - 11)) >>= λ n. give (float (4 * (k - 11)) n)) else (number (link_rules s k) >>= λ n. give (link n))) f at ≡ got e p
+          → (when x then (must (fixed 1) bool_rules >>= λ b. give (flag (b == 255))) else
+          when y then (whole_of (k - 7) >>= λ v. give (whole v)) else
+          when z then (fixed (4 * (k - 11)) >>= λ n. give (float (4 * (k - 11)) n)) else (number (link_rules s k) >>= λ n. give (link n))) f at ≡ got e p
           → Stands k f at e p
       go true t₁ y t₂ z t₃ q =
           let (b, x, w) = turned-inv (must (fixed 1) bool_rules) (λ b. flag (b == 255)) f at e p q in
@@ -136,23 +136,23 @@ module _ (s : State) (k : ℕ) (f : List ℕ) (at : ℕ) (e : Element) (p : ℕ)
 
 module _ (k : ℕ) (h : 13 < k) where
   pub bare-link : bare k ≡ linked (at_most (2 ^ 63 - 1))
-  unfolding bare if◌then◌else◌
+  unfolding bare when◌then◌else◌
   bare-link = rw (ne_eqb k 6 (λ e. omega arith), lt-leb k 11 (omega arith), lt-leb k 13 h)
 
   pub bound-link : bound_of k ≡ 2 ^ 63
-  unfolding bound_of if◌then◌else◌
+  unfolding bound_of when◌then◌else◌
   bound-link = rw (ne_eqb k 6 (λ e. omega arith), lt-leb k 11 (omega arith), lt-leb k 13 h)
 
   pub made-link : (n : ℕ) → made k n ≡ link n
-  unfolding made if◌then◌else◌
+  unfolding made when◌then◌else◌
   made-link n = rw (ne_eqb k 6 (λ e. omega arith), lt-leb k 11 (omega arith), lt-leb k 13 h)
 
 pub made-whole : (k n : ℕ) → 6 < k → k < 12 → made k n ≡ whole (whole_made k n)
-unfolding made if◌then◌else◌
+unfolding made when◌then◌else◌
 made-whole k n h l = rw (ne_eqb k 6 (λ e. omega arith), le-leb k 11 (omega arith))
 
 pub whole-8 : (k n : ℕ) → 9 < k → whole_made k n ≡ signed 8 n
-unfolding whole_made if◌then◌else◌
+unfolding whole_made when◌then◌else◌
 whole-8 k n h =
     elim (dec_le k 10) [
       | yes d ↦ (let is : k ≡ 10 = omega arith in rw is)
@@ -171,7 +171,7 @@ links-only k h b c d e =
 
 -- a bool and i8 are one byte
 pub bare-byte : (k : ℕ) → 6 ≤ k → k < 8 → (bare k ≡ fixed 1) × (bound_of k ≡ 256)
-unfolding bare bound_of if◌then◌else◌
+unfolding bare bound_of when◌then◌else◌
 bare-byte k h l =
     elim (dec_le k 6) [
       | yes d ↦ (let is : k ≡ 6 = omega arith in rw is (refl, refl))

@@ -5,7 +5,7 @@ use Rattle.std.proofs.Common.{◌∙◌, arith}
 use Rattle.std.proofs.Math.Nat.{mul-one, lt_of_not-le}
 use Rattle.std.proofs.Math.Decide.{dec_le}
 use borrow.Author.Tests.{le-leb, lt-leb, ne_eqb}
-use Rattle.paper.specs.Reader.{if◌then◌else◌, Reader, got, ◌>>=◌, give, repeat}
+use Rattle.paper.specs.Reader.{when◌then◌else◌, Reader, got, ◌>>=◌, give, repeat}
 use Rattle.paper.specs.Numbers.{put_fixed}
 use Rattle.paper.specs.Lists.{all}
 use Rattle.paper.specs.Ledger.{plain, array, many, State}
@@ -44,7 +44,7 @@ pub record ChunkChecked (n k a e strings : ℕ) (pools first last f : List ℕ) 
 
 module _ (k a e : ℕ) where
   pub value-constant : (s : State) → k ≤ 4 → value s (kind_from k a e) ≡ give []
-  unfolding kind_from if◌then◌else◌ value
+  unfolding kind_from when◌then◌else◌ value
   value-constant s h =
       elim (dec_le k 3) [
         | yes d ↦ rw (le-leb k 3 d)
@@ -52,16 +52,16 @@ module _ (k a e : ℕ) where
       ]
 
   pub kind-array : k ≡ 15 → kind_from k a e ≡ array a e
-  unfolding kind_from if◌then◌else◌
+  unfolding kind_from when◌then◌else◌
   kind-array h = rw h
 
   pub kind-many : 17 ≤ k → k ≤ 19 → kind_from k a e ≡ many k e
-  unfolding kind_from if◌then◌else◌
+  unfolding kind_from when◌then◌else◌
   kind-many h l =
       rw (lt-leb k 3 (omega arith), ne_eqb k 4 (λ q. omega arith), ne_eqb k 15 (λ q. omega arith), le-leb 17 k h, le-leb k 19 l)
 
   pub kind-plain : 4 < k → (k ≢ 15) → (17 ≤ k → 19 < k) → (k ≢ 20) → kind_from k a e ≡ plain e
-  unfolding kind_from if◌then◌else◌
+  unfolding kind_from when◌then◌else◌
   kind-plain h x y z =
       rw (lt-leb k 3 (omega arith), ne_eqb k 4 (λ q. omega arith), ne_eqb k 15 x)
       (elim (dec_le 17 k) [

@@ -4,7 +4,7 @@ use Rattle.std.proofs.Common.{sym, ap, ◌∙◌, le-leb, le-ltb}
 use native.Mathlib.Omega.{arith}
 use Rattle.std.proofs.Math.Nat.{lt_of_not-le}
 use Rattle.std.proofs.Math.Decide.{dec_le}
-use Rattle.paper.specs.Reader.{if◌then◌else◌}
+use Rattle.paper.specs.Reader.{when◌then◌else◌}
 use Rattle.paper.specs.Numbers.{signed}
 use Rattle.paper.specs.Ledger.{constant}
 use Rattle.table.specs.View.{kind_from}
@@ -17,7 +17,7 @@ pub record Capped (a most r : ℕ) : Type 0 where
 
 -- bits past the range of w bytes say -1, as the highest within it do
 signed_top : (w most a : ℕ) → 256 ^ w ≡ most + 1 → 256 ^ w / 2 ≤ most → most ≤ a → signed w a ≡ negsuc 0
-unfolding signed if◌then◌else◌
+unfolding signed when◌then◌else◌
 signed_top w most a is half le =
     let none : 256 ^ w - 1 - a ≡ 0 = omega arith in
     rw (le-ltb a (256 ^ w / 2) (omega arith), none)
@@ -34,7 +34,7 @@ signed-capped w most is half {a} {r} C =
 
 module _ (k a : ℕ) {z : ℤ} where
   constant-low : (w : ℕ) → k ≤ 3 → 2 ^ k ≡ w → z ≡ signed w a → (e : ℕ) → kind_from k a e ≡ constant k z
-  unfolding kind_from if◌then◌else◌
+  unfolding kind_from when◌then◌else◌
   constant-low w h p is e = rw (le-leb k 3 h, p, is)
 
   module _ {r : ℕ} where
@@ -48,7 +48,7 @@ module _ (k a : ℕ) {z : ℤ} where
     constant-i32 h C is = constant-low 4 (omega arith) (rw h) (is ∙ signed-capped 4 4294967295 refl (omega arith) C)
 
   pub constant_wide : 2 < k → k ≤ 4 → z ≡ signed 8 a → (e : ℕ) → kind_from k a e ≡ constant k z
-  unfolding kind_from if◌then◌else◌
+  unfolding kind_from when◌then◌else◌
   constant_wide h l is e =
       elim (dec_le k 3) [
         | yes d ↦ (let three : k ≡ 3 = omega arith in constant-low 8 d (rw three) is e)

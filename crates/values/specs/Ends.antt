@@ -3,7 +3,7 @@ use Rattle.std.specs.Prelude.{◌≡◌, ℕ, zero, suc, ◌-◌, ◌*◌, ◌^�
 use Rattle.std.proofs.Math.Path.{refl}
 use Rattle.std.proofs.Common.{arith, lit<, leb-false}
 use Rattle.std.proofs.Math.Nat.{one-le-pow}
-use Rattle.paper.specs.Reader.{if◌then◌else◌, no, ◌>>=◌, must, started}
+use Rattle.paper.specs.Reader.{when◌then◌else◌, no, ◌>>=◌, must, started}
 use Rattle.paper.specs.Numbers.{fixed, coding, v64, number}
 use Rattle.values.specs.Items.{linked, at_most}
 use Rattle.values.specs.Held.{fixed-cut}
@@ -23,16 +23,16 @@ module _ (f : List ℕ) (at : ℕ) (end : length f ≤ at) where
   fixed-end w h = fixed-cut w f at (omega arith)
 
   pub bare-end : (k : ℕ) → bare k f at ≡ no 1 at
-  unfolding bare linked number must if◌then◌else◌
+  unfolding bare linked number must when◌then◌else◌
   bare-end k = go (k == 6) (nat_le k 11) refl (nat_le k 13)
     where
-      whole : (t : Bool) → (if t then fixed (2 ^ (k - 7)) else v64) f at ≡ no 1 at
+      whole : (t : Bool) → (when t then fixed (2 ^ (k - 7)) else v64) f at ≡ no 1 at
       whole true = fixed-end (2 ^ (k - 7)) (one-le-pow (k - 7) 2 (lit< tt))
       whole false = v64-end
 
       go :
           (x y : Bool) → nat_le k 11 ≡ y → (z : Bool)
-          → (if x then fixed 1 else if y then (if ltb (k - 7) 4 then fixed (2 ^ (k - 7)) else v64) else if z then fixed (4 * (k - 11)) else linked (at_most (2 ^ 63 - 1))) f at
+          → (when x then fixed 1 else when y then (when ltb (k - 7) 4 then fixed (2 ^ (k - 7)) else v64) else when z then fixed (4 * (k - 11)) else linked (at_most (2 ^ 63 - 1))) f at
           ≡ no 1 at
       go true y t z = fixed-end 1 (lit< tt)
       go false true t z = whole (nat_lt (k - 7) 4)

@@ -6,7 +6,7 @@ use Rattle.std.proofs.Math.Nat.{zero-mul, suc-mul, div-add-mod', mod-lt}
 use Rattle.std.proofs.Math.Decide.{dec_le}
 use native.Nat.{ℕᴺ_discrete}
 use borrow.Author.Tests.{le-leb, lt-leb, eq-eqb, ne_eqb}
-use Rattle.paper.specs.Reader.{if◌then◌else◌, Reader, Out, got, ◌>>=◌, give, must, ◌or_no◌, bytes, repeat}
+use Rattle.paper.specs.Reader.{when◌then◌else◌, Reader, Out, got, ◌>>=◌, give, must, ◌or_no◌, bytes, repeat}
 use Rattle.paper.specs.Numbers.{fixed, v64, number}
 use Rattle.paper.specs.Rules.{bool_rules}
 use Rattle.numbers.specs.Cursors.{Read}
@@ -42,11 +42,11 @@ module _ (ok : ℕ → Bool) (why bound : ℕ) {f : List ℕ} {at : ℕ} {a : Nu
 
 module _ (w : ℕ) (f : List ℕ) where
   pub fixed-there : (at : ℕ) → at + w ≤ length f → forget (fixed w f at) ≡ got tt (at + w)
-  unfolding fixed bytes ◌>>=◌ give if◌then◌else◌ forget
+  unfolding fixed bytes ◌>>=◌ give when◌then◌else◌ forget
   fixed-there at h = rw (le-leb (at + w) (length f) h)
 
   pub fixed-cut : (at : ℕ) → length f < at + w → fixed w f at ≡ Out.no 1 at
-  unfolding fixed bytes ◌>>=◌ give if◌then◌else◌
+  unfolding fixed bytes ◌>>=◌ give when◌then◌else◌
   fixed-cut at h = rw (lt-leb (at + w) (length f) h)
 
   -- all are there

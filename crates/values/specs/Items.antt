@@ -6,7 +6,7 @@ use Rattle.std.proofs.Common.{sym, arith}
 use Rattle.std.proofs.Math.Nat.{lt_of_not-le}
 use Rattle.std.proofs.Math.Decide.{dec_le}
 use borrow.Author.Tests.{leb-false, eqb-true, eqb-false, le-leb, lt-leb, lt-ltb, ne_eqb}
-use Rattle.paper.specs.Reader.{if◌then◌else◌, Reader, ◌>>=◌, give, must, ◌or_no◌, repeat}
+use Rattle.paper.specs.Reader.{when◌then◌else◌, Reader, ◌>>=◌, give, must, ◌or_no◌, repeat}
 use Rattle.paper.specs.Numbers.{signed, fixed, v64, number}
 use Rattle.paper.specs.Ledger.{flag, whole, float, link, annotation, State, object?}
 use Rattle.paper.specs.Rules.{element_kind?, bool_rules, link?, link_rules, annotation?, annotation_rules}
@@ -65,15 +65,15 @@ some_object first last n = n == 0 || in_ranges first last n
 
 unfoldable pub item : ℕ → List ℕ → List ℕ → List ℕ → ℕ → Reader ℕ
 item strings pools first last k =
-    if nat_eq k 5 then
+    when nat_eq k 5 then
     annotated (placed? pools) else
-    if nat_eq k 6 then
+    when nat_eq k 6 then
     must (fixed 1) bool_rules else
-    if leb k 11 then
-    (if ltb (k - 7) 4 then fixed (2 ^ (k - 7)) else v64) else
-    if leb k 13 then
+    when leb k 11 then
+    (when ltb (k - 7) 4 then fixed (2 ^ (k - 7)) else v64) else
+    when leb k 13 then
     fixed (4 * (k - 11)) else
-    if nat_eq k 14 then
+    when nat_eq k 14 then
     linked (at_most strings) else
     linked (some_object first last)
 
@@ -83,38 +83,38 @@ pub record Known (s : State) (k strings : ℕ) (pools first last : List ℕ) : T
   pub pools-are : k ≡ 5 → (m n : ℕ) → placed? pools m n ≡ annotation? s m n
   pub objects-are : 32 ≤ k → (n : ℕ) → in_ranges first last n ≡ object? s (k - 32) n
 
-alike-whole : (k : ℕ) {f : List ℕ} → Alike (whole_of (k - 7)) (if ltb (k - 7) 4 then fixed (2 ^ (k - 7)) else v64) f
-unfolding whole_of if◌then◌else◌
+alike-whole : (k : ℕ) {f : List ℕ} → Alike (whole_of (k - 7)) (when ltb (k - 7) 4 then fixed (2 ^ (k - 7)) else v64) f
+unfolding whole_of when◌then◌else◌
 alike-whole k {f} = go (nat_lt (k - 7) 4)
   where
     go :
         (b : Bool)
-        → Alike (if b then (fixed (2 ^ (k - 7)) >>= λ n. give (signed (2 ^ (k - 7)) n)) else (v64 >>= λ n. give (signed 8 n)))
-        (if b then fixed (2 ^ (k - 7)) else v64) f
+        → Alike (when b then (fixed (2 ^ (k - 7)) >>= λ n. give (signed (2 ^ (k - 7)) n)) else (v64 >>= λ n. give (signed 8 n)))
+        (when b then fixed (2 ^ (k - 7)) else v64) f
     go true = alike_turned (fixed (2 ^ (k - 7))) _
     go false = alike_turned v64 _
 
 module _ {s : State} {k strings : ℕ} {pools first last : List ℕ} (K : Known s k strings pools first last) (listed : element_kind? k ≡ true) where
-  pub link-is : 13 < k → (n : ℕ) → link? s k n ≡ (if nat_eq k 14 then at_most strings n else some_object first last n)
-  unfolding link? at_most some_object if◌then◌else◌
+  pub link-is : 13 < k → (n : ℕ) → link? s k n ≡ (when nat_eq k 14 then at_most strings n else some_object first last n)
+  unfolding link? at_most some_object when◌then◌else◌
   link-is h n = go (k == 14) refl
     where
       go :
           (b : Bool) → (k == 14) ≡ b
-          → (if b then nat_le n (length s.strings) else (n == 0 || object? s (k - 32) n))
-          ≡ (if b then nat_le n strings else (n == 0 || in_ranges first last n))
+          → (when b then nat_le n (length s.strings) else (n == 0 || object? s (k - 32) n))
+          ≡ (when b then nat_le n strings else (n == 0 || in_ranges first last n))
       go true t = rw K.strings-are
       go false t = rw (K.objects-are (listed-object k (other-single k listed (λ q. omega arith)) h (eqb-false k 14 t)) n)
 
   module _ {f : List ℕ} where
-    alike-link : 13 < k → Alike (number (link_rules s k)) (if nat_eq k 14 then linked (at_most strings) else linked (some_object first last)) f
-    unfolding link_rules linked number if◌then◌else◌
+    alike-link : 13 < k → Alike (number (link_rules s k)) (when nat_eq k 14 then linked (at_most strings) else linked (some_object first last)) f
+    unfolding link_rules linked number when◌then◌else◌
     alike-link h = go (k == 14) (λ n. link-is h n)
       where
         go :
-            (b : Bool) → ((n : ℕ) → link? s k n ≡ (if b then at_most strings n else some_object first last n))
+            (b : Bool) → ((n : ℕ) → link? s k n ≡ (when b then at_most strings n else some_object first last n))
             → Alike (must v64 (λ n. (link? s k n or_no 14) ∷ []))
-            (if b then must v64 (λ n. (at_most strings n or_no 14) ∷ []) else must v64 (λ n. (some_object first last n or_no 14) ∷ [])) f
+            (when b then must v64 (λ n. (at_most strings n or_no 14) ∷ []) else must v64 (λ n. (some_object first last n or_no 14) ∷ [])) f
         go true q = alike-must v64 _ _ (λ n. ap (λ (t : Bool). (t or_no 14) ∷ []) (q n))
         go false q = alike-must v64 _ _ (λ n. ap (λ (t : Bool). (t or_no 14) ∷ []) (q n))
 
@@ -127,31 +127,31 @@ module _ {s : State} {k strings : ℕ} {pools first last : List ℕ} (K : Known 
 
     -- an element is read alike by the definitions and by the numbers
     pub alike-item : Alike (element s k) (item strings pools first last k) f
-    unfolding element item if◌then◌else◌
+    unfolding element item when◌then◌else◌
     alike-item = go₀ (k == 5) refl (go₁ (k == 6) (nat_le k 11) (nat_le k 13) refl)
       where
         Tests : Bool → Bool → Bool → Type 0
         Tests = λ x y z. Alike
-            (if x then (must (fixed 1) bool_rules >>= λ b. give (flag (b == 255))) else
-            if y then (whole_of (k - 7) >>= λ v. give (whole v)) else
-            if z then (fixed (4 * (k - 11)) >>= λ n. give (float (4 * (k - 11)) n)) else (number (link_rules s k) >>= λ n. give (link n)))
-            (if x then must (fixed 1) bool_rules else
-            if y then (if ltb (k - 7) 4 then fixed (2 ^ (k - 7)) else v64) else
-            if z then fixed (4 * (k - 11)) else
-            if k == 14 then linked (at_most strings) else linked (some_object first last)) f
+            (when x then (must (fixed 1) bool_rules >>= λ b. give (flag (b == 255))) else
+            when y then (whole_of (k - 7) >>= λ v. give (whole v)) else
+            when z then (fixed (4 * (k - 11)) >>= λ n. give (float (4 * (k - 11)) n)) else (number (link_rules s k) >>= λ n. give (link n)))
+            (when x then must (fixed 1) bool_rules else
+            when y then (when ltb (k - 7) 4 then fixed (2 ^ (k - 7)) else v64) else
+            when z then fixed (4 * (k - 11)) else
+            when k == 14 then linked (at_most strings) else linked (some_object first last)) f
 
         go₀ :
             (b : Bool) → (k == 5) ≡ b → Tests (k == 6) (nat_le k 11) (nat_le k 13)
             → Alike
-            (if b then (must two_numbers (annotation_rules s) >>= λ p. give (annotation p.0 p.1)) else
-            if k == 6 then (must (fixed 1) bool_rules >>= λ b. give (flag (b == 255))) else
-            if nat_le k 11 then (whole_of (k - 7) >>= λ v. give (whole v)) else
-            if nat_le k 13 then (fixed (4 * (k - 11)) >>= λ n. give (float (4 * (k - 11)) n)) else (number (link_rules s k) >>= λ n. give (link n)))
-            (if b then annotated (placed? pools) else
-            if k == 6 then must (fixed 1) bool_rules else
-            if nat_le k 11 then (if ltb (k - 7) 4 then fixed (2 ^ (k - 7)) else v64) else
-            if nat_le k 13 then fixed (4 * (k - 11)) else
-            if k == 14 then linked (at_most strings) else linked (some_object first last)) f
+            (when b then (must two_numbers (annotation_rules s) >>= λ p. give (annotation p.0 p.1)) else
+            when k == 6 then (must (fixed 1) bool_rules >>= λ b. give (flag (b == 255))) else
+            when nat_le k 11 then (whole_of (k - 7) >>= λ v. give (whole v)) else
+            when nat_le k 13 then (fixed (4 * (k - 11)) >>= λ n. give (float (4 * (k - 11)) n)) else (number (link_rules s k) >>= λ n. give (link n)))
+            (when b then annotated (placed? pools) else
+            when k == 6 then must (fixed 1) bool_rules else
+            when nat_le k 11 then (when ltb (k - 7) 4 then fixed (2 ^ (k - 7)) else v64) else
+            when nat_le k 13 then fixed (4 * (k - 11)) else
+            when k == 14 then linked (at_most strings) else linked (some_object first last)) f
         go₀ true t others = alike-noted (eqb-true k 5 t)
         go₀ false t others = others
 
@@ -179,28 +179,28 @@ checked-by {m} {k} {strings} {pools} {first} {last} {f} {at} {n} listed q is P =
 -- the reader of a kind, as code chooses it
 module _ (strings : ℕ) (pools first last : List ℕ) where
   pub item-annotation : (k : ℕ) → k ≡ 5 → item strings pools first last k ≡ annotated (placed? pools)
-  unfolding item if◌then◌else◌
+  unfolding item when◌then◌else◌
   item-annotation k h = rw h
 
   pub item-bool : (k : ℕ) → k ≡ 6 → item strings pools first last k ≡ must (fixed 1) bool_rules
-  unfolding item if◌then◌else◌
+  unfolding item when◌then◌else◌
   item-bool k h = rw h
 
   pub item-v64 : (k : ℕ) → k ≡ 11 → item strings pools first last k ≡ v64
-  unfolding item if◌then◌else◌
+  unfolding item when◌then◌else◌
   item-v64 k h = rw h
 
   pub item-string : (k : ℕ) → k ≡ 14 → item strings pools first last k ≡ linked (at_most strings)
-  unfolding item if◌then◌else◌
+  unfolding item when◌then◌else◌
   item-string k h = rw h
 
   pub item-object : (k : ℕ) → 32 ≤ k → item strings pools first last k ≡ linked (some_object first last)
-  unfolding item if◌then◌else◌
+  unfolding item when◌then◌else◌
   item-object k h =
       rw (ne_eqb k 5 (λ e. omega arith), ne_eqb k 6 (λ e. omega arith), lt-leb k 11 (omega arith), lt-leb k 13 (omega arith), ne_eqb k 14 (λ e. omega arith))
 
   pub item-fixed : (k : ℕ) → Fixed k → item strings pools first last k ≡ fixed (width_of k)
-  unfolding item width_of if◌then◌else◌
+  unfolding item width_of when◌then◌else◌
   item-fixed k h =
       rw (ne_eqb k 5 (λ e. omega (arith, h.low)), ne_eqb k 6 (λ e. omega (arith, h.low)))
       (elim (dec_le k 10) [

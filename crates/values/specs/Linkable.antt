@@ -2,7 +2,7 @@
 use Rattle.std.specs.Prelude.{◌≡◌, ℕ, suc, ◌+◌, ◌-◌, ◌^◌, ◌<◌, ◌≤◌, Bool, true, false, ◌&&◌, ◌||◌, ltb, List, [], ◌∷◌, length, ◌==◌, nat_le, nat_lt, slice_index, refl}
 use Rattle.std.proofs.Common.{◌∙◌, arith, leb-true, ltb-true, eqb-true}
 use Rattle.std.proofs.lemmas.Bool.{eqb-false}
-use Rattle.paper.specs.Reader.{if◌then◌else◌}
+use Rattle.paper.specs.Reader.{when◌then◌else◌}
 use Rattle.paper.specs.Lists.{any, all}
 use Rattle.paper.specs.Ledger.{Range, State, of?, holds?, object?}
 use Rattle.paper.specs.Rules.{element_kind?, link?}
@@ -17,10 +17,10 @@ or_split false y f g h = g h
 
 -- it is enough that strings and objects are few
 pub linkable : (s : State) (k : ℕ) → length s.strings < 2 ^ 63 → ((n : ℕ) → object? s (k - 32) n ≡ true → n < 2 ^ 63) → Linkable s k
-unfolding link? if◌then◌else◌
+unfolding link? when◌then◌else◌
 linkable s k few small = record { below = λ h n. go (k == 14) n }
   where
-    go : (b : Bool) (n : ℕ) → (if b then nat_le n (length s.strings) else (n == 0 || object? s (k - 32) n)) ≡ true → n < 2 ^ 63
+    go : (b : Bool) (n : ℕ) → (when b then nat_le n (length s.strings) else (n == 0 || object? s (k - 32) n)) ≡ true → n < 2 ^ 63
     go true n t = omega (arith, leb-true n (length s.strings) t)
     go false n t = or_split (n == 0) (object? s (k - 32) n) (λ z. omega (arith, eqb-true n 0 z)) (small n) t
 
@@ -52,10 +52,10 @@ ranges-below bound n (a ∷ first) (b ∷ last) h q =
 pub known-linkable :
     {s : State} {k strings : ℕ} {pools first last : List ℕ} → Known s k strings pools first last → element_kind? k ≡ true → strings < 2 ^ 63
     → ((i : ℕ) → slice_index last i < 2 ^ 63) → Linkable s k
-unfolding link? if◌then◌else◌
+unfolding link? when◌then◌else◌
 known-linkable {s} {k} {strings} {pools} {first} {last} K listed few small = record { below = λ h n. go h (k == 14) refl n }
   where
-    go : 14 ≤ k → (b : Bool) → (k == 14) ≡ b → (n : ℕ) → (if b then nat_le n (length s.strings) else (n == 0 || object? s (k - 32) n)) ≡ true → n < 2 ^ 63
+    go : 14 ≤ k → (b : Bool) → (k == 14) ≡ b → (n : ℕ) → (when b then nat_le n (length s.strings) else (n == 0 || object? s (k - 32) n)) ≡ true → n < 2 ^ 63
     go h true t n q = omega (arith, leb-true n (length s.strings) q, K.strings-are)
     go h false t n q =
         let big = listed-object k (other-single k listed (λ e. omega arith)) h (eqb-false k 14 t) in

@@ -3,7 +3,7 @@ use Rattle.std.specs.Prelude.{◌≡◌, ℕ, suc, ◌-◌, ◌*◌, ◌^◌, �
 use Rattle.std.proofs.Common.{inl, inr, arith, lt_of_not-le, leb-true, le-leb, ne_eqb}
 use Rattle.std.proofs.Math.Decide.{dec_le}
 use Rattle.std.proofs.lemmas.Bool.{lt-leb}
-use Rattle.paper.specs.Reader.{if◌then◌else◌}
+use Rattle.paper.specs.Reader.{when◌then◌else◌}
 use Rattle.paper.specs.Rules.{single_kind?, element_kind?}
 use Rattle.laws.specs.Bools.{not_so}
 
@@ -52,11 +52,11 @@ pub record Fixed (k : ℕ) : Type 0 where
   pub not-v64 : k ≡ 11 → ⊥
 
 unfoldable pub width_of : ℕ → ℕ
-width_of k = if nat_le k 10 then 2 ^ (k - 7) else 4 * (k - 11)
+width_of k = when nat_le k 10 then 2 ^ (k - 7) else 4 * (k - 11)
 
 -- the widest are i64 and f64
 pub width-most : {k : ℕ} → Fixed k → (k ≢ 7) → (k ≢ 8) → ((k ≡ 9) ⊎ (k ≡ 12) → ⊥) → 8 ≡ width_of k
-unfolding width_of if◌then◌else◌
+unfolding width_of when◌then◌else◌
 width-most {k} h x y z =
     elim (dec_le k 10) [
       | yes d ↦

@@ -4,7 +4,7 @@ use Rattle.std.proofs.Common.{sym, ap, ◌∙◌, arith, length-take, length-dro
 use Rattle.std.proofs.Math.Nat.{lt_of_not-le}
 use Rattle.std.proofs.Math.Decide.{dec_le}
 use borrow.Author.Tests.{le-leb, lt-leb, eq-eqb}
-use Rattle.paper.specs.Reader.{Reader, Out, got, no, and_then, if◌then◌else◌, ◌>>=◌, give, started, must, repeat}
+use Rattle.paper.specs.Reader.{Reader, Out, got, no, and_then, when◌then◌else◌, ◌>>=◌, give, started, must, repeat}
 use Rattle.paper.specs.Numbers.{fixed, coding, low_first, v64, number}
 use Rattle.numbers.specs.Cursors.{out_step, Past}
 use Rattle.numbers.specs.Begun.{one_byte}
@@ -64,7 +64,7 @@ pub within_held : {low high n : ℕ} → n ≤ high → ((n ≢ 0) → low < n) 
 within_held h k = record { most = λ x. h; least = λ x. k }
 
 pub one_number : (f : List ℕ) (at b : ℕ) → at < length f → b ≡ slice_index f at → b < 128 → v64 f at ≡ got b (at + 1)
-unfolding v64 started coding ◌>>=◌ give if◌then◌else◌ low_first
+unfolding v64 started coding ◌>>=◌ give when◌then◌else◌ low_first
 one_number f at b h is lt = let low : slice_index_or f at 0 < 128 = omega arith in rw (one_byte f at h, lt-leb 128 (slice_index f at) low) (ap (λ (n : ℕ). got n (at + 1)) (sym is))
 
 pub past-any : {f : List ℕ} {at : ℕ} {a : Step} {c : Cursor} → Past v64 f at a → a ≡ step.Got c → Any f at c.at

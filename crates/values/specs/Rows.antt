@@ -6,7 +6,7 @@ use Rattle.std.proofs.Math.Nat.{div-add-mod, one-le-pow, mod-eq_of_lt}
 use Rattle.std.proofs.Math.Decide.{dec_le}
 use Rattle.std.specs.Int.Signed.{mag}
 use Rattle.std.proofs.lemmas.Bool.{lt-leb}
-use Rattle.paper.specs.Reader.{if◌then◌else◌, Out, got}
+use Rattle.paper.specs.Reader.{when◌then◌else◌, Out, got}
 use Rattle.paper.specs.Numbers.{signed, fixed, v64}
 use Rattle.paper.specs.Ledger.{whole}
 use Rattle.paper.specs.Calls.{stored}
@@ -39,31 +39,31 @@ pub record Wide (k w : ℕ) : Type 0 where
   pub bound : bound_of k ≡ 256 ^ w
 
 pub wide-6 : Wide 6 1
-unfolding bare bound_of if◌then◌else◌
+unfolding bare bound_of when◌then◌else◌
 wide-6 = record { single = refl; some = lit< tt; reads = refl; bound = refl }
 
 pub wide-7 : Wide 7 1
-unfolding bare bound_of if◌then◌else◌
+unfolding bare bound_of when◌then◌else◌
 wide-7 = record { single = refl; some = lit< tt; reads = refl; bound = refl }
 
 pub wide-8 : Wide 8 2
-unfolding bare bound_of if◌then◌else◌
+unfolding bare bound_of when◌then◌else◌
 wide-8 = record { single = refl; some = lit< tt; reads = refl; bound = refl }
 
 pub wide-9 : Wide 9 4
-unfolding bare bound_of if◌then◌else◌
+unfolding bare bound_of when◌then◌else◌
 wide-9 = record { single = refl; some = lit< tt; reads = refl; bound = refl }
 
 pub wide-10 : Wide 10 8
-unfolding bare bound_of if◌then◌else◌
+unfolding bare bound_of when◌then◌else◌
 wide-10 = record { single = refl; some = lit< tt; reads = refl; bound = refl }
 
 pub wide-12 : Wide 12 4
-unfolding bare bound_of if◌then◌else◌
+unfolding bare bound_of when◌then◌else◌
 wide-12 = record { single = refl; some = lit< tt; reads = refl; bound = refl }
 
 pub wide-13 : Wide 13 8
-unfolding bare bound_of if◌then◌else◌
+unfolding bare bound_of when◌then◌else◌
 wide-13 = record { single = refl; some = lit< tt; reads = refl; bound = refl }
 
 -- ── the case of a value's answer that each kind has ──
@@ -73,7 +73,7 @@ pub record Stood (k n : ℕ) (v : Value) : Type 0 where
   pub fits : Storable v
 
 pub stood-flag : (n : ℕ) → Stood 6 n (Flag (n == 255))
-unfolding element_of Storable made if◌then◌else◌
+unfolding element_of Storable made when◌then◌else◌
 stood-flag n = record { is = refl; fits = tt }
 
 -- z is the machine's reading of r
@@ -83,18 +83,18 @@ module _ (k n : ℕ) {z r : ℤ} (read : z ≡ r) (h : mag r < 2 ^ 63) where
   stood-made low high e = record { is = ap whole (read ∙ e) ∙ sym (made-whole k n low high); fits = rw read h }
 
   pub stood-whole : 6 < k → k < 11 → r ≡ signed (2 ^ (k - 7)) n → Stood k n (Whole z)
-  unfolding whole_made if◌then◌else◌
+  unfolding whole_made when◌then◌else◌
   stood-whole low high e = stood-made low (omega arith) (rw (lt-ltb (k - 7) 4 (omega arith)) e)
 
   pub stood-v64 : k ≡ 11 → r ≡ signed 8 n → Stood k n (Whole z)
   stood-v64 is e = stood-made (omega arith) (omega arith) (e ∙ sym (whole-8 k n (omega arith)))
 
 pub stood-f32 : (n : ℕ) → n < 256 ^ 4 → Stood 12 n (Float 4 n)
-unfolding element_of Storable made if◌then◌else◌
+unfolding element_of Storable made when◌then◌else◌
 stood-f32 n h = record { is = refl; fits = λ other. (refl, h) }
 
 pub stood-f64 : (n : ℕ) → Stood 13 n (Float 8 n)
-unfolding element_of Storable made if◌then◌else◌
+unfolding element_of Storable made when◌then◌else◌
 stood-f64 n = record { is = refl; fits = λ other. absurd (other refl) }
 
 pub stood-object : (k n : ℕ) → 13 < k → n < 2 ^ 63 → Stood k n (Object n)
@@ -162,7 +162,7 @@ module _ {k w : ℕ} (W : Wide k w) {f : List ℕ} {l : List ℤ} {at : ℕ} {m 
 
 module _ {f : List ℕ} {at : ℕ} {a : Number} where
   pub read-v64 : Read v64 (2 ^ 64) f at a → Read (bare 11) (bound_of 11) f at a
-  unfolding bare bound_of if◌then◌else◌
+  unfolding bare bound_of when◌then◌else◌
   read-v64 R = R
 
   read-object : (k : ℕ) → 13 < k → Read (linked (at_most (2 ^ 63 - 1))) (2 ^ 63) f at a → Read (bare k) (bound_of k) f at a

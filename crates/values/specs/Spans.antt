@@ -5,7 +5,7 @@ use Rattle.std.proofs.Math.Path.{refl}
 use Rattle.std.proofs.Common.{ap, ◌∙◌, inl, inr, length-take, length-drop}
 use native.Mathlib.Omega.{arith}
 use borrow.Author.Tests.{leb-true, ltb-true, le-leb, lt-leb, lt-ltb, le-ltb}
-use Rattle.paper.specs.Reader.{if◌then◌else◌, Reader, repeat}
+use Rattle.paper.specs.Reader.{when◌then◌else◌, Reader, repeat}
 use Rattle.paper.specs.Numbers.{fixed}
 use Rattle.numbers.specs.declared.Number.{Number}
 use Rattle.values.specs.Pass.{Passed, passed-as, alike-back}
@@ -18,10 +18,10 @@ unfoldable pub there? : List ℕ → ℕ → Bool
 there? starts k = nat_le 32 k && nat_lt (k - 31) (length starts)
 
 unfoldable pub from_of : List ℕ → ℕ → ℕ
-from_of starts k = if there? starts k then slice_index starts (k - 31 - 1) else 0
+from_of starts k = when there? starts k then slice_index starts (k - 31 - 1) else 0
 
 unfoldable pub to_of : List ℕ → ℕ → ℕ
-to_of starts k = if there? starts k then slice_index starts (k - 31) else 0
+to_of starts k = when there? starts k then slice_index starts (k - 31) else 0
 
 -- of a list of all, those of the type that kind k names
 unfoldable pub ranges : List ℕ → ℕ → List ℕ → List ℕ
@@ -45,16 +45,16 @@ pub record Spanned (starts : List ℕ) (k from to : ℕ) : Type 0 where
 
 module _ (starts : List ℕ) (k : ℕ) where
   pub span-low : k < 32 → Spanned starts k 0 0
-  unfolding from_of to_of there? if◌then◌else◌
+  unfolding from_of to_of there? when◌then◌else◌
   span-low h = record { from_is = rw (lt-leb 32 k h); to_is = rw (lt-leb 32 k h) }
 
   module _ (h : 32 ≤ k) where
     pub span-far : length starts ≤ k - 31 → Spanned starts k 0 0
-    unfolding from_of to_of there? if◌then◌else◌
+    unfolding from_of to_of there? when◌then◌else◌
     span-far far = record { from_is = rw (le-leb 32 k h, le-ltb (k - 31) (length starts) far); to_is = rw (le-leb 32 k h, le-ltb (k - 31) (length starts) far) }
 
     pub span-there : k - 31 < length starts → Spanned starts k (slice_index starts (k - 31 - 1)) (slice_index starts (k - 31))
-    unfolding from_of to_of there? if◌then◌else◌
+    unfolding from_of to_of there? when◌then◌else◌
     span-there near = record { from_is = rw (le-leb 32 k h, lt-ltb (k - 31) (length starts) near); to_is = rw (le-leb 32 k h, lt-ltb (k - 31) (length starts) near) }
 
 -- such a part can be lent
@@ -64,12 +64,12 @@ pub record Lendable (first last : List ℕ) (from to : ℕ) : Type 0 where
   pub in-last : to ≤ length last
 
 pub lendable : {starts first last : List ℕ} {k from to : ℕ} → Grouped starts first last → Spanned starts k from to → Lendable first last from to
-unfolding from_of to_of there? if◌then◌else◌
+unfolding from_of to_of there? when◌then◌else◌
 lendable {starts} {first} {last} {k} G S = rw (S.from_is, S.to_is) (go (nat_le 32 k) refl (nat_lt (k - 31) (length starts)) refl)
   where
     go :
         (x : Bool) → nat_le 32 k ≡ x → (y : Bool) → nat_lt (k - 31) (length starts) ≡ y
-        → Lendable first last (if x && y then slice_index starts (k - 31 - 1) else 0) (if x && y then slice_index starts (k - 31) else 0)
+        → Lendable first last (when x && y then slice_index starts (k - 31 - 1) else 0) (when x && y then slice_index starts (k - 31) else 0)
     go true t true u =
         let big = leb-true 32 k t in
         let near = ltb-true (k - 31) (length starts) u in
@@ -117,19 +117,19 @@ module _ (strings : ℕ) (pools : List ℕ) {k : ℕ} where
   width_is n w is F wide a b = ap (item strings pools a b) is ∙ item-fixed strings pools a b n F ∙ ap fixed wide
 
   pub item-1 : k ≡ 7 → (a b : List ℕ) → item strings pools a b k ≡ fixed 1
-  unfolding width_of if◌then◌else◌
+  unfolding width_of when◌then◌else◌
   item-1 is = width_is 7 1 is (record { low = omega arith; high = omega arith; not-v64 = λ q. omega arith }) refl
 
   pub item-2 : k ≡ 8 → (a b : List ℕ) → item strings pools a b k ≡ fixed 2
-  unfolding width_of if◌then◌else◌
+  unfolding width_of when◌then◌else◌
   item-2 is = width_is 8 2 is (record { low = omega arith; high = omega arith; not-v64 = λ q. omega arith }) refl
 
   pub item-4 : (k ≡ 9) ⊎ (k ≡ 12) → (a b : List ℕ) → item strings pools a b k ≡ fixed 4
-  unfolding width_of if◌then◌else◌
+  unfolding width_of when◌then◌else◌
   item-4 (inl is) = width_is 9 4 is (record { low = omega arith; high = omega arith; not-v64 = λ q. omega arith }) refl
   item-4 (inr is) = width_is 12 4 is (record { low = omega arith; high = omega arith; not-v64 = λ q. omega arith }) refl
 
   pub item-8 : (k ≡ 10) ⊎ (k ≡ 13) → (a b : List ℕ) → item strings pools a b k ≡ fixed 8
-  unfolding width_of if◌then◌else◌
+  unfolding width_of when◌then◌else◌
   item-8 (inl is) = width_is 10 8 is (record { low = omega arith; high = omega arith; not-v64 = λ q. omega arith }) refl
   item-8 (inr is) = width_is 13 8 is (record { low = omega arith; high = omega arith; not-v64 = λ q. omega arith }) refl

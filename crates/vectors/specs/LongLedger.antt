@@ -4,7 +4,7 @@ use Rattle.std.specs.Prelude.{◌≡◌, refl, Bool, true, false, ◌&&◌, List
 use Rattle.std.proofs.Common.{ap, ◌∙◌, arith, zero-add, suc-add}
 use Rattle.std.proofs.Math.Option.{Option, none, some}
 use Rattle.std.proofs.lemmas.List.{length-replicate}
-use Rattle.paper.specs.Reader.{if◌then◌else◌, Out, got, no, and_then, ◌>>=◌, ◌>>◌, give}
+use Rattle.paper.specs.Reader.{when◌then◌else◌, Out, got, no, and_then, ◌>>=◌, ◌>>◌, give}
 use Rattle.paper.specs.Lists.{all}
 use Rattle.paper.specs.Ledger.{Element, flag, Pair, Ledger, nothing}
 use Rattle.paper.specs.Rules.{after_pair}
@@ -47,7 +47,7 @@ long_kept : (n : ℕ) → keeps? (one_string n) ≡ leb (n + 6) 1048576
 unfolding keeps? every
 long_kept n = rw (encoded-length n, rules-kept n) (and-true (leb (n + 6) 1048576))
 
-long-built : (n : ℕ) → short (got (one_string n) 0) ≡ (if leb (n + 6) 1048576 then some (encode (one_string n)) else none)
+long-built : (n : ℕ) → short (got (one_string n) 0) ≡ (when leb (n + 6) 1048576 then some (encode (one_string n)) else none)
 unfolding short
 long-built n = rw (encoded-length n)
 
@@ -80,12 +80,12 @@ two-more (p ∷ pre) x y = omega (arith, two-more pre x y)
 
 -- the next flag, at the end of what was read
 next-flag : (pre xs : List ℕ) → read_element 6 (pre ++ 9 ∷ 48 ∷ xs) (length pre + 1) ≡ got (flag false) (length pre + 1 + 1)
-unfolding read_element read_flag if◌then◌else◌
+unfolding read_element read_flag when◌then◌else◌
 next-flag pre xs = rw (behind-end pre 9 48 xs)
 
 -- at most n are read, whatever follows
 flags-read : (n : ℕ) (pre rest : List ℕ) → tabbed n (read_element 6) (pre ++ (zeros n ++ rest)) (length pre) ≡ got (replicate n (flag false)) (length pre + length (zeros n))
-unfolding tabbed zeros if◌then◌else◌
+unfolding tabbed zeros when◌then◌else◌
 flags-read zero pre rest = ap {B = Out (List Element)} (λ (e : ℕ). got [] e) (omega arith)
 flags-read (suc n) pre rest =
     let text = pre ++ 9 ∷ 48 ∷ (zeros n ++ rest) in
@@ -97,24 +97,24 @@ flags-read (suc n) pre rest =
     (ap {B = Out (List Element)} (λ (e : ℕ). got (flag false ∷ replicate n (flag false)) e) (omega (arith, two-more pre 9 48)))
 
 -- a test that is asked behind a reading
-asked-last : (b : Bool) (k : ℕ) (l : List Element) → and_then (if b then got (tt {0}) k else no 20 0) (λ u e. got l e) ≡ (if b then got l k else no 20 0)
-unfolding if◌then◌else◌
+asked-last : (b : Bool) (k : ℕ) (l : List Element) → and_then (when b then got (tt {0}) k else no 20 0) (λ u e. got l e) ≡ (when b then got l k else no 20 0)
+unfolding when◌then◌else◌
 asked-last true k l = refl
 asked-last false k l = refl
 
 -- behind them a newline is due
 line_read :
     (n x : ℕ) (xs : List ℕ) →
-    ended 10 (tabbed n (read_element 6)) (118 ∷ 97 ∷ 108 ∷ (zeros n ++ x ∷ xs)) 3 ≡ (if eqb x 10 then got (replicate n (flag false)) (3 + length (zeros n) + 1) else no 20 0)
+    ended 10 (tabbed n (read_element 6)) (118 ∷ 97 ∷ 108 ∷ (zeros n ++ x ∷ xs)) 3 ≡ (when eqb x 10 then got (replicate n (flag false)) (3 + length (zeros n) + 1) else no 20 0)
 unfolding ended ◌>>=◌ ◌>>◌ byte_is give
 line_read n x xs =
     ap {B = Out (List Element)} (λ (o : Out (List Element)). and_then o λ l. (byte_is 10 >> give l) (118 ∷ 97 ∷ 108 ∷ (zeros n ++ x ∷ xs))) (flags-read n (118 ∷ 97 ∷ 108 ∷ []) (x ∷ xs))
-    ∙ ap {B = Out (List Element)} (λ (b : ℕ). and_then (if eqb b 10 then got (tt {0}) (3 + length (zeros n) + 1) else no 20 0) (λ u e. got (replicate n (flag false)) e)) (at-second-end (118 ∷ 97 ∷ 108 ∷ []) (zeros n) x xs)
+    ∙ ap {B = Out (List Element)} (λ (b : ℕ). and_then (when eqb b 10 then got (tt {0}) (3 + length (zeros n) + 1) else no 20 0) (λ u e. got (replicate n (flag false)) e)) (at-second-end (118 ∷ 97 ∷ 108 ∷ []) (zeros n) x xs)
     ∙ asked-last (eqb x 10) (3 + length (zeros n) + 1) (replicate n (flag false))
 
 -- an array has at most 65,535 elements: so many are read, and what follows them is no other
 long-value :
     (x : ℕ) (xs : List ℕ) →
-    read_value 6 (118 ∷ 97 ∷ 108 ∷ (zeros 65535 ++ x ∷ xs)) 0 ≡ (if eqb x 10 then got (replicate 65535 (flag false)) (3 + length (zeros 65535) + 1) else no 20 0)
-unfolding read_value literal byte_is ◌>>◌ give ascii if◌then◌else◌
+    read_value 6 (118 ∷ 97 ∷ 108 ∷ (zeros 65535 ++ x ∷ xs)) 0 ≡ (when eqb x 10 then got (replicate 65535 (flag false)) (3 + length (zeros 65535) + 1) else no 20 0)
+unfolding read_value literal byte_is ◌>>◌ give ascii when◌then◌else◌
 long-value x xs = line_read 65535 x xs

@@ -2,7 +2,7 @@
 use Rattle.std.specs.Prelude.{◌≡◌, Bool, true, false, List, [], ◌∷◌, ◌++◌, map, ℕ, zero, suc, ◌+◌, ◌≤◌, ◌<◌, eqb, length, get_or}
 use Rattle.std.proofs.Common.{ap, ◌∙◌, arith, length-append}
 use Rattle.std.proofs.lemmas.List.{length-map}
-use Rattle.paper.specs.Reader.{if◌then◌else◌}
+use Rattle.paper.specs.Reader.{when◌then◌else◌}
 use Rattle.paper.specs.Lists.{places, fold}
 use Rattle.paper.specs.Ledger.{New, Head, Entry, Due, Field, State, owns?, fields_of, objects_of}
 use Rattle.paper.specs.Rules.{with_strings, type_of, after_head, after_entry, after_front, known_due, old_due, new_dues, entry_dues, dues}
@@ -33,19 +33,19 @@ owed-append n (d ∷ ds) es h k = (h.0, owed-append n ds es h.1 k)
 
 -- of fields whose places, from i on, pass a test
 owed-places : (p : Field → Bool) (s : State) (added n : ℕ) (fs : List Field) (i : ℕ) → i + length fs ≤ n → Owed n (map (old_due s added) (places p i fs))
-unfolding places if◌then◌else◌ old_due
+unfolding places when◌then◌else◌ old_due
 owed-places p s added n [] i le = tt
 owed-places p s added n (d ∷ fs) i le = go (owed-places p s added n fs (suc i) (omega arith)) (p d)
   where
-    go : Owed n (map (old_due s added) (places p (suc i) fs)) → (b : Bool) → Owed n (map (old_due s added) (if b then i ∷ places p (suc i) fs else places p (suc i) fs))
+    go : Owed n (map (old_due s added) (places p (suc i) fs)) → (b : Bool) → Owed n (map (old_due s added) (when b then i ∷ places p (suc i) fs else places p (suc i) fs))
     go rest true = (omega arith, rest)
     go rest false = rest
 
 owed-known : (s : State) (h : Head) (n : ℕ) → length s.fields ≤ n → Owed n (map (old_due s h.count) (known_due s h))
-unfolding known_due fields_of if◌then◌else◌
+unfolding known_due fields_of when◌then◌else◌
 owed-known s h n le = go (eqb h.count 0)
   where
-    go : (b : Bool) → Owed n (map (old_due s h.count) (if b then [] else places (owns? (type_of s h.name)) 0 s.fields))
+    go : (b : Bool) → Owed n (map (old_due s h.count) (when b then [] else places (owns? (type_of s h.name)) 0 s.fields))
     go true = tt
     go false = owed-places (owns? (type_of s h.name)) s h.count n s.fields 0 (omega arith)
 

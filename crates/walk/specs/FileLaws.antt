@@ -4,7 +4,7 @@ use Rattle.std.proofs.Common.{◌∙◌, le-leb}
 use Rattle.std.specs.Prelude.{List, [], ◌∷◌, ℕ, suc, ◌≤◌, ◌<◌, length, get_or}
 use native.Mathlib.Omega.{arith}
 use Rattle.std.proofs.lemmas.Bool.{lt-leb}
-use Rattle.paper.specs.Reader.{if◌then◌else◌, Out, got, no, turned}
+use Rattle.paper.specs.Reader.{when◌then◌else◌, Out, got, no, turned}
 use Rattle.paper.specs.Bounds.{most_bytes}
 use Rattle.paper.specs.Ledger.{Ledger, nothing, of?}
 use Rattle.paper.specs.File.{file}
@@ -42,7 +42,7 @@ pub record FileRead (f l : List ℕ) (r : Step) : Type 0 where
 -- ── a file that is too long ──
 
 pub file-long : {f l : List ℕ} → 1048576 < length f → FileRead f l (No (record { number = 3; place = 0 }))
-unfolding file if◌then◌else◌
+unfolding file when◌then◌else◌
 file-long {f} lt = record { told = rw (lt-leb (length f) most_bytes lt) }
 
 -- ── the others ──
@@ -81,7 +81,7 @@ module _ (f : List ℕ) {l : List ℕ} (le : length f ≤ 1048576) (B : Begun l)
   walk-ready b = record { steady = steady-begun f small B; bytes = b; small = le; block = ap (λ (s : Said). s.state.block) (now-begun f small B) }
 
   file-is : turned (said_of 32 begun f 0) (file f) ≡ pairs_to 32 (said f l) f 0
-  unfolding file if◌then◌else◌ begun
+  unfolding file when◌then◌else◌ begun
   file-is = rw (le-leb (length f) most_bytes le, now-begun f small B) (sym (pairs-are 32 begun f 0 refl))
 
   pub file-read : {l' : List ℕ} {r : Step} → WalkDone f l l' r → FileRead f l' r

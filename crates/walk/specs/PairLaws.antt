@@ -5,7 +5,7 @@ use Rattle.std.specs.Prelude.{Bool, true, false, ℕ, ◌+◌, ◌≤◌, ◌<�
 use mathlib.Core.List.{List, [], ◌∷◌, ◌++◌}
 use Rattle.std.proofs.Math.ListN.{length}
 use Rattle.std.proofs.lemmas.Bool.{lt-leb}
-use Rattle.paper.specs.Reader.{if◌then◌else◌, Out, got, no, and_then, turned, ◌>>◌, within}
+use Rattle.paper.specs.Reader.{when◌then◌else◌, Out, got, no, and_then, turned, ◌>>◌, within}
 use Rattle.paper.specs.Lists.{last_or}
 use Rattle.paper.specs.Ledger.{Chunk, Due, State}
 use Rattle.paper.specs.Rules.{with_strings, any_type, a_type?, kinds_stand?, dues, closed, after_front}
@@ -164,7 +164,7 @@ module _ {f l l₁ : List ℕ} {at size m : ℕ} (R : PairReady f l at) (F : Fro
 
   -- the data region does not end within the file
   pub pair-short : length f < m + size → PairDone f l l₁ at (No (record { number = 1; place = m }))
-  unfolding within if◌then◌else◌
+  unfolding within when◌then◌else◌
   pair-short lt = record { holds = h₁; says = sym (pair_is ∙ rw (lt-leb (m + last_or 0 d.ends) (length f) (omega (arith, size_is)))); steady = tt }
 
   stood : {b : Bool} → AllStand l₁ (fields_in l) b → b ≡ kinds_stand? s₂ d.entries
@@ -177,7 +177,7 @@ module _ {f l l₁ : List ℕ} {at size m : ℕ} (R : PairReady f l at) (F : Fro
   module _ (le : m + size ≤ length f) where
     -- a kind names no type: the refusal is that of the front, read again
     pub pair-late : AllStand l₁ (fields_in l) false → {l₂ : List ℕ} {r : Step} → Holds f l₂ → step_of r ≡ refusal_of (front (a_type? (view f l₁)) s f at) → PairDone f l l₂ at r
-    unfolding within if◌then◌else◌ kinds_named ◌>>◌
+    unfolding within when◌then◌else◌ kinds_named ◌>>◌
     pair-late A {l₂} {r} h₂ q =
         let again : step_of r ≡ refusal_of (front (a_type? s₂) s f at) = rw state-is at q in
         let is : pair_to (said f l) f at ≡ turned (λ (cs : List Chunk). said_after (said f l) d m) (and_then (refusal_of (front (a_type? s₂) s f at)) (λ u e. data_region s₂ (dues (with_strings s d.strings) d.entries) d.ends f e)) =
@@ -230,7 +230,7 @@ module _ {f l l₁ : List ℕ} {at size m : ℕ} (R : PairReady f l at) (F : Fro
 
     module _ (A : AllStand l₁ (fields_in l) true) where
       whole : within (last_or 0 d.ends) (faithful.region s at d) f m ≡ chunks_at (view f l₁) (dues_of l₁) f m
-      unfolding within if◌then◌else◌ kinds_named ◌>>◌ data_region chunks_at
+      unfolding within when◌then◌else◌ kinds_named ◌>>◌ data_region chunks_at
       whole =
           rw (le-leb (m + last_or 0 d.ends) (length f) (omega (arith, size_is)), ← stood A)
           (rw (state-is, ← dues-are, ← size_is) (region-is s₂ f m size (omega arith) (dues_of l₁) sizes-is))

@@ -2,7 +2,7 @@
 use Rattle.std.specs.Prelude.{◌≡◌, refl, List, ℕ, zero, suc, ◌+◌, ◌-◌, ◌≤◌, ◌<◌, length}
 use Rattle.std.proofs.Common.{sym, ap, ◌∙◌, arith, le-leb}
 use Rattle.std.proofs.lemmas.Bool.{lt-leb}
-use Rattle.paper.specs.Reader.{if◌then◌else◌, Out, got, no, and_then, turned, within}
+use Rattle.paper.specs.Reader.{when◌then◌else◌, Out, got, no, and_then, turned, within}
 use Rattle.paper.specs.Lists.{last_or}
 use Rattle.paper.specs.Ledger.{Chunk}
 use Rattle.paper.specs.Rules.{any_type, closed}
@@ -21,16 +21,16 @@ use Rattle.numbers.specs.declared.Step.TheVariants.{Got, No}
 -- ── the definitions' side ──
 
 pairs_end : (n : ℕ) (g : Said) (f : List ℕ) (at : ℕ) → length f ≤ at → pairs_to n g f at ≡ got g at
-unfolding pairs_to if◌then◌else◌
+unfolding pairs_to when◌then◌else◌
 pairs_end zero g f at le = rw (le-leb (length f) at le)
 pairs_end (suc n) g f at le = rw (le-leb (length f) at le)
 
 pairs-over : (n : ℕ) (g : Said) (f : List ℕ) (at : ℕ) → n ≡ 0 → at < length f → pairs_to n g f at ≡ no 3 at
-unfolding pairs_to if◌then◌else◌
+unfolding pairs_to when◌then◌else◌
 pairs-over n g f at z lt = rw (z, lt-leb (length f) at lt)
 
 pairs-step : (n : ℕ) (g : Said) (f : List ℕ) (at : ℕ) → 0 < n → at < length f → pairs_to n g f at ≡ and_then (pair_to g f at) (λ g₁ e. pairs_to (n - 1) g₁ f e)
-unfolding pairs_to if◌then◌else◌
+unfolding pairs_to when◌then◌else◌
 pairs-step zero g f at pos lt = absurd (omega arith)
 pairs-step (suc n) g f at pos lt = let z : suc n - 1 ≡ n = omega arith in rw (lt-leb (length f) at lt, z) refl
 

@@ -1,7 +1,7 @@
 -- Pair after pair, as all that the table says goes on; and that this is what the definitions read. Assumes nothing.
 use Rattle.std.specs.Prelude.{◌≡◌, refl, Bool, true, false, List, [], ◌∷◌, ◌++◌, ℕ, zero, suc, ◌+◌, leb, length}
 use Rattle.std.proofs.Common.{sym, ap, ◌∙◌, append_assoc, append-nil}
-use Rattle.paper.specs.Reader.{if◌then◌else◌, Out, got, no, and_then, turned, ◌>>=◌, give, refuse, within, unless_end, to_end}
+use Rattle.paper.specs.Reader.{when◌then◌else◌, Out, got, no, and_then, turned, ◌>>=◌, give, refuse, within, unless_end, to_end}
 use Rattle.paper.specs.Lists.{fold, last_or}
 use Rattle.paper.specs.Ledger.{Chunk, Ledger, State}
 use Rattle.paper.specs.Rules.{any_type, closed, after_front, after_pair}
@@ -24,8 +24,8 @@ pair_to g f at =
 
 -- at most n pairs, up to the end of the file
 unfoldable pub pairs_to : ℕ → Said → List ℕ → ℕ → Out Said
-pairs_to zero g f at = if leb (length f) at then got g at else no 3 at
-pairs_to (suc n) g f at = if leb (length f) at then got g at else and_then (pair_to g f at) λ g₁ e. pairs_to n g₁ f e
+pairs_to zero g f at = when leb (length f) at then got g at else no 3 at
+pairs_to (suc n) g f at = when leb (length f) at then got g at else and_then (pair_to g f at) λ g₁ e. pairs_to n g₁ f e
 
 -- ── it is what the definitions read ──
 
@@ -40,7 +40,7 @@ Between g = g.due ≡ []
 -- the places of the chunks of one pair and more
 spots-of : (n : ℕ) (s : State) (f : List ℕ) (at : ℕ) → leb (length f) at ≡ false
     → spots_of (suc n) s f at ≡ with_front (front any_type s f at) (λ d m. pair_spots s d m ++ spots_of n (closed (after_front s d.strings d.entries)) f (m + last_or 0 d.ends))
-unfolding spots_of if◌then◌else◌
+unfolding spots_of when◌then◌else◌
 spots-of n s f at h = rw h
 
 -- a ledger's state with these places
@@ -87,7 +87,7 @@ one-pair n g f at before ih =
     go (no k p) is = refl
 
 no-spots : (n : ℕ) (s : State) (f : List ℕ) (at : ℕ) → leb (length f) at ≡ true → spots_of n s f at ≡ []
-unfolding spots_of if◌then◌else◌
+unfolding spots_of when◌then◌else◌
 no-spots zero s f at h = refl
 no-spots (suc n) s f at h = rw h
 
@@ -95,17 +95,17 @@ no_more : (g : Said) → g.due ≡ [] → record { state = g.state; due = []; ch
 no_more g h = λ i. record { state = g.state; due = sym h i; chunks = append-nil g.chunks i }
 
 pub pairs-are : (n : ℕ) (g : Said) (f : List ℕ) (at : ℕ) → g.due ≡ [] → pairs_to n g f at ≡ turned (said_of n g f at) (pairs n g.state f at)
-unfolding pairs_to pairs to_end unless_end refuse if◌then◌else◌ said_of spots_of fold ◌>>=◌ give
+unfolding pairs_to pairs to_end unless_end refuse when◌then◌else◌ said_of spots_of fold ◌>>=◌ give
 pairs-are zero g f at h = go (leb (length f) at)
   where
-    go : (b : Bool) → (if b then got g at else no 3 at) ≡ turned (λ l. record { state = fold after_pair g.state l; due = []; chunks = g.chunks ++ [] }) (if b then got [] at else no 3 at)
+    go : (b : Bool) → (when b then got g at else no 3 at) ≡ turned (λ l. record { state = fold after_pair g.state l; due = []; chunks = g.chunks ++ [] }) (when b then got [] at else no 3 at)
     go true = ap (λ (x : Said). got x at) (sym (no_more g h))
     go false = refl
 pairs-are (suc n) g f at h = go (λ g₁ e k. pairs-are n g₁ f e k) (leb (length f) at) refl
   where
     go :
         ((g₁ : Said) (e : ℕ) → g₁.due ≡ [] → pairs_to n g₁ f e ≡ turned (said_of n g₁ f e) (pairs n g₁.state f e)) → (b : Bool) → leb (length f) at ≡ b
-        → (if b then got g at else and_then (pair_to g f at) (λ g₁ e. pairs_to n g₁ f e))
-        ≡ turned (said_of (suc n) g f at) (if b then got [] at else (pair g.state >>= λ a. to_end n (refuse 3) pair after_pair (after_pair g.state a) >>= λ l. give (a ∷ l)) f at)
+        → (when b then got g at else and_then (pair_to g f at) (λ g₁ e. pairs_to n g₁ f e))
+        ≡ turned (said_of (suc n) g f at) (when b then got [] at else (pair g.state >>= λ a. to_end n (refuse 3) pair after_pair (after_pair g.state a) >>= λ l. give (a ∷ l)) f at)
     go ih true t = ap (λ (x : Said). got x at) (sym (no_more g h) ∙ ap (λ (ps : List Spot). record { state = g.state; due = []; chunks = g.chunks ++ ps }) (sym (no-spots (suc n) g.state f at t)))
     go ih false t = one-pair n g f at t ih

@@ -8,7 +8,7 @@ use native.Mathlib.Omega.{arith}
 use Rattle.std.proofs.Math.ListN.{length, take}
 use Rattle.std.proofs.Math.Seq.{take-take, drop-drop, take-nil}
 use borrow.Author.Tests.{le-leb, eq-eqb, ne_eqb, eqb-false}
-use Rattle.paper.specs.Reader.{if◌then◌else◌, Reader, Out, got, no, and_then, ◌>>=◌, give, filled, part, each, repeat}
+use Rattle.paper.specs.Reader.{when◌then◌else◌, Reader, Out, got, no, and_then, ◌>>=◌, give, filled, part, each, repeat}
 use Rattle.paper.specs.Lists.{last_or}
 use Rattle.paper.specs.Ledger.{Chunk, Due, State, field_at}
 use Rattle.paper.specs.File.{value, chunk, sized}
@@ -38,37 +38,37 @@ drop-take (suc n) (suc m) (x ∷ l) h = drop-take n m l (omega arith) ∙ (let z
 module _ {A : Type 0} (f : List ℕ) (m n : ℕ) (fits : m + n ≤ length f) where
   -- a part of the region is a part of the file
   part-shift : (r : Reader A) (at size : ℕ) → at + size ≤ n → shift m (part size r (take n (drop m f)) at) ≡ part size r f (m + at)
-  unfolding part if◌then◌else◌
+  unfolding part when◌then◌else◌
   part-shift r at size le =
       let long : length (take n (drop m f)) ≡ n = simp (length-take, length-drop) (omega arith) in
       let same : take size (drop at (take n (drop m f))) ≡ take size (drop (m + at) f) =
       rw (drop-take at n (drop m f) (omega arith), take-take size (n - at) (drop at (drop m f)) (omega arith), drop-drop at m f) in
       rw (le-leb (at + size) (length (take n (drop m f))) (omega arith), le-leb (m + at + size) (length f) (omega arith), same) (go (r (take size (drop (m + at) f)) 0))
     where
-      full : (a : A) (e : ℕ) (b : Bool) → shift m (if b then got a (at + size) else no 12 (at + e)) ≡ (if b then got a (m + at + size) else no 12 (m + at + e))
+      full : (a : A) (e : ℕ) (b : Bool) → shift m (when b then got a (at + size) else no 12 (at + e)) ≡ (when b then got a (m + at + size) else no 12 (m + at + e))
       full a e true = ap (got a) (sym (add_assoc m at size))
       full a e false = ap (no 12) (sym (add_assoc m at e))
 
       go : (o : Out A) → shift m (filled at size o) ≡ filled (m + at) size o
       go (got a e) = full a e (eqb e size)
-      go (no k p) = ap (no (if eqb k 1 then 12 else k)) (sym (add_assoc m at p))
+      go (no k p) = ap (no (when eqb k 1 then 12 else k)) (sym (add_assoc m at p))
 
 -- a part that is within the file gives no 1
 not_short : {A : Type 0} (n : ℕ) (r : Reader A) (f : List ℕ) (at k p : ℕ) → at + n ≤ length f → part n r f at ≡ no k p → k ≡ 1 → ⊥
-unfolding part if◌then◌else◌
+unfolding part when◌then◌else◌
 not_short {A} n r f at k p le q = go (r (take n (drop at f)) 0) (rw (le-leb (at + n) (length f) le) at q)
   where
-    no_one : (j : ℕ) (b : Bool) → eqb j 1 ≡ b → (if b then 12 else j) ≡ 1 → ⊥
+    no_one : (j : ℕ) (b : Bool) → eqb j 1 ≡ b → (when b then 12 else j) ≡ 1 → ⊥
     no_one j true t h = omega arith
     no_one j false t h = eqb-false j 1 t h
 
-    full : (a : A) (e : ℕ) (b : Bool) → (if b then got a (at + n) else no 12 (at + e)) ≡ no k p → k ≡ 1 → ⊥
+    full : (a : A) (e : ℕ) (b : Bool) → (when b then got a (at + n) else no 12 (at + e)) ≡ no k p → k ≡ 1 → ⊥
     full a e true h z = let w : ◌≡◌ {A = ℕ} 0 1 = cc h in omega arith
     full a e false h z = let w : ◌≡◌ {A = ℕ} 12 k = cc h in omega arith
 
     go : (o : Out A) → filled at n o ≡ no k p → k ≡ 1 → ⊥
     go (got a e) h z = full a e (eqb e n) h z
-    go (no j p') h z = let w : (if eqb j 1 then 12 else j) ≡ k = cc h in no_one j (eqb j 1) refl (w ∙ z)
+    go (no j p') h z = let w : (when eqb j 1 then 12 else j) ≡ k = cc h in no_one j (eqb j 1) refl (w ∙ z)
 
 module _ (s : State) (f : List ℕ) (m n : ℕ) (fits : m + n ≤ length f) where
   abbrev pub g : List ℕ
@@ -131,7 +131,7 @@ module _ (s : State) (f : List ℕ) (m n : ℕ) (fits : m + n ≤ length f) wher
           chunk-not-short d at j p' (omega arith) is (w ∙ z)
 
   pub region-is : (ds : List (Due × ℕ)) → sizes ds ≡ n → part n (chunks_at s ds) f m ≡ chunks_at s ds f m
-  unfolding part if◌then◌else◌
+  unfolding part when◌then◌else◌
   region-is ds same =
       rw (le-leb (m + n) (length f) fits) (go (chunks_at s ds g 0) refl ∙ chunks-shift ds 0 (omega arith) ∙ ap (chunks_at s ds f) (add-zero m))
     where

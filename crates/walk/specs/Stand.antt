@@ -9,7 +9,7 @@ use Rattle.std.proofs.Math.Nat.{lt_of_not-le, min-eq_left, min-eq_right}
 use Rattle.std.proofs.Math.Decide.{dec_le}
 use Rattle.std.proofs.Math.Seq.{drop-append_seam}
 use borrow.Author.Tests.{le-leb, le-ltb}
-use Rattle.paper.specs.Reader.{if◌then◌else◌}
+use Rattle.paper.specs.Reader.{when◌then◌else◌}
 use Rattle.paper.specs.Numbers.{put_fixed}
 use Rattle.paper.specs.Bounds.{most_types}
 use Rattle.paper.specs.Lists.{all, fold}
@@ -35,7 +35,7 @@ pub record Standing (types : ℕ) (row : FieldRow) (r : Bool) : Type 0 where
 
 module _ (types : ℕ) (row : FieldRow) where
   pub constant-stands : row.kind ≤ 4 → Standing types row true
-  unfolding kind_from if◌then◌else◌ kind_stands?
+  unfolding kind_from when◌then◌else◌ kind_stands?
   constant-stands h =
       record {
         says = λ s is. elim (dec_le row.kind 3) [

@@ -6,7 +6,7 @@ use Rattle.std.proofs.Common.{◌∙◌, length-take, take_at, le-leb, eq-eqb, n
 use Rattle.std.proofs.Math.Bool.{false}
 use native.Mathlib.Omega.{arith}
 use native.Nat.{ℕᴺ_discrete}
-use Rattle.paper.specs.Reader.{if◌then◌else◌, Reader, Out, got, no, filled, part, repeat}
+use Rattle.paper.specs.Reader.{when◌then◌else◌, Reader, Out, got, no, filled, part, repeat}
 use Rattle.paper.specs.Numbers.{put_fixed}
 use Rattle.paper.specs.Lists.{all}
 use Rattle.paper.specs.Calls.{over_front}
@@ -110,7 +110,7 @@ module _ {k a e : ℕ} (K : Kinds k a e) (is : k ≡ 20) where
 
     pub row-valued :
         {n : ℕ} {f w pools part : List ℕ} {r : Number} → Holds f w → NotedKind pools k a e (view f w) → MapsValued n (take j m) pools w part r → Valued n k a e (view f w) part r
-    unfolding kind_from if◌then◌else◌
+    unfolding kind_from when◌then◌else◌
     row-valued {n} {f} {w} {pools} {part} {r} H N M =
         let known : MapsValued n (put_fixed a e) pools w part r = rw kinds-are at M in
         let say : unnamed? (put_fixed a e) ≡ false → (m n : ℕ) → placed? pools m n ≡ annotation? (view f w) m n = λ h. N.say (sym (unnamed-map k a e is refl) ∙ h) in
@@ -134,10 +134,10 @@ plain-valued {n} {k} {a} {e} {strings} {f} {l} {pools} {first} {last} {part} {r}
 -- ── a part that must be filled ──
 
 forget-filled : {A : Type 0} (at n : ℕ) (o : Out A) → filled at n (forget o) ≡ forget (filled at n o)
-unfolding forget if◌then◌else◌
+unfolding forget when◌then◌else◌
 forget-filled {A} at n (got a e) = go (eqb e n)
   where
-    go : (b : Bool) → (if b then got tt (at + n) else no 12 (at + e)) ≡ forget (if b then got a (at + n) else no 12 (at + e))
+    go : (b : Bool) → (when b then got tt (at + n) else no 12 (at + e)) ≡ forget (when b then got a (at + n) else no 12 (at + e))
     go true = refl
     go false = refl
 forget-filled at n (no k p) = refl
@@ -152,7 +152,7 @@ module _ (f l : List ℕ) (at : ℕ) (d : DueRow) (row : FieldRow) where
       {a : Number} {o : Out (Unit {0})} → Holds f l → at + d.size ≤ length f → field_in row ≡ get_or (flds_of l) d.field no_field
       → Valued d.values row.kind row.a row.e (view f l) (take (at + d.size - at) (drop at f)) a → o ≡ filled at d.size (forget (out_of a))
       → o ≡ forget (chunk (view f l) (due_in d) f at)
-  unfolding chunk part field_at if◌then◌else◌
+  unfolding chunk part field_at when◌then◌else◌
   chunk-is h room field vs q =
       let kind : (get_or (flds_of l) d.field no_field).kind ≡ kind_from row.kind row.a row.e = sym (ap (λ (x : Field). x.kind) field) in
       let read : Reader Chunk = repeat d.values (value (view f l) (kind_from row.kind row.a row.e)) in
@@ -165,17 +165,17 @@ module _ (f l : List ℕ) (at : ℕ) (d : DueRow) (row : FieldRow) where
 
 module _ (at size : ℕ) {a : Number} where
   pub part-used : {x : ℕ} {c : Cursor} → a ≡ number.Got x c → c.at ≡ size → step_of (Got (record { at = at + c.at })) ≡ filled at size (forget (out_of a))
-  unfolding if◌then◌else◌ forget
+  unfolding when◌then◌else◌ forget
   part-used {x} {c} is h = rw is (rw (eq-eqb c.at size h) (ap (λ (e : ℕ). got tt (at + e)) h))
 
   pub bytes_left : {x : ℕ} {c : Cursor} → a ≡ number.Got x c → (c.at ≡ size → ⊥) → step_of (No (record { number = 12; place = at + c.at })) ≡ filled at size (forget (out_of a))
-  unfolding if◌then◌else◌ forget
+  unfolding when◌then◌else◌ forget
   bytes_left {x} {c} is h = rw is (rw (ne_eqb c.at size h))
 
   pub part-short : {e : Refusal} → a ≡ number.No e → e.number ≡ 1 → step_of (No (record { number = 12; place = at + e.place })) ≡ filled at size (forget (out_of a))
-  unfolding if◌then◌else◌ forget
+  unfolding when◌then◌else◌ forget
   part-short {e} is h = rw is (rw (eq-eqb e.number 1 h))
 
   pub part-refused : {e : Refusal} → a ≡ number.No e → (e.number ≡ 1 → ⊥) → step_of (No (record { number = e.number; place = at + e.place })) ≡ filled at size (forget (out_of a))
-  unfolding if◌then◌else◌ forget
+  unfolding when◌then◌else◌ forget
   part-refused {e} is h = rw is (rw (ne_eqb e.number 1 h))

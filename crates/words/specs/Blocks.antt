@@ -5,7 +5,7 @@ use Rattle.std.proofs.Common.{◌∙◌, ap, append_assoc, arith, add-zero, lt_o
 use Rattle.std.proofs.Math.Nat.{sub-zero}
 use Rattle.std.proofs.Math.Decide.{dec_le}
 use Rattle.std.proofs.Math.Seq.{length-sets}
-use Rattle.paper.specs.Reader.{if◌then◌else◌, Out, got, no as bad, and_then}
+use Rattle.paper.specs.Reader.{when◌then◌else◌, Out, got, no as bad, and_then}
 use Rattle.paper.specs.Scan.{nibble, hex_on, hex_pairs, hex_bytes}
 use Rattle.lay.specs.Laid.{Laid, laid_then}
 use Rattle.words.specs.Answers.{Unhexed}
@@ -134,7 +134,7 @@ digit-there {t} {at} {n} {i} H l e = let s = value-small (get_or t (at + i) 0) i
 over :
     (a b x y e : ℕ) (ts : List ℕ) → (nibble a ≡ 16 → ⊥) → (nibble b ≡ 16 → ⊥) → nibble a ≡ x → nibble b ≡ y
     → hex_pairs e (a ∷ b ∷ ts) ≡ and_then (hex_pairs (e + 2) ts) (λ ws d. got ((x * 16 + y) ∷ ws) d)
-unfolding hex_pairs if◌then◌else◌
+unfolding hex_pairs when◌then◌else◌
 over a b x y e ts first second high low = rw (ne_eqb (nibble a) 16 first, ne_eqb (nibble b) 16 second, high, low)
 
 -- two digits, and those behind them

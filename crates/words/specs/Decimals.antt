@@ -2,15 +2,15 @@
 use Rattle.std.specs.Prelude.{◌≡◌, [], ◌∷◌, ◌++◌, ℕ, zero, suc, ◌+◌, ◌/◌, ◌%◌, ◌≤◌, ◌<◌}
 use Rattle.std.proofs.Common.{arith, add-one, lt_of_not-le, lt-ltb, le-ltb}
 use Rattle.std.proofs.Math.Decide.{dec_le}
-use Rattle.paper.specs.Reader.{if◌then◌else◌}
+use Rattle.paper.specs.Reader.{when◌then◌else◌}
 use Rattle.paper.specs.Listing.{glyph, shown, decimal}
 
 pub glyph-low : (d : ℕ) → d < 10 → glyph d ≡ 48 + d
-unfolding glyph if◌then◌else◌
+unfolding glyph when◌then◌else◌
 glyph-low d h = rw (lt-ltb d 10 h)
 
 pub glyph-high : (d : ℕ) → 10 ≤ d → glyph d ≡ 87 + d
-unfolding glyph if◌then◌else◌
+unfolding glyph when◌then◌else◌
 glyph-high d h = rw (le-ltb d 10 h)
 
 shown-low : (k n : ℕ) → n < 10 → shown (suc k) n ≡ glyph n ∷ []

@@ -3,7 +3,7 @@ use Rattle.std.specs.Prelude.{◌≡◌, refl, List, [], ◌∷◌, ℕ, zero, s
 use Rattle.std.proofs.Common.{sym, ◌∙◌, arith, add-one, lt_of_not-le, drop_of_length-le, drop-cons, eq-eqb, ne_eqb}
 use Rattle.std.proofs.Math.Decide.{dec_le}
 use Rattle.std.proofs.Math.ListN.{get_or-eq_default}
-use Rattle.paper.specs.Reader.{if◌then◌else◌, Reader, got, no as bad, ◌>>=◌, ◌>>◌, give}
+use Rattle.paper.specs.Reader.{when◌then◌else◌, Reader, got, no as bad, ◌>>=◌, ◌>>◌, give}
 use Rattle.paper.specs.Scan.{byte_is, literal, ended}
 use Rattle.words.specs.Answers.{Peeked}
 
@@ -29,7 +29,7 @@ module _ {t : List ℕ} {at b : ℕ} (k : Peeked t at b) where
   pub here : b < 256 → drop at t ≡ b ∷ drop (at + 1) t
   here h = rw (add-one, k.is) (drop-cons t at 256 (k.inside h))
 
-  -- what holds of a text that goes on with b, and of one at its end if b is no byte, holds here
+  -- what holds of a text that goes on with b, and of one at its end when b is no byte, holds here
   pub here-or-end : (P : List ℕ → Type 0) → P (b ∷ drop (at + 1) t) → P [] → P (drop at t)
   here-or-end P more none =
       elim (dec_le 256 b) [
@@ -38,11 +38,11 @@ module _ {t : List ℕ} {at b : ℕ} (k : Peeked t at b) where
       ]
 
   pub found : (c : ℕ) → b ≡ c → got tt (at + 1) ≡ byte_is c t at
-  unfolding byte_is if◌then◌else◌
+  unfolding byte_is when◌then◌else◌
   found c e = rw (eq-eqb (get_or t at 256) c (sym k.is ∙ e))
 
   pub not_found : (c : ℕ) → (b ≡ c → ⊥) → bad 20 0 ≡ byte_is c t at
-  unfolding byte_is if◌then◌else◌
+  unfolding byte_is when◌then◌else◌
   not_found c n = rw (ne_eqb (get_or t at 256) c (λ e. n (k.is ∙ e)))
 
 -- ── these bytes ──

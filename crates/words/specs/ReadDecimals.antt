@@ -6,7 +6,7 @@ use Rattle.std.proofs.Math.Option.{none, some}
 use Rattle.std.proofs.Math.Nat.{pow-le-pow_right}
 use Rattle.std.proofs.Math.Decide.{dec_le}
 use borrow.Author.Tests.{lt-ltb, le-ltb, le-leb, lt-leb, leb-false, eq-eqb, ne_eqb}
-use Rattle.paper.specs.Reader.{if◌then◌else◌, got, no as bad, and_then}
+use Rattle.paper.specs.Reader.{when◌then◌else◌, got, no as bad, and_then}
 use Rattle.paper.specs.Scan.{digit?, too_large?, digits_on, decimal_in, natural, or_none}
 use Rattle.words.specs.Answers.{Peeked, Digit}
 use Rattle.words.specs.ReadBytes.{here, here-or-end}
@@ -74,15 +74,15 @@ module _ {t : List ℕ} {at b d : ℕ} (k : Peeked t at b) (v : Digit b d) where
   digit-inside l = let q = (v.value l).0 in k.inside (omega arith)
 
   pub natural-not : 10 ≤ d → bad 20 0 ≡ natural t at
-  unfolding natural decimal_in if◌then◌else◌
+  unfolding natural decimal_in when◌then◌else◌
   natural-not l = here-or-end k (λ w. bad 20 0 ≡ decimal_in at w) (rw (ne_eqb b 48 (v.none l).0, (v.none l).1)) refl
 
   pub natural-nought : d ≡ 0 → got 0 (at + 1) ≡ natural t at
-  unfolding natural decimal_in if◌then◌else◌
+  unfolding natural decimal_in when◌then◌else◌
   natural-nought z = let q = (v.value (omega arith)).0 in rw (here k (omega arith), eq-eqb b 48 (omega arith))
 
   pub digits-end : (n : ℕ) → 10 ≤ d → digits_on n at (drop at t) ≡ got n at
-  unfolding digits_on if◌then◌else◌
+  unfolding digits_on when◌then◌else◌
   digits-end n l = here-or-end k (λ w. digits_on n at w ≡ got n at) (rw (v.none l).1) refl
 
   module _ (l : d < 10) where
@@ -96,15 +96,15 @@ module _ {t : List ℕ} {at b d : ℕ} (k : Peeked t at b) (v : Digit b d) where
     byte = let q = is in omega arith
 
     pub natural-starts : (d ≡ 0 → ⊥) → digits_on d (at + 1) (drop (at + 1) t) ≡ natural t at
-    unfolding natural decimal_in if◌then◌else◌
+    unfolding natural decimal_in when◌then◌else◌
     natural-starts n = rw (here k byte, ne_eqb b 48 (λ e. n (let q = is in omega arith)), (v.value l).1, less)
 
     pub digits-on : (n : ℕ) → too_large? n d ≡ false → digits_on n at (drop at t) ≡ digits_on (10 * n + d) (at + 1) (drop (at + 1) t)
-    unfolding digits_on if◌then◌else◌
+    unfolding digits_on when◌then◌else◌
     digits-on n f = rw (here k byte, (v.value l).1, less, f)
 
     pub digits-large : (n : ℕ) → too_large? n d ≡ true → digits_on n at (drop at t) ≡ bad 20 0
-    unfolding digits_on if◌then◌else◌
+    unfolding digits_on when◌then◌else◌
     digits-large n f = rw (here k byte, (v.value l).1, less, f)
 
 -- ── digits that surely fit: v is the number of those from `at` up to p ──
@@ -140,9 +140,9 @@ module _ {t : List ℕ} {at v p b d : ℕ} (S : Sure t at v p) (k : Peeked t p b
 
 module _ {t : List ℕ} {at b : ℕ} (k : Peeked t at b) where
   pub is-dash : b ≡ 45 → or_none t at ≡ got none (at + 1)
-  unfolding or_none if◌then◌else◌
+  unfolding or_none when◌then◌else◌
   is-dash e = rw (eq-eqb (get_or t at 256) 45 (sym k.is ∙ e))
 
   pub no-dash : (b ≡ 45 → ⊥) → or_none t at ≡ and_then (natural t at) λ n e. got (some n) e
-  unfolding or_none if◌then◌else◌
+  unfolding or_none when◌then◌else◌
   no-dash n = rw (ne_eqb (get_or t at 256) 45 (λ e. n (k.is ∙ e)))

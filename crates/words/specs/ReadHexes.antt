@@ -8,7 +8,7 @@ use Rattle.std.proofs.Math.Nat.{pow-le-pow_right}
 use Rattle.std.proofs.Math.Decide.{dec_le}
 use Rattle.std.proofs.Math.Seq.{length-sets}
 use borrow.Author.Tests.{lt-ltb, le-ltb, le-leb, lt-leb, eq-eqb, ne_eqb}
-use Rattle.paper.specs.Reader.{if◌then◌else◌, Out, got, no as bad, and_then}
+use Rattle.paper.specs.Reader.{when◌then◌else◌, Out, got, no as bad, and_then}
 use Rattle.paper.specs.Scan.{nibble, hex_on, hex_pairs, hex_bytes}
 use Rattle.lay.specs.Laid.{Laid, most, laid_none, laid_then}
 use Rattle.words.specs.Answers.{Peeked, Unhexed}
@@ -18,23 +18,23 @@ use Rattle.words.specs.ReadBytes.{here, here-or-end}
 
 module _ (b : ℕ) where
   pub nibble-below : b < 48 → 16 ≡ nibble b
-  unfolding nibble if◌then◌else◌
+  unfolding nibble when◌then◌else◌
   nibble-below h = rw (lt-ltb b 48 h)
 
   pub nibble-digit : 48 ≤ b → b ≤ 57 → b - 48 ≡ nibble b
-  unfolding nibble if◌then◌else◌
+  unfolding nibble when◌then◌else◌
   nibble-digit h k = rw (le-ltb b 48 h, le-leb b 57 k)
 
   pub nibble-between : 57 < b → b < 97 → 16 ≡ nibble b
-  unfolding nibble if◌then◌else◌
+  unfolding nibble when◌then◌else◌
   nibble-between h k = rw (le-ltb b 48 (omega arith), lt-leb b 57 h, lt-ltb b 97 k)
 
   pub nibble-letter : 97 ≤ b → b ≤ 102 → b - 87 ≡ nibble b
-  unfolding nibble if◌then◌else◌
+  unfolding nibble when◌then◌else◌
   nibble-letter h k = rw (le-ltb b 48 (omega arith), lt-leb b 57 (omega arith), le-ltb b 97 h, le-leb b 102 k)
 
   pub nibble-above : 102 < b → 16 ≡ nibble b
-  unfolding nibble if◌then◌else◌
+  unfolding nibble when◌then◌else◌
   nibble-above h = rw (le-ltb b 48 (omega arith), lt-leb b 57 (omega arith), le-ltb b 97 (omega arith), lt-leb b 102 h)
 
   nibble-byte : (nibble b ≡ 16 → ⊥) → b < 256
@@ -55,11 +55,11 @@ module _ {t : List ℕ} {p a x : ℕ} (k : Peeked t p a) (v : x ≡ nibble a) wh
     one_less = omega arith
 
     pub hex-on : x < 16 → hex_on (n - i) w t p ≡ hex_on (n - (i + 1)) (16 * w + x) t (p + 1)
-    unfolding hex_on if◌then◌else◌
+    unfolding hex_on when◌then◌else◌
     hex-on l = rw (one_less, ← value, lt-ltb x 16 l)
 
     pub hex-not : 16 ≤ x → hex_on (n - i) w t p ≡ bad 20 0
-    unfolding hex_on if◌then◌else◌
+    unfolding hex_on when◌then◌else◌
     hex-not l = rw (one_less, ← value, le-ltb x 16 l)
 
 pub hex-all : (n i w : ℕ) (t : List ℕ) (p : ℕ) → n ≤ i → hex_on (n - i) w t p ≡ got w p
@@ -77,7 +77,7 @@ module _ (i w x : ℕ) (l : w < 16 ^ i) (h : x < 16) where
 -- ── bytes ──
 
 hex-first : (p a : ℕ) (ts : List ℕ) → nibble a ≡ 16 → hex_pairs p (a ∷ ts) ≡ got [] p
-unfolding hex_pairs if◌then◌else◌
+unfolding hex_pairs when◌then◌else◌
 hex-first p a [] h = refl
 hex-first p a (b ∷ ts) h = rw (eq-eqb (nibble a) 16 h)
 
@@ -91,13 +91,13 @@ module _ {t : List ℕ} {p a x : ℕ} (k : Peeked t p a) (v : x ≡ nibble a) wh
     first e = n (v ∙ e)
 
     pub pairs-half : y ≡ 16 → hex_pairs p (drop p t) ≡ got [] p
-    unfolding hex_pairs if◌then◌else◌
+    unfolding hex_pairs when◌then◌else◌
     pairs-half h =
         rw (here k (nibble-byte a first))
         (here-or-end j (λ l. hex_pairs p (a ∷ l) ≡ got [] p) (rw (ne_eqb (nibble a) 16 first, eq-eqb (nibble b) 16 (sym w ∙ h))) refl)
 
     pub pairs-more : (y ≡ 16 → ⊥) → hex_pairs p (drop p t) ≡ and_then (hex_pairs (p + 2) (drop (p + 2) t)) (λ ws e. got ((x * 16 + y) ∷ ws) e)
-    unfolding hex_pairs if◌then◌else◌
+    unfolding hex_pairs when◌then◌else◌
     pairs-more o =
         let second : nibble b ≡ 16 → ⊥ = λ e. o (w ∙ e) in
         let q : p + 1 + 1 ≡ p + 2 = omega arith in

@@ -5,18 +5,18 @@ use Rattle.std.proofs.Common.{sym, ◌∙◌, ap, subst, arith, Fits, SFits, to_
 use Rattle.std.specs.Int.Signed.{mag, lt_z, non_neg}
 use Rattle.std.specs.Int.{w64}
 use borrow.Author.Tests.{lt-ltb, le-ltb, ltb-true}
-use Rattle.paper.specs.Reader.{if◌then◌else◌}
+use Rattle.paper.specs.Reader.{when◌then◌else◌}
 use Rattle.paper.specs.Numbers.{signed, unsigned}
 use Rattle.paper.specs.Listing.{decimal, decimalℤ}
 
 -- ── from 64 bits ──
 
 pub bits-low : (x : ℕ) → x < 9223372036854775808 → decimal x ≡ decimalℤ (signed 8 x)
-unfolding signed decimalℤ if◌then◌else◌
+unfolding signed decimalℤ when◌then◌else◌
 bits-low x h = rw (lt-ltb x 9223372036854775808 h)
 
 pub bits-high : (x : ℕ) → 9223372036854775808 ≤ x → (45 ∷ []) ++ decimal (18446744073709551615 - x + 1) ≡ decimalℤ (signed 8 x)
-unfolding signed decimalℤ if◌then◌else◌
+unfolding signed decimalℤ when◌then◌else◌
 bits-high x h = rw (le-ltb x 9223372036854775808 h)
 
 -- ── a machine's signed number ──
@@ -57,7 +57,7 @@ pub cast-up : (y : ℤ) (k : ℕ) → y ≡ pos k → k < 9223372036854775808 �
 cast-up y k e h = subst (λ (x : ℤ). T (non_neg x) × Fits w64 (nat_abs x)) (sym e) (tt, record { fits = omega arith })
 
 pub bits_back : (z : ℤ) → SFits w64 z → signed 8 (unsigned 8 z) ≡ z
-unfolding signed unsigned if◌then◌else◌
+unfolding signed unsigned when◌then◌else◌
 bits_back (pos n) f = let h : n < 9223372036854775808 = f.sfits in rw (lt-ltb n 9223372036854775808 h)
 bits_back (negsuc n) f =
     let h : n < 9223372036854775808 = f.sfits in

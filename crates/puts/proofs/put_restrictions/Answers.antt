@@ -1,13 +1,13 @@
 use Rattle.std.proofs.Common.{arith}
-use Rattle.paper.specs.Reader.{if◌then◌else◌}
+use Rattle.paper.specs.Reader.{when◌then◌else◌}
 use Rattle.paper.specs.Lists.{given?}
 use Rattle.lay.specs.Laid.{most, laid_none}
 use Rattle.puts.proofs.put_restrictions.Goals as goal
 
 pub returns-in-Dash : goal.returns-in-Dash
-unfolding most given? if◌then◌else◌
+unfolding most given? when◌then◌else◌
 returns-in-Dash c = rw c.in-Dash.is (laid_none (omega arith) (omega arith))
 
 pub returns-in-Some : goal.returns-in-Some
-unfolding given? if◌then◌else◌
+unfolding given? when◌then◌else◌
 returns-in-Some c = rw c.in-Some.is c.put_v64.ensures

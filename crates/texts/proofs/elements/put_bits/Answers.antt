@@ -1,11 +1,11 @@
 use Rattle.std.proofs.Common.{sym, arith, rules}
-use Rattle.paper.specs.Reader.{if◌then◌else◌}
+use Rattle.paper.specs.Reader.{when◌then◌else◌}
 use Rattle.lay.specs.Laid.{laid_as}
 use Rattle.texts.specs.Elements.{in_bytes, bound_in, one_byte, four_bytes, eight-bytes, v64-kind, v64-bytes}
 use Rattle.texts.proofs.elements.put_bits.Goals as goal
 
 pub put_be2-requires : goal.put_be2-requires
-unfolding bound_in if◌then◌else◌
+unfolding bound_in when◌then◌else◌
 put_be2-requires c = rw c.in-8.is at c.requires.1
 
 pub put_be4-requires : goal.put_be4-requires
@@ -15,7 +15,7 @@ pub put_be1-requires : goal.put_be1-requires
 put_be1-requires c = rw (one_byte _ c.requires.0 (omega arith)).1 at c.requires.1
 
 pub returns-in-8 : goal.returns-in-8
-unfolding in_bytes if◌then◌else◌
+unfolding in_bytes when◌then◌else◌
 returns-in-8 c = rw c.in-8.is c.put_be2.ensures
 
 pub returns-in-9 : goal.returns-in-9

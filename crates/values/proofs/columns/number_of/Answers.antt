@@ -1,24 +1,24 @@
 use Rattle.std.proofs.Common.{◌≤◌, ◌<◌, ⊎_elim, arith, rules}
 use Rattle.values.specs.Listed.{listed-low}
 use Rattle.values.specs.Bare.{bare-byte, bare, bound_of, links-only, bare-link, bound-link}
-use Rattle.paper.specs.Reader.{if◌then◌else◌}
+use Rattle.paper.specs.Reader.{when◌then◌else◌}
 use Rattle.values.proofs.columns.number_of.Goals as goal
 use Rattle.values.proofs.columns.number_of.Goals.{in_default-via-then-k-lt6, in_default-via-else-k-lt6+else-k-lt8}
 
 pub returns-in-8 : goal.returns-in-8
-unfolding bare bound_of if◌then◌else◌
+unfolding bare bound_of when◌then◌else◌
 returns-in-8 c = rw c.in-8.is c.be2.ensures
 
 pub returns-in-9 : goal.returns-in-9
-unfolding bare bound_of if◌then◌else◌
+unfolding bare bound_of when◌then◌else◌
 returns-in-9 c = ⊎_elim (λ e. rw e c.be4.ensures) (λ e. rw e c.be4.ensures) c.in-9.is
 
 pub returns-in-10 : goal.returns-in-10
-unfolding bare bound_of if◌then◌else◌
+unfolding bare bound_of when◌then◌else◌
 returns-in-10 c = ⊎_elim (λ e. rw e c.be8.ensures) (λ e. rw e c.be8.ensures) c.in-10.is
 
 pub returns-in-11 : goal.returns-in-11
-unfolding bare bound_of if◌then◌else◌
+unfolding bare bound_of when◌then◌else◌
 returns-in-11 c = rw c.in-11.is c.v64.ensures
 
 pub returns-in-6-to-7 : goal.returns-in-6-to-7

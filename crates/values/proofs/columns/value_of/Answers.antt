@@ -1,21 +1,21 @@
 use Rattle.std.proofs.Common.{◌<◌, sym, refl, ap, ◌∙◌, arith, to_z-of_z, w64}
 use Rattle.values.specs.Listed.{listed-low}
-use Rattle.paper.specs.Reader.{if◌then◌else◌}
+use Rattle.paper.specs.Reader.{when◌then◌else◌}
 use Rattle.paper.specs.Ledger.{whole}
 use Rattle.values.specs.Bare.{made, made-whole, made-link, bound-link, bound_of}
 use Rattle.values.specs.Columns.{element_of, Storable}
 use Rattle.values.proofs.columns.value_of.Goals as goal
 
 pub returns-in-6 : goal.returns-in-6
-unfolding made element_of Storable if◌then◌else◌
+unfolding made element_of Storable when◌then◌else◌
 returns-in-6 c = (rw c.in-6.is, tt)
 
 pub returns-in-12 : goal.returns-in-12
-unfolding made element_of Storable bound_of if◌then◌else◌
+unfolding made element_of Storable bound_of when◌then◌else◌
 returns-in-12 c = (rw c.in-12.is, λ h. (refl, rw c.in-12.is at c.requires.1))
 
 pub returns-in-13 : goal.returns-in-13
-unfolding made element_of Storable if◌then◌else◌
+unfolding made element_of Storable when◌then◌else◌
 returns-in-13 c = (rw c.in-13.is, λ h. absurd (h refl))
 
 pub returns-in-7-to-11 : goal.returns-in-7-to-11
