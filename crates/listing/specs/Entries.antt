@@ -40,7 +40,7 @@ use Rattle.listing.specs.declared.entries.Printed.{Printed}
 use Rattle.listing.specs.Prints.{StandsBy, give-got, number-got, FirstOf, times-first, times_none}
 use Rattle.listing.specs.Fields.{new_words, old_words, FieldsPrinted}
 
--- the entry at a place StandsBy as its lines
+-- the entry at a place stands as its lines
 pub record EntryPrinted (f l : List ℕ) (at : ℕ) (out : List ℕ) (o : ℕ) (m : List ℕ) (r : ℕ) : Type 0 where
   pub text : (end : ℕ) (e : Entry × List ℕ) (q : ℕ) → entry any_type (record { state = view f l; end = end }) f at ≡ got e q → Laid out o (print_entry (length (known_due (view f l) e.0.head)) e.0) m r
 

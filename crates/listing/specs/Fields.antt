@@ -197,7 +197,7 @@ news-start f n at l o a b =
 
 module _ {f : List ℕ} {n at : ℕ} {l : List ℕ} {o rest here : ℕ} {m : List ℕ} {p : ℕ} (g : NewsPrinting f n at l o rest here m p) where
   module _ (due : 0 < rest) {m₂ : List ℕ} {b : Listed} (one : (t : ℕ) (u : Upto) → Prints (new_field any_type t u) new_word f here m p m₂ b) where
-    -- the first of them StandsBy there
+    -- the first of them stands there
     first-there :
         (t : ℕ) {gs : List (New × ℕ)} {q : ℕ} (B : NewsLeft t f gs q l o rest here m p)
         → (let F = times-first (new_field any_type t) (upto_new t) B.upto f here B.more q rest due B.reads in StandsBy m p (new_word F.value) m₂ F.next b)
