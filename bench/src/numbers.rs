@@ -1,6 +1,6 @@
 //! The proved v64 reader against a plain Rust loop: the same buffers, one run, the best of several repetitions.
 //! Nanoseconds a number, over a megabyte of one-byte, of nine-byte and of mixed numbers, and of mixed ones padded to nine
-//! bytes. `rt staticlib pace` first.
+//! bytes. `rt lib` in crates/pace first.
 use std::hint::black_box;
 use std::time::Instant;
 

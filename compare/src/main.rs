@@ -1,4 +1,4 @@
-//! Holds the proved library to the second program. `rt staticlib capi` first.
+//! Holds the proved library to the second program. `rt lib` in crates/capi first.
 
 mod proved;
 

@@ -1,4 +1,5 @@
-//! Holds the proved programs to the second one's. `rt check print make` first, which leaves them in `target/bin`.
+//! Holds the proved programs to the second one's. `rt run` in crates/print and in crates/make first, or `rt ci`: either leaves
+//! them in `crates/print/out` and `crates/make/out`.
 
 use std::env;
 use std::io;

@@ -1,5 +1,5 @@
-//! Links the proved library, which `rt staticlib capi` writes. `TIDEHINGE_LIB`
-//! names another folder to take it from.
+//! Links the proved library, which `rt lib` writes in crates/capi.
+//! `TIDEHINGE_LIB` names another folder to take it from.
 
 use std::env;
 use std::path::PathBuf;
@@ -7,13 +7,13 @@ use std::path::PathBuf;
 fn main() {
     let package = env::var("CARGO_MANIFEST_DIR").expect("cargo names the package's folder");
     let folder = env::var("TIDEHINGE_LIB")
-        .map_or_else(|_| PathBuf::from("../../target/staticlib"), PathBuf::from);
+        .map_or_else(|_| PathBuf::from("../../crates/capi/out"), PathBuf::from);
     let folder = PathBuf::from(package).join(folder);
     let archive = folder.join("libcapi.a");
     if !archive.exists() {
         // The linker's own words would not say where the library comes from.
         println!(
-            "cargo:warning={} is not there: `rt staticlib capi` writes it",
+            "cargo:warning={} is not there: `rt lib` in crates/capi writes it",
             archive.display()
         );
     }

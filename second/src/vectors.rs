@@ -16,16 +16,12 @@ use crate::Refusal;
 const HEAD: &str = "\
 -- Files of the second program, computed with the definitions: the answers are that program's, and it writes this file.
 -- Assumes nothing.
-use mathlib.Core.Path.{_≡_, refl}
-use mathlib.Core.List.{List, [], _∷_, _++_}
-use Prim.Native.Nat.{ℕ}
-use lib.ListN.{replicate}
-use lib.IntN.{ℤ, pos, negsuc}
-use Rattle·paper.specs.Reader.{Out, got, no}
-use Rattle·paper.specs.File.{file}
-use Rattle·paper.specs.Listing.{ascii}
-use Rattle·paper.specs.Calls.{Answer, done, refused, objects, fillValues, listing, build}
-use Rattle·paper.specs.Whole.{whole}
+use Rattle.std.specs.Prelude.{◌≡◌, refl, List, [], ◌∷◌, ◌++◌, ℕ, replicate, ℤ, pos, negsuc}
+use Rattle.paper.specs.Reader.{Out, got, no}
+use Rattle.paper.specs.File.{file}
+use Rattle.paper.specs.Listing.{ascii}
+use Rattle.paper.specs.Calls.{Answer, done, refused, objects, fill_values, listing, build}
+use Rattle.paper.specs.Whole.{whole}
 ";
 
 /// The part that has the small files.
@@ -160,7 +156,7 @@ fn columns(case: &Case, file: &str) -> Vec<String> {
             for kind in ASKED {
                 if let Ok(values) = values(&case.bytes, type_name, field_name, kind) {
                     claims.push(format!(
-                        "(fillValues ({of}) ({}) {kind} {} {TABLE} ({file}) ≡ done ({}))",
+                        "(fill_values ({of}) ({}) {kind} {} {TABLE} ({file}) ≡ done ({}))",
                         numbers(field_name),
                         values.len(),
                         signed(&values)

@@ -17,8 +17,8 @@ fn questions_meet_every_answer() {
     for call in [
         "check",
         "objects",
-        "countValues",
-        "fillValues",
+        "count_values",
+        "fill_values",
         "listing",
         "build",
     ] {
@@ -42,9 +42,9 @@ fn counting_meets_every_refusal_but_19() {
         let numbers = refused.filter_map(|(_, rest)| rest.split(')').next());
         numbers.map(str::to_string).collect::<BTreeSet<_>>()
     };
-    let counting = refusals("countValues");
+    let counting = refusals("count_values");
     assert!(counting.iter().eq(["1", "15", "16", "17", "18"]));
-    let mut filling = refusals("fillValues");
+    let mut filling = refusals("fill_values");
     assert!(filling.remove("19"));
     assert_eq!(filling, counting);
 }

@@ -1,6 +1,6 @@
 //! The proved reader against the second program: the same files, one run, the median of several repetitions, each program
 //! in turn, so that both see the same machine, and in time of the processor, so that other work on it does not count.
-//! `rt staticlib capi` first. It prints a table; `--draw FILE` draws it as well, as an SVG, and `--figures FILE` puts its
+//! `rt lib` in crates/capi first. It prints a table; `--draw FILE` draws it as well, as an SVG, and `--figures FILE` puts its
 //! ratios into a page. Words on the command line choose the rows whose names begin with one of them, as `'check v64'`,
 //! `fill_values` or `'count and fill'`, and REPETITIONS in the environment says how many there are at most, for a slow
 //! machine.

@@ -1,5 +1,5 @@
 -- A refusal's number with a minus, in a machine's terms. Assumes nothing.
-use mathlib.Core.Path.{◌≡◌, refl, ap, ◌∙◌}
+use mathlib.Core.Path.{◌≡◌, refl, sym, ap, ◌∙◌}
 use Prim.Native.Nat.{ℕ, zero, suc, ◌-◌, ◌^◌, ◌≤◌, ◌<◌}
 use native.Mathlib.Omega.{arith}
 use native.Mathlib.Nat.{lt_of_not-le}
@@ -7,7 +7,7 @@ use native.Mathlib.Decide.{dec_le}
 use lib.IntN.{ℤ, pos, neg_ℤ, ◌-ℤ◌}
 use mir.Syntax.{w64}
 use mir.Val.{SFits, to_z, of_z}
-use mir.Facts.{to_z-of_z}
+use mir.Facts.{to_z-of_z, to_z_pos}
 use borrow.Author.Tests.{le-leb, lt-leb, lt-ltb}
 use Rattle.paper.specs.Reader.{if◌then◌else◌}
 use Rattle.capi.specs.Coded.{up_to_top}
@@ -19,6 +19,13 @@ top-low n h = rw (le-leb n 9223372036854775807 h)
 pub top-high : (n : ℕ) → 9223372036854775807 < n → up_to_top n ≡ 9223372036854775807
 unfolding up_to_top if◌then◌else◌
 top-high n h = rw (lt-leb n 9223372036854775807 h)
+
+-- what the code gives on each side
+pub low_number : (n : ℕ) → n ≤ 9223372036854775807 → to_z w64 n ≡ pos (up_to_top n)
+low_number n h = to_z_pos w64 (omega arith) ∙ ap pos (sym (top-low n h))
+
+pub high_number : (n : ℕ) → 9223372036854775807 < n → pos 9223372036854775807 ≡ pos (up_to_top n)
+high_number n h = ap pos (sym (top-high n h))
 
 below_top : (n : ℕ) → up_to_top n < 2 ^ 63
 below_top n =

@@ -12,6 +12,7 @@ use calls::{check, count_values, fill_values, objects};
 use listing::listing;
 
 // No answer comes near the top of the range; what would pass it is not wrapped to another number.
+#[tactic(auto, using(crate::proofs::Minus::low_number, crate::proofs::Minus::high_number))]
 fn up_to_top(n: u64) -> i64
     ensures { result ≡ pos (up_to_top n) }
 {

@@ -2,7 +2,7 @@
 use Rattle.std.specs.Prelude.{◌≡◌, refl, Bool, true, false, ◌&&◌, not, List, [], ◌∷◌, ℕ, ◌-◌, ◌≤◌, ◌<◌, eqb, length}
 use Rattle.std.proofs.Common.{sym, ◌∙◌, arith, eq-eqb}
 use Rattle.paper.specs.Lists.{any, all}
-use Rattle.paper.specs.Ledger.{State, object?, holds?}
+use Rattle.paper.specs.Ledger.{object?, holds?}
 use Rattle.paper.specs.Rules.{annotation?}
 use Rattle.table.specs.View.{log_of, view, Holds, strings_in}
 use Rattle.values.specs.Annotations.{placed?}

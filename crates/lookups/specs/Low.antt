@@ -1,12 +1,12 @@
 -- How large the numbers of a range become, which is no more than a cell holds, and how many ranges a type has, which is no more
 -- than there are blocks. Assumes nothing.
-use Rattle.std.specs.Prelude.{◌≡◌, refl, Bool, true, false, List, [], ◌∷◌, ◌++◌, ℕ, zero, suc, ◌+◌, ◌-◌, ◌*◌, ◌≤◌, ◌<◌, leb, length, get_or}
+use Rattle.std.specs.Prelude.{◌≡◌, refl, Bool, true, false, List, [], ◌∷◌, ◌++◌, ℕ, zero, suc, ◌+◌, ◌*◌, ◌≤◌, ◌<◌, leb, length, get_or}
 use Rattle.std.proofs.Math.Option.{Option, none, some}
 use Rattle.std.proofs.Common.{arith, leb-true}
 use Rattle.paper.specs.Reader.{if◌then◌else◌, got}
 use Rattle.paper.specs.Bounds.{most_objects}
 use Rattle.paper.specs.Lists.{total, fold, or}
-use Rattle.paper.specs.Ledger.{Range, New, Entry, State, nothing, pool_before, size, of?, before?}
+use Rattle.paper.specs.Ledger.{Range, New, Entry, State, pool_before, size, of?, before?}
 use Rattle.paper.specs.Rules.{small_rules, count_rules, few_objects?, super_of, base_of, new_range, after_head, after_new, after_entry, with_strings, after_front, any_type}
 use Rattle.paper.specs.Keeps.{in_turn, only?, head?, entry?}
 use Rattle.paper.specs.File.{Front, front}

@@ -9,7 +9,7 @@ use lib.Dec.{lit<}
 use lib.ListN.{length, get_or, take, drop, length-take, length-drop}
 use lib.Seq.{take-suc, take_all, drop-cons, get_or-take, get_or-drop}
 use borrow.Author.Tests.{le-leb}
-use Rattle.paper.specs.Reader.{got, if◌then◌else◌, bytes, ◌>>=◌, give}
+use Rattle.paper.specs.Reader.{if◌then◌else◌, bytes, ◌>>=◌, give}
 use Rattle.paper.specs.Numbers.{high_first, fixed}
 use Rattle.numbers.specs.Turned.{low_bytes, Turned, TakenAt}
 use Rattle.numbers.proofs.FixedLaws.{high-first-more}

@@ -3,18 +3,17 @@ use mathlib.Core.Path.{◌≡◌, refl, sym, ap, ◌∙◌}
 use mathlib.Core.List.{List, [], ◌∷◌}
 use Prim.Native.Nat.{ℕ, zero, suc, ◌+◌, ◌-◌, ◌*◌, ◌^◌, ◌≤◌, ◌<◌}
 use native.Mathlib.Omega.{arith}
-use native.Mathlib.Nat.{mul-add, mul_assoc, pow-suc, one-le-pow, pow-le-pow_right, mul-le-mul_left, lt_of_not-le}
+use native.Mathlib.Nat.{mul-add, mul_assoc, pow-suc, one-le-pow, mul-le-mul_left, lt_of_not-le}
 use native.Mathlib.Decide.{dec_le}
 use lib.Dec.{lit<}
 use lib.ListN.{length, get_or}
 use borrow.Author.Tests.{le-leb, lt-leb}
 use Rattle.paper.specs.Reader.{Out, got, no, and_then, if◌then◌else◌, ◌>>=◌, give, from_start, started, bytes}
-use Rattle.paper.specs.Numbers.{high_first, fixed, coding, low_first, v64}
+use Rattle.paper.specs.Numbers.{fixed, coding, low_first, v64}
 use Rattle.numbers.specs.Begun.{Begun, Ended, one_byte}
 use Rattle.numbers.specs.Turned.{TakenV64}
-use Rattle.numbers.specs.Cursors.{Read, Past, answer-got, answer-no}
+use Rattle.numbers.specs.Cursors.{Read, answer-got, answer-no}
 use Rattle.numbers.specs.declared.Number.TheVariants.{Got, No}
-use Rattle.numbers.specs.declared.Step.TheVariants as step
 
 -- ── one byte ──
 

@@ -5,7 +5,6 @@ ghost use Rattle.std.specs.Prelude.{◌≡◌};
 ghost use Rattle.pace.specs.Sum.{sum_of};
 
 use numbers::{Cursor, Number};
-use std::num;
 
 // The sum of the v64 numbers from the start of `s` up to the first that is refused, as at the end it is. It wraps: a
 // benchmark asks only that each number is used. A number has at least a byte, so there are no more than bytes.
@@ -18,7 +17,7 @@ pub extern "C" fn pace_sum_v64(s: &[u8]) -> u64
     for _ in 0..s.len() {
         match c.v64(s) {
             Number::Got(x, next) => {
-                sum = num::wrapping_add_u64(sum, x);
+                sum = sum.wrapping_add(x);
                 c = next;
             }
             Number::No(_) => {

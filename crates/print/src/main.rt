@@ -21,14 +21,14 @@ fn answer(came: &[u8], out: &mut [u8; Ledger::OUTPUT as usize]) -> usize
     streams::replied(a, out)
 }
 
-fn main() {
+fn main(rt: HostRuntime) {
     // One byte more than is taken tells that there are too many.
     let mut input = [0u8; Ledger::INPUT as usize + 1];
-    let a = streams::read_input(&mut input);
+    let a = streams::read_input(&rt, &mut input);
     let Came::Bytes(n) = a else {
         return;
     };
     let mut out = [0u8; Ledger::OUTPUT as usize];
     let count = answer(&input[..n], &mut out);
-    streams::write_answer(&out[..count]);
+    streams::write_answer(&rt, &out[..count]);
 }

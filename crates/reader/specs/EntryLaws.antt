@@ -1,9 +1,8 @@
 -- The ways out of reading an entry, all entries, and the front of a pair, on plain values. Assumes nothing.
-use Rattle.std.specs.Prelude.{◌≡◌, refl, Bool, List, [], ◌∷◌, ◌++◌, ℕ, ◌+◌, ◌-◌, ◌≤◌, ◌<◌, length, get_or}
+use Rattle.std.specs.Prelude.{◌≡◌, refl, Bool, List, ℕ, ◌-◌, ◌≤◌, ◌<◌, length, get_or}
 use Rattle.std.proofs.Math.Path.{sym, ap}
-use Rattle.std.proofs.Common.{◌∙◌, subst, arith, length-append}
+use Rattle.std.proofs.Common.{◌∙◌, subst, arith}
 use Rattle.paper.specs.Reader.{Out, got, no, and_then, turned}
-use Rattle.paper.specs.Ledger.{Head, State}
 use Rattle.paper.specs.Rules.{type_of}
 use Rattle.paper.specs.File.{small, string_block}
 use Rattle.numbers.specs.Cursors.{Read, place_of, was-got, was-refused, no_step}
@@ -11,7 +10,7 @@ use Rattle.numbers.specs.declared.Number.{Number}
 use Rattle.numbers.specs.declared.Number.TheVariants.{Got, No}
 use Rattle.numbers.specs.declared.Cursor.{Cursor}
 use Rattle.numbers.specs.declared.Refusal.{Refusal}
-use Rattle.table.specs.View.{flds_of, log_of, view, Holds, Said, said, ranges_in}
+use Rattle.table.specs.View.{log_of, view, Holds, Said, said, ranges_in}
 use Rattle.table.specs.Answers.{range_in, no_range}
 use Rattle.table.specs.declared.rows.RangeRow.{RangeRow}
 use Rattle.reader.specs.declared.heads.Top.{Top}

@@ -1,19 +1,18 @@
 -- The front of a pair as the strings and then the entries; each entry gives as many ends as chunks are due. Assumes nothing.
-use Rattle.std.specs.Prelude.{◌≡◌, refl, Bool, List, [], ◌∷◌, ◌++◌, map, ℕ, zero, suc, ◌+◌, ◌-◌, ◌≤◌, ◌<◌, length, replicate}
-use Rattle.std.proofs.Common.{sym, ap, ◌∙◌, subst, append_assoc, append-nil, arith, length-append}
+use Rattle.std.specs.Prelude.{◌≡◌, refl, Bool, List, [], ◌∷◌, ◌++◌, map, ℕ, suc, ◌+◌, ◌-◌, length, replicate}
+use Rattle.std.proofs.Common.{sym, ap, ◌∙◌, subst, append_assoc, append-nil, length-append}
 use Rattle.std.proofs.lemmas.List.{length-map}
-use Rattle.paper.specs.Reader.{Reader, Out, got, no, and_then, turned, ◌>>=◌, give, each, times}
+use Rattle.paper.specs.Reader.{Out, got, no, and_then, turned, ◌>>=◌, give, each, times}
 use Rattle.paper.specs.Lists.{fold, flat, last_or}
 use Rattle.paper.specs.Numbers.{number}
-use Rattle.paper.specs.Ledger.{New, Head, Entry, Due, State, objects_of}
+use Rattle.paper.specs.Ledger.{New, Entry, State, objects_of}
 use Rattle.paper.specs.Rules.{type_of, after_head, known_due, after_entry, field_count_rules, old_due, new_dues, entry_dues, dues, with_strings, after_front}
-use Rattle.paper.specs.File.{Upto, Front, what, ends, sized, small, string_block, head, end_offset, new_field, upto_new, fields, entry, upto_entry, front}
-use Rattle.laws.specs.Laws.{not-got, bind_inv, each-inv}
+use Rattle.paper.specs.File.{Upto, what, ends, sized, small, string_block, head, end_offset, new_field, upto_new, fields, entry, upto_entry, front}
+use Rattle.laws.specs.Laws.{bind_inv, each-inv}
 use Rattle.table.specs.View.{Said}
 use Rattle.reader.specs.Going.{Going, go_entry, sized-append, last-append}
 use Rattle.reader.specs.Fields.{upto}
 use Rattle.reader.specs.Runs.{times-many}
-use Rattle.reader.specs.NewSteps.{then-turned}
 use Rattle.reader.specs.Strings.{add_strings}
 use Rattle.reader.specs.Entries.{entries_go, go_front, front_go, begun}
 

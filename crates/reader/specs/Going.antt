@@ -1,19 +1,12 @@
 -- How all that the table says goes on while the entries of a block are read: the state, the chunks that are due with their
 -- sizes, and the last end offset. Assumes nothing.
-use Rattle.std.specs.Prelude.{◌≡◌, refl, Bool, true, false, List, [], ◌∷◌, ◌++◌, map, ℕ, zero, suc, ◌+◌, ◌-◌, ◌≤◌, ◌<◌, length}
-use Rattle.std.proofs.Common.{sym, ap, ◌∙◌, subst, append_assoc, append-nil, arith, length-append}
-use Rattle.std.proofs.lemmas.List.{length-map}
-use Rattle.paper.specs.Reader.{if◌then◌else◌, Out, got, no}
-use Rattle.paper.specs.Lists.{fold, flat, last_or}
-use Rattle.paper.specs.Ledger.{New, Head, Entry, Due, State, objects_of}
-use Rattle.paper.specs.Rules.{type_of, after_head, known_due, after_new, after_entry, values_due, old_due, new_dues, entry_dues, dues, with_strings, after_front}
+use Rattle.std.specs.Prelude.{◌≡◌, refl, List, [], ◌∷◌, ◌++◌, map, ℕ, suc, ◌-◌, length}
+use Rattle.std.proofs.Common.{sym, ap, ◌∙◌, append_assoc, append-nil, arith, length-append}
+use Rattle.paper.specs.Lists.{fold, last_or}
+use Rattle.paper.specs.Ledger.{New, Head, Entry, Due, State}
+use Rattle.paper.specs.Rules.{after_head, after_new, after_entry, values_due, old_due, new_dues, entry_dues}
 use Rattle.paper.specs.File.{what, ends, sized}
-use Rattle.paper.specs.Places.{Spot}
-use Rattle.table.specs.View.{Said, said, Holds}
-use Rattle.numbers.specs.Cursors.{place_of}
-use Rattle.numbers.specs.declared.Number.{Number}
-use Rattle.numbers.specs.declared.Number.TheVariants.{Got, No}
-use Rattle.reader.specs.Sound.{Sound}
+use Rattle.table.specs.View.{Said}
 
 pub record Going : Type 0 where
   pub said : Said

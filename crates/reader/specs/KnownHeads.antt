@@ -5,7 +5,7 @@ use Rattle.std.proofs.Math.Path.{sym, ap}
 use Rattle.std.proofs.Common.{◌∙◌, subst, append-nil, arith, length-append}
 use Rattle.std.proofs.Math.Bool.{false}
 use Rattle.std.proofs.Math.Option.{some}
-use Rattle.std.proofs.Math.Seq.{slice, get_or-append_seam}
+use Rattle.std.proofs.Math.Seq.{get_or-append_seam}
 use borrow.Author.Tests.{le-leb, lt-leb}
 use Rattle.paper.specs.Reader.{if◌then◌else◌, got, ◌>>=◌, give, started}
 use Rattle.paper.specs.Numbers.{coding, low_first, v64, number}
@@ -17,24 +17,19 @@ use Rattle.numbers.specs.Begun.{one_byte}
 use Rattle.numbers.specs.Cursors.{Read, answer-got}
 use Rattle.numbers.specs.Ruled.{small-got}
 use Rattle.numbers.specs.declared.Number.TheVariants.{Got}
-use Rattle.numbers.specs.declared.Cursor.{Cursor}
 use Rattle.table.specs.View.{view, Said, said, maybe, strs_of, names_of, types_of, log_of, Ok, Holds, strings_in, types_in, ranges_in, block_in}
-use Rattle.table.specs.Answers.{Stands, Named, range_in, no_range, Small}
-use Rattle.table.specs.Packed.{range_cells}
-use Rattle.table.specs.Pushes.{Pushed}
-use Rattle.table.specs.declared.names.Found.{Found}
+use Rattle.table.specs.Answers.{Stands, Named, range_in, no_range}
 use Rattle.table.specs.declared.names.Found.TheVariants.{At}
 use Rattle.table.specs.declared.rows.RangeRow.{RangeRow}
 use Rattle.reader.specs.declared.heads.Name.{Name}
 use Rattle.reader.specs.declared.heads.Named.TheVariants as named
-use Rattle.reader.specs.declared.heads.Super.{Super}
 use Rattle.reader.specs.declared.heads.Top.{Top}
 use Rattle.reader.specs.declared.heads.Topped.{Topped}
 use Rattle.reader.specs.declared.heads.Topped.TheVariants as topped
 use Rattle.reader.specs.declared.heads.Above.TheVariants as above
 use Rattle.reader.specs.Sound.{Sound}
 use Rattle.reader.specs.Ruled.{number-judged}
-use Rattle.reader.specs.Heads.{due, head_of, Known, NamePlaced, CountJudged, NameRead, AboveRead, DueRead, TopRead, Placed, add_head, range_for, Entered, TopEntered}
+use Rattle.reader.specs.Heads.{head_of, Known, NamePlaced, CountJudged, NameRead, AboveRead, DueRead, TopRead, Placed, add_head, range_for, Entered, TopEntered}
 use Rattle.reader.specs.HeadLaws.{differ, placed-known, name-placed, name-read, above-old}
 use Rattle.reader.specs.CountLaws.{due-none, due-read, given-up, given-none, count-in}
 use Rattle.reader.specs.TopLaws.{or-due, top-got}

@@ -6,7 +6,7 @@ use Rattle.paper.specs.Reader.{Out, got, no, and_then, ◌>>=◌, give}
 use Rattle.paper.specs.Numbers.{number}
 use Rattle.paper.specs.Ledger.{Kind}
 use Rattle.paper.specs.Rules.{field_name_rules}
-use Rattle.paper.specs.File.{restrictions, kind, end_offset, new_field}
+use Rattle.paper.specs.File.{restrictions, end_offset, new_field}
 use Rattle.numbers.specs.Cursors.{Read, was-got, was-refused}
 use Rattle.numbers.specs.declared.Number.{Number}
 use Rattle.numbers.specs.declared.Number.TheVariants.{Got, No}

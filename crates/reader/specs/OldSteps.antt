@@ -3,7 +3,7 @@ use Rattle.std.proofs.Math.Path.{◌≡◌, refl, ap}
 use Rattle.std.proofs.Common.{◌∙◌, arith, add-one, drop-cons, eq-eqb, ne_eqb}
 use Rattle.std.specs.Prelude.{Bool, true, false, length, get_or, drop}
 use mathlib.Core.List.{List, [], ◌∷◌}
-use Prim.Native.Nat.{ℕ, ◌+◌, ◌≤◌, ◌<◌}
+use Prim.Native.Nat.{ℕ, ◌+◌, ◌<◌}
 use Rattle.paper.specs.Reader.{if◌then◌else◌, Out, got, no, and_then, turned, ◌>>=◌, give, each, times}
 use Rattle.paper.specs.Lists.{places}
 use Rattle.paper.specs.Ledger.{State, Field, no_field, field_at, owns?, fields_of}

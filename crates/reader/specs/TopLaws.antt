@@ -1,7 +1,7 @@
 -- The ways out of `read_head`, on plain values: each section adds what one more reading has learnt. Assumes nothing.
 use Rattle.std.specs.Prelude.{◌≡◌, refl, Bool, true, false, List, ℕ, ◌≤◌, ◌<◌, length}
 use Rattle.std.proofs.Common.{sym, ap, ◌∙◌}
-use Rattle.std.proofs.Math.Option.{Option, none}
+use Rattle.std.proofs.Math.Option.{Option}
 use Rattle.paper.specs.Reader.{Reader, got, no, ◌>>=◌, give, only}
 use Rattle.paper.specs.Numbers.{number}
 use Rattle.paper.specs.Lists.{given?, or}

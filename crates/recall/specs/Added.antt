@@ -10,7 +10,7 @@ use Rattle.paper.specs.Numbers.{number}
 use Rattle.paper.specs.Lists.{fold, given?, or, last_or}
 use Rattle.paper.specs.Ledger.{New, Head, Entry, Range, State, text, pool_before}
 use Rattle.paper.specs.Rules.{small_rules, strings_rules, with_strings, new?, type_of, type_name_rules, super_name_rules, super_of, count_rules, restriction_rules, base_under, base_of, new_name, new_type, new_range, after_head, field_count_rules, after_new, after_entry, any_type}
-use Rattle.paper.specs.File.{small, string_block, restrictions, head, new_field, upto_new, what, entry}
+use Rattle.paper.specs.File.{small, string_block, restrictions, head, new_field, upto_new, what}
 use Rattle.laws.specs.Laws.{bind_inv}
 use Rattle.laws.specs.Says.{Held}
 use Rattle.laws.specs.Bools.{held-split}

@@ -8,7 +8,7 @@ ghost use Rattle.streams.specs.Answers.{refusal_line, Told};
 ghost use Rattle.streams.specs.Reads.{Within};
 
 use calls::replies::Reply;
-use libc::{STDERR_FILENO, STDIN_FILENO, STDOUT_FILENO};
+use std::io::{Input, Read};
 use words::write::put_decimal;
 
 // How many bytes came from standard input, or that it could not be read.
@@ -19,23 +19,22 @@ pub enum Came {
 }
 
 // One read. It brings no byte only where the input has ended.
-fn read_some(part: &mut [u8]) -> Came
+fn read_some(input: &mut impl Read, part: &mut [u8]) -> Came
     ensures { Within result part.old }
 {
-    let got = libc::read(STDIN_FILENO, part);
-    if got < 0 {
-        return Came::Failed;
+    match input.read(part) {
+        Ok(n) => Came::Bytes(n),
+        Err(_) => Came::Failed,
     }
-    Came::Bytes(io::count(got, part))
 }
 
 // Reads on until the input has ended or `buf` is full: a pipe hands over what it has, which may be less than was asked for.
-fn read_all(buf: &mut [u8]) -> Came
+fn read_all(input: &mut impl Read, buf: &mut [u8]) -> Came
     ensures { Within result buf.new }
 {
     let mut done: usize = 0;
     while done < buf.len() {
-        let a = read_some(&mut buf[done..]);
+        let a = read_some(input, &mut buf[done..]);
         let Came::Bytes(n) = a else {
             return Came::Failed;
         };
@@ -47,16 +46,16 @@ fn read_all(buf: &mut [u8]) -> Came
     Came::Bytes(done)
 }
 
-// The input. Where a read fails there is none: half an input is not the input. That is said on standard error, for a program
-// has no status to end with, and what it writes for an empty input is empty too.
-pub fn read_input(buf: &mut [u8]) -> Came
+// The input. Where a read fails there is none: half an input is not the input. That is said on standard error, for what a
+// program writes for an empty input is empty too, and its status is 0 either way.
+pub fn read_input(rt: &(impl Input + Eprint), buf: &mut [u8]) -> Came
     ensures { Within result buf.new }
 {
-    let a = read_all(buf);
+    let a = read_all(&mut rt.reader(), buf);
     match a {
         Came::Bytes(n) => Came::Bytes(n),
         Came::Failed => {
-            io::write_all(STDERR_FILENO, b"standard input cannot be read\n");
+            let _ = rt.eprintln("standard input cannot be read");
             Came::Failed
         }
     }
@@ -82,8 +81,8 @@ pub fn replied(a: Reply, out: &mut [u8]) -> usize
 }
 
 // Where a write fails, nothing more is written, and that is said on standard error.
-pub fn write_answer(text: &[u8]) {
-    if !io::write_all(STDOUT_FILENO, text) {
-        io::write_all(STDERR_FILENO, b"standard output cannot be written\n");
+pub fn write_answer(rt: &(impl Print + Eprint), text: &[u8]) {
+    if rt.write_all(text).is_err() {
+        let _ = rt.eprintln("standard output cannot be written");
     }
 }

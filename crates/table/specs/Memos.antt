@@ -1,11 +1,11 @@
 -- What is noted of a string as a type's name: it stays true where types are added. Assumes nothing.
 use Rattle.std.specs.Prelude.{◌≡◌, ℕ, ◌+◌, ◌-◌, ◌<◌, ◌≤◌, List, [], ◌∷◌, ◌++◌, length, drop, refl}
-use Rattle.std.proofs.Common.{sym, ap, ◌∙◌, subst, zero-le, arith, length-append, length-drop}
+use Rattle.std.proofs.Common.{sym, ap, ◌∙◌, zero-le, arith, length-append, length-drop}
 use Rattle.std.proofs.Math.Option.{Option, none, some}
 use Rattle.std.proofs.lemmas.List.{drop-append-le}
 use Rattle.paper.specs.Lists.{same, place}
 use Rattle.table.specs.View.{Passed, Memo}
-use Rattle.table.specs.Loops.{place_end, place_in}
+use Rattle.table.specs.Loops.{place_end}
 use Rattle.table.specs.ApartLaws.{place-longer, place-behind}
 
 module _ (names : List (List ℕ)) (name : List ℕ) where

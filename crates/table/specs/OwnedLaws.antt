@@ -1,7 +1,7 @@
 -- Where the fields of a type stand: a field more keeps what the tallies say of it, and what is read off them. Lists only; no
 -- cell is named here. Assumes nothing.
 use Rattle.std.specs.Prelude.{◌≡◌, ℕ, zero, suc, ◌+◌, ◌-◌, ◌<◌, ◌≤◌, Bool, true, false, ◌≢◌, List, [], ◌∷◌, ◌++◌, length, get_or, drop, slice_index_or}
-use Rattle.std.proofs.Common.{true≢false, ⊎_elim, sym, ◌∙◌, not-suc-le-zero, zero-add, add-one, eqb-true, length-append, drop_of_length-le, drop-cons}
+use Rattle.std.proofs.Common.{⊎_elim, sym, ◌∙◌, not-suc-le-zero, zero-add, add-one, eqb-true, length-append, drop_of_length-le, drop-cons}
 use Rattle.std.proofs.Math.Path.{refl, ap}
 use native.Mathlib.Omega.{arith}
 use Rattle.std.proofs.Math.ListN.{get_or-append}

@@ -1,6 +1,6 @@
 -- A push in code: what it does to cells, and that the table is still one. Assumes nothing.
-use Rattle.std.specs.Prelude.{◌≡◌, ℕ, zero, suc, ◌+◌, ◌-◌, ◌*◌, ◌<◌, ◌≤◌, Bool, true, false, ◌≢◌, ◌⊎◌, List, [], ◌∷◌, ◌++◌, length, set, ◌==◌, slice_index, slice_index_or, slice_set}
-use Rattle.std.proofs.Common.{eq-or-lt_of_le, true≢false, ⊎_elim, inl, inr, ◌∙◌, length-set, get_or-set_same, get_or-set_other}
+use Rattle.std.specs.Prelude.{◌≡◌, ℕ, zero, suc, ◌+◌, ◌-◌, ◌*◌, ◌<◌, ◌≤◌, Bool, true, false, ◌≢◌, List, [], ◌∷◌, ◌++◌, length, set, ◌==◌, slice_index, slice_index_or, slice_set}
+use Rattle.std.proofs.Common.{eq-or-lt_of_le, true≢false, ⊎_elim, ◌∙◌, length-set, get_or-set_same, get_or-set_other}
 use Rattle.std.proofs.Math.Path.{refl, sym, ap, subst}
 use native.Mathlib.Omega.{arith}
 use borrow.Author.Tests.{eqb-true, eqb-false, ne_eqb}
@@ -14,7 +14,7 @@ use Rattle.table.specs.Rows.{Push}
 use Rattle.table.specs.RowLaws.{lt-or-ge, same_or_not, stored_at, sets-other, push-other, push-count, push-mine}
 use Rattle.table.specs.Layout.{width, most, starts, head-le, row_fits}
 use Rattle.table.specs.View.{typ_of, fld_of, range_of, types_of, flds_of, log_of, maybe, tally, Telling, Owning, Ok}
-use Rattle.table.specs.ViewLaws.{ok-after, others, count-types}
+use Rattle.table.specs.ViewLaws.{ok-after, others}
 use Rattle.table.specs.Told.{Told, Owned}
 use Rattle.table.specs.ToldLaws.{one-yes, one-no, Below, Counted, told-type, told-range, told-cong}
 use Rattle.table.specs.OwnedLaws.{Grown, owned-cong, owned-more}

@@ -1,5 +1,5 @@
 -- What a table's tallies tell. Assumes nothing.
-use Rattle.std.specs.Prelude.{◌≡◌, ℕ, ◌-◌, ◌<◌, ◌≤◌, Bool, true, false, ◌&&◌, List, [], nat_le, slice_index, slice_index_or, refl}
+use Rattle.std.specs.Prelude.{◌≡◌, ℕ, ◌-◌, ◌<◌, ◌≤◌, true, false, ◌&&◌, List, nat_le, slice_index, slice_index_or, refl}
 use Rattle.std.proofs.Common.{sym, ◌∙◌, arith, le_refl, zero-le}
 use Rattle.std.proofs.Math.Path.{ap}
 use Rattle.paper.specs.Lists.{any, all, total, given?}

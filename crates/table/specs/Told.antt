@@ -1,5 +1,5 @@
 -- What the tallies say of the log of ranges, and of the fields. Assumes nothing.
-use Rattle.std.specs.Prelude.{◌≡◌, ℕ, ◌+◌, ◌-◌, ◌<◌, ◌≤◌, Bool, true, false, not, ◌&&◌, ◌||◌, List, length, nat_le, nat_lt, slice_index_or}
+use Rattle.std.specs.Prelude.{◌≡◌, ℕ, ◌-◌, ◌<◌, ◌≤◌, Bool, true, false, not, ◌&&◌, ◌||◌, List, length, nat_le, nat_lt, slice_index_or}
 use Rattle.paper.specs.Lists.{any, all, total, given?}
 use Rattle.paper.specs.Ledger.{Typ, Range, Field, no_field, owns?, type_in, of?, before?, base?, holds?, size}
 use Rattle.paper.specs.Rules.{clear?}

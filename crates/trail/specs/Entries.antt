@@ -1,15 +1,14 @@
 -- An entry that was read before, passed over. Assumes nothing.
-use Rattle.std.specs.Prelude.{◌≡◌, Bool, not, ℕ, suc, ◌+◌, ◌-◌, ◌≤◌, ◌<◌, leb, eqb, set}
+use Rattle.std.specs.Prelude.{◌≡◌, Bool, ℕ, suc, ◌+◌, ◌-◌, ◌≤◌, ◌<◌, leb, eqb, set}
 use Rattle.std.proofs.Math.Path.{refl, sym, ap}
 use Rattle.std.proofs.Common.{◌∙◌, subst, leb-true, eq-eqb, ne_eqb, eqb-true}
 use Rattle.std.proofs.Math.Bool.{true, false}
 use mathlib.Core.List.{List, [], ◌∷◌, ◌++◌, map, append-nil}
-use Rattle.std.proofs.Math.Option.{none}
 use native.Mathlib.Omega.{arith}
 use Rattle.std.proofs.Math.ListN.{length, get_or, length-append, length-set, get_or-append}
 use Rattle.std.proofs.lemmas.List.{length-map}
 use Rattle.std.proofs.Math.Seq.{get_or_at, get_or-set_same, get_or-set_other}
-use Rattle.paper.specs.Reader.{if◌then◌else◌, got, no, times}
+use Rattle.paper.specs.Reader.{if◌then◌else◌, got, times}
 use Rattle.paper.specs.Numbers.{v64, number}
 use Rattle.paper.specs.Lists.{places, fold, last_or}
 use Rattle.paper.specs.Ledger.{New, Head, Entry, Typ, State, text, no_type, type_named, type_in, owns?, fields_of}

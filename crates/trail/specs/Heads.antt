@@ -1,12 +1,12 @@
 -- A head that was read before, passed over. Assumes nothing.
-use Rattle.std.specs.Prelude.{◌≡◌, Bool, true, false, ◌||◌, not, List, [], ℕ, zero, suc, ◌+◌, ◌-◌, ◌≤◌, ◌<◌, leb, ltb, eqb, length, get_or, take}
+use Rattle.std.specs.Prelude.{◌≡◌, Bool, true, false, ◌||◌, not, List, ℕ, zero, suc, ◌+◌, ◌≤◌, ◌<◌, leb, ltb, eqb, length, get_or, take}
 use Rattle.std.proofs.Math.Path.{refl, sym, ap}
 use Rattle.std.proofs.Common.{◌∙◌, subst, leb-true, ltb-true, ne_eqb}
 use Rattle.std.proofs.Math.Option.{Option, none, some}
 use native.Mathlib.Omega.{arith}
 use Rattle.std.proofs.Math.Numerals.{add-one}
 use Rattle.std.proofs.Math.Decide.{dec_le}
-use Rattle.paper.specs.Reader.{if◌then◌else◌, got, no, Rule, give, only}
+use Rattle.paper.specs.Reader.{if◌then◌else◌, got, Rule, give, only}
 use Rattle.paper.specs.Numbers.{v64, number}
 use Rattle.paper.specs.Lists.{same, place, given?, or}
 use Rattle.paper.specs.Ledger.{Head, State, text, a_string?, type_named, type_in, fields_of}

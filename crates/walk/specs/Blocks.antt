@@ -1,6 +1,6 @@
 -- Between two blocks: what the table says there gives the next block its room, and a block that ends leaves it so. Assumes nothing.
-use Rattle.std.specs.Prelude.{◌≡◌, refl, Bool, true, false, List, [], ◌∷◌, ◌++◌, ℕ, suc, ◌+◌, ◌*◌, ◌≤◌, ◌<◌, length}
-use Rattle.std.proofs.Common.{sym, ap, ◌∙◌, arith, length-append, ne_eqb}
+use Rattle.std.specs.Prelude.{◌≡◌, refl, false, List, [], ◌∷◌, ◌++◌, ℕ, ◌+◌, ◌*◌, ◌≤◌, ◌<◌, length}
+use Rattle.std.proofs.Common.{◌∙◌, arith, length-append, ne_eqb}
 use Rattle.paper.specs.Bounds.{most_pairs, most_types, most_fields}
 use Rattle.paper.specs.Lists.{fold, total}
 use Rattle.paper.specs.Ledger.{Range, New, Entry, State, here?, of?}
@@ -9,7 +9,7 @@ use Rattle.paper.specs.Places.{Spot}
 use Rattle.table.specs.View.{Said}
 use Rattle.table.specs.Counts.{next_block}
 use Rattle.reader.specs.Counting.{one, count-not, count_none, none-counted, Keys, keys-weaker, keys-snoc, fewer-rows, none-past}
-use Rattle.reader.specs.Sound.{type_of_range, Every, Declared, Sound}
+use Rattle.reader.specs.Sound.{type_of_range, Sound}
 use Rattle.lookups.specs.Low.{Low, count_of, Bounded, news-log}
 
 abbrev pub block_of_range : Range → ℕ

@@ -1,28 +1,23 @@
 -- A whole file, read into a table that knew nothing: what the table then says. Assumes nothing.
 use Rattle.std.proofs.Math.Path.{◌≡◌, refl, sym, ap, subst}
 use Rattle.std.proofs.Common.{◌∙◌, le-leb}
-use Rattle.std.specs.Prelude.{Bool, true, false, List, [], ◌∷◌, ◌++◌, ℕ, suc, ◌+◌, ◌*◌, ◌≤◌, ◌<◌, leb, length, get_or}
+use Rattle.std.specs.Prelude.{List, [], ◌∷◌, ℕ, suc, ◌≤◌, ◌<◌, length, get_or}
 use native.Mathlib.Omega.{arith}
 use Rattle.std.proofs.lemmas.Bool.{lt-leb}
 use Rattle.paper.specs.Reader.{if◌then◌else◌, Out, got, no, turned}
-use Rattle.paper.specs.Bounds.{most_bytes, most_pairs}
-use Rattle.paper.specs.Lists.{fold}
-use Rattle.paper.specs.Ledger.{Ledger, State, nothing, of?}
-use Rattle.paper.specs.Rules.{after_pair}
-use Rattle.paper.specs.File.{pairs, file}
+use Rattle.paper.specs.Bounds.{most_bytes}
+use Rattle.paper.specs.Ledger.{Ledger, nothing, of?}
+use Rattle.paper.specs.File.{file}
 use Rattle.paper.specs.Places.{spots}
 use Rattle.paper.specs.Calls.{known}
 use Rattle.laws.specs.Says.{Bytes}
-use Rattle.numbers.specs.declared.Cursor.{Cursor}
-use Rattle.numbers.specs.declared.Refusal.{Refusal}
-use Rattle.table.specs.View.{view, flds_of, log_of, said, Said, Holds}
+use Rattle.table.specs.View.{view, said, Said}
 use Rattle.table.specs.Counts.{begun, Begun}
 use Rattle.reader.specs.Counting.{count_none}
 use Rattle.walk.specs.Pairs.{pairs_to, said_of, pairs-are}
 use Rattle.laws.specs.Pools.{Pooled, nothing-pooled}
 use Rattle.lookups.specs.Low.{Low}
 use Rattle.walk.specs.Listed.{Listed}
-use Rattle.walk.specs.Blocks.{Between}
 use Rattle.walk.specs.PairLaws.{Steady, out_said}
 use Rattle.walk.specs.PairTurns.{WalkReady, WalkDone}
 use Rattle.numbers.specs.declared.Step.{Step}

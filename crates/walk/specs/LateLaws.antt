@@ -1,28 +1,26 @@
 -- A kind that names no type: the table is cut back to where the pair began, and the front is read again. Assumes nothing.
-use Rattle.std.specs.Prelude.{◌≡◌, refl, Bool, false, ◌||◌, length, take}
+use Rattle.std.specs.Prelude.{◌≡◌, Bool, ◌||◌, length, take}
 use Rattle.std.proofs.Math.Path.{sym, ap, subst}
 use Rattle.std.proofs.Common.{◌∙◌, arith, length-append}
 use Rattle.std.proofs.Math.Bool.{true}
-use mathlib.Core.List.{List, [], ◌∷◌, ◌++◌}
-use Prim.Native.Nat.{ℕ, ◌+◌, ◌-◌, ◌≤◌, ◌<◌}
+use mathlib.Core.List.{List, []}
+use Prim.Native.Nat.{ℕ, ◌-◌, ◌≤◌}
 use Rattle.std.proofs.Math.Dec.{ltb}
 use Rattle.std.proofs.Math.Seq.{take-append_seam, take_all}
-use Rattle.paper.specs.Reader.{Out, got, no, turned}
-use Rattle.paper.specs.Ledger.{Pair, State}
-use Rattle.paper.specs.Rules.{a_type?, closed, after_front, after_pair}
-use Rattle.paper.specs.File.{Front, front, refusal_of}
+use Rattle.paper.specs.Ledger.{State}
+use Rattle.paper.specs.Rules.{a_type?, closed, after_pair}
+use Rattle.paper.specs.File.{front, refusal_of}
 use Rattle.laws.specs.Longer.{Begins}
 use Rattle.laws.specs.Columns.{Grows, pair-grows}
 use Rattle.numbers.specs.declared.Cursor.{Cursor}
 use Rattle.numbers.specs.declared.Refusal.{Refusal}
 use Rattle.numbers.specs.declared.Number.{Number}
 use Rattle.numbers.specs.declared.Number.TheVariants as number
-use Rattle.table.specs.View.{names_of, dues_of, chunks_of, view, said, Said, Holds, Now, strings_in, types_in, fields_in, ranges_in, chunks_in}
+use Rattle.table.specs.View.{chunks_of, view, said, Said, Holds, strings_in, types_in, fields_in, ranges_in, chunks_in}
 use Rattle.table.specs.Counts.{counts_in, cut_to, recounted, NotAbove, Cut}
 use Rattle.table.specs.declared.rows.Counts.{Counts}
 use Rattle.reader.specs.Kinds.{named_by}
 use Rattle.reader.specs.Sound.{Sound}
-use Rattle.reader.specs.Going.{Going}
 use Rattle.reader.specs.Fields.{out_going}
 use Rattle.reader.specs.Entries.{go_front, front_go}
 use Rattle.reader.specs.EntryLaws.{Passed}
@@ -30,7 +28,7 @@ use Rattle.walk.specs.Steps.{step_of}
 use Rattle.walk.specs.Blocks.{begins, front-block}
 use Rattle.walk.specs.PairLaws.{PairReady, Fronted, late_of, late-front, state-is, chunks-are}
 use Rattle.numbers.specs.declared.Step.{Step}
-use Rattle.numbers.specs.declared.Step.TheVariants.{Got, No}
+use Rattle.numbers.specs.declared.Step.TheVariants.{No}
 
 -- what it asks of the table l, which has rows of a front that was read, and had so many before
 pub record LateReady (f l : List ℕ) (before : Counts) (at : ℕ) : Type 0 where

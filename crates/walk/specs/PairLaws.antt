@@ -1,13 +1,13 @@
 -- The ways out of reading a pair, on plain values. Assumes nothing.
 use Rattle.std.proofs.Math.Path.{◌≡◌, refl, sym, ap, subst}
-use Rattle.std.proofs.Common.{◌∙◌, arith, length-append, le-leb}
-use Rattle.std.specs.Prelude.{Bool, true, false, ℕ, ◌+◌, ◌-◌, ◌≤◌, ◌<◌, leb, drop, take}
+use Rattle.std.proofs.Common.{◌∙◌, arith, le-leb}
+use Rattle.std.specs.Prelude.{Bool, true, false, ℕ, ◌+◌, ◌≤◌, ◌<◌}
 use mathlib.Core.List.{List, [], ◌∷◌, ◌++◌}
 use Rattle.std.proofs.Math.ListN.{length}
 use Rattle.std.proofs.lemmas.Bool.{lt-leb}
-use Rattle.paper.specs.Reader.{if◌then◌else◌, Out, got, no, and_then, turned, ◌>>=◌, ◌>>◌, give, within, part}
-use Rattle.paper.specs.Lists.{all, last_or}
-use Rattle.paper.specs.Ledger.{Chunk, Due, Field, State}
+use Rattle.paper.specs.Reader.{if◌then◌else◌, Out, got, no, and_then, turned, ◌>>◌, within}
+use Rattle.paper.specs.Lists.{last_or}
+use Rattle.paper.specs.Ledger.{Chunk, Due, State}
 use Rattle.paper.specs.Rules.{with_strings, any_type, a_type?, kinds_stand?, dues, closed, after_front}
 use Rattle.paper.specs.File.{Front, sized, data_region, front, refusal_of, kinds_named}
 use Rattle.paper.specs.Places.{Spot, spots_from, pair_spots}
@@ -20,14 +20,14 @@ use Rattle.numbers.specs.declared.Refusal.{Refusal}
 use Rattle.numbers.specs.declared.Number.{Number}
 use Rattle.numbers.specs.declared.Number.TheVariants as number
 use Rattle.numbers.specs.Cursors.{refusal_of as refusal_of_number, out_step}
-use Rattle.table.specs.View.{flds_of, log_of, dues_of, chunks_of, view, said, Said, Holds, Now, fields_in, block_in}
+use Rattle.table.specs.View.{flds_of, log_of, dues_of, chunks_of, view, said, Said, Holds, fields_in, block_in}
 use Rattle.table.specs.Counts.{next_block, Next}
 use Rattle.values.specs.Pass.{forget}
 use Rattle.reader.specs.Counting.{Keys}
 use Rattle.reader.specs.Kinds.{named_by}
 use Rattle.reader.specs.Sound.{Sound}
 use Rattle.reader.specs.Going.{Going}
-use Rattle.reader.specs.Fields.{going, out_going}
+use Rattle.reader.specs.Fields.{going}
 use Rattle.reader.specs.Entries.{go_front, front_go}
 use Rattle.reader.specs.EntryLaws.{Passed}
 use Rattle.walk.specs.Pairs.{said_after, pair_to}
@@ -36,8 +36,8 @@ use Rattle.laws.specs.Pools.{Pooled, closed-pooled, front-pooled}
 use Rattle.lookups.specs.Low.{Low, front_low}
 use Rattle.walk.specs.Listed.{Listed, front-listed}
 use Rattle.walk.specs.Steps.{step_of}
-use Rattle.walk.specs.Stand.{stands?, AllStand, new-fields-stand}
-use Rattle.walk.specs.Dues.{Declared, front-declared}
+use Rattle.walk.specs.Stand.{AllStand, new-fields-stand}
+use Rattle.walk.specs.Dues.{front-declared}
 use Rattle.walk.specs.RegionTurns.{RegionReady, RegionChecked, region-ends}
 use Rattle.walk.specs.Blocks.{block_of_range, Between, begins, front-block, front-past, bounded-by, closes}
 use Rattle.numbers.specs.declared.Step.{Step}

@@ -1,13 +1,12 @@
 -- Pair after pair, as all that the table says goes on; and that this is what the definitions read. Assumes nothing.
-use Rattle.std.specs.Prelude.{◌≡◌, refl, Bool, true, false, List, [], ◌∷◌, ◌++◌, ℕ, zero, suc, ◌+◌, ◌≤◌, ◌<◌, leb, length}
-use Rattle.std.proofs.Common.{sym, ap, ◌∙◌, subst, append_assoc, append-nil}
-use Rattle.paper.specs.Reader.{if◌then◌else◌, Reader, Out, got, no, and_then, turned, ◌>>=◌, ◌>>◌, give, refuse, within, unless_end, to_end}
-use Rattle.paper.specs.Bounds.{most_bytes, most_pairs}
+use Rattle.std.specs.Prelude.{◌≡◌, refl, Bool, true, false, List, [], ◌∷◌, ◌++◌, ℕ, zero, suc, ◌+◌, leb, length}
+use Rattle.std.proofs.Common.{sym, ap, ◌∙◌, append_assoc, append-nil}
+use Rattle.paper.specs.Reader.{if◌then◌else◌, Out, got, no, and_then, turned, ◌>>=◌, give, refuse, within, unless_end, to_end}
 use Rattle.paper.specs.Lists.{fold, last_or}
-use Rattle.paper.specs.Ledger.{Chunk, Pair, Ledger, State, nothing}
-use Rattle.paper.specs.Rules.{with_strings, any_type, dues, closed, after_front, after_pair}
-use Rattle.paper.specs.File.{Front, data_region, front, kinds_named, pair_from, pair, pairs, file}
-use Rattle.paper.specs.Places.{Spot, with_front, pair_spots, spots_of, spots}
+use Rattle.paper.specs.Ledger.{Chunk, Ledger, State}
+use Rattle.paper.specs.Rules.{any_type, closed, after_front, after_pair}
+use Rattle.paper.specs.File.{Front, front, pair_from, pair, pairs}
+use Rattle.paper.specs.Places.{Spot, with_front, pair_spots, spots_of}
 use Rattle.table.specs.View.{Said}
 use Rattle.laws.specs.Faithful.{region, region-inv, region-end}
 use Rattle.laws.specs.Laws.{within-inv}

@@ -1,19 +1,18 @@
 -- A data region, read chunk by chunk from the file itself. Assumes nothing.
 use Rattle.std.proofs.Math.Path.{◌≡◌, refl, ap}
-use Rattle.std.proofs.Common.{sym, ◌∙◌, subst, add-zero, add_assoc, length-take, length-drop}
-use Rattle.std.specs.Prelude.{Bool, ℕ, zero, suc, ◌+◌, ◌-◌, ◌≤◌, ◌<◌, leb, eqb, drop}
+use Rattle.std.proofs.Common.{sym, ◌∙◌, add-zero, add_assoc, length-take, length-drop}
+use Rattle.std.specs.Prelude.{Bool, ℕ, zero, suc, ◌+◌, ◌-◌, ◌≤◌, eqb, drop}
 use Rattle.std.proofs.Math.Bool.{true, false}
-use mathlib.Core.List.{List, [], ◌∷◌, ◌++◌, append_assoc}
+use mathlib.Core.List.{List, [], ◌∷◌}
 use native.Mathlib.Omega.{arith}
 use Rattle.std.proofs.Math.ListN.{length, take}
 use Rattle.std.proofs.Math.Seq.{take-take, drop-drop, take-nil}
-use borrow.Author.Tests.{le-leb, eq-eqb, ne_eqb, eqb-true, eqb-false}
-use Rattle.paper.specs.Reader.{if◌then◌else◌, Reader, Out, got, no, and_then, turned, ◌>>=◌, give, filled, part, each, repeat}
+use borrow.Author.Tests.{le-leb, eq-eqb, ne_eqb, eqb-false}
+use Rattle.paper.specs.Reader.{if◌then◌else◌, Reader, Out, got, no, and_then, ◌>>=◌, give, filled, part, each, repeat}
 use Rattle.paper.specs.Lists.{last_or}
-use Rattle.paper.specs.Ledger.{Kind, Chunk, Due, State, field_at}
-use Rattle.paper.specs.File.{value, chunk, sized, data_region}
-use Rattle.paper.specs.Places.{Spot, spots_from}
-use Rattle.laws.specs.Laws.{First, each-inv, Filled, part-inv}
+use Rattle.paper.specs.Ledger.{Chunk, Due, State, field_at}
+use Rattle.paper.specs.File.{value, chunk, sized}
+use Rattle.laws.specs.Laws.{each-inv, part-inv}
 
 -- ── the chunks of a list, from a place of the file on ──
 

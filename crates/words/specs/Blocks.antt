@@ -1,7 +1,7 @@
 -- Many hex digits at once: told from other bytes, and reckoned. Assumes nothing.
 use Rattle.std.specs.Prelude.{◌≡◌, refl, true, false, List, [], ◌∷◌, ◌++◌, ℕ, zero, suc, ◌+◌, ◌-◌, ◌*◌, ◌/◌, ◌%◌, ◌^◌, ◌≤◌, ◌<◌, length, get_or, drop}
 use Rattle.std.proofs.Math.Path.{sym}
-use Rattle.std.proofs.Common.{◌∙◌, ap, append_assoc, arith, add-one, add-zero, lt_of_not-le, drop-cons, ne_eqb}
+use Rattle.std.proofs.Common.{◌∙◌, ap, append_assoc, arith, add-zero, lt_of_not-le, drop-cons, ne_eqb}
 use Rattle.std.proofs.Math.Nat.{sub-zero}
 use Rattle.std.proofs.Math.Decide.{dec_le}
 use Rattle.std.proofs.Math.Seq.{length-sets}

@@ -19,7 +19,7 @@ where
 }
 
 pub fn ask(sheet: &mut Sheet, two: &File) {
-    let cut = sheet.file("lent-cut", "a number cut in its padding", vec![0x80; 8]);
+    let cut = sheet.file("lent_cut", "a number cut in its padding", vec![0x80; 8]);
     sheet.after_check(two, LONG);
     sheet.after_check(two, SHORT);
     sheet.after_check(two, &[]);
@@ -84,7 +84,7 @@ fn builds(sheet: &mut Sheet) {
 /// A map with an annotation, asked for, printed and built.
 fn maps(sheet: &mut Sheet) {
     let text = "pair 1 1/str 61/type 1 0 - 1 1/new 20,2,7,5 1/val 1 -1 1 1";
-    let file = sheet.listed("lent-map", "a map with an annotation", text);
+    let file = sheet.listed("lent_map", "a map with an annotation", text);
     let text = Text::plain(&lines(text));
     let [more, ..] = rooms(1, -4);
     sheet.after_fill(&file, ("a", "a", 20), LONG, &more);

@@ -8,14 +8,10 @@ use crate::Refusal;
 const HEAD: &str = "\
 -- Questions to the six calls, computed with the definitions: the answers are the second program's, and it writes this file.
 -- Assumes nothing.
-use mathlib.Core.Path.{_≡_, refl}
-use mathlib.Core.List.{List, [], _∷_, _++_}
-use Prim.Native.Nat.{ℕ, zero, suc}
-use lib.IntN.{ℤ, pos, negsuc}
-use lib.ListN.{replicate}
-use Rattle·paper.specs.Listing.{ascii}
-use Rattle·paper.specs.Calls.{Answer, done, refused, check, objects, countValues, fillValues, listing, build, Left, afterCheck, afterObjects, afterCount, afterFill, afterListing, afterBuild}
-use Rattle·paper.specs.Whole.{whole}
+use Rattle.std.specs.Prelude.{◌≡◌, refl, List, [], ◌∷◌, ◌++◌, ℕ, zero, suc, ℤ, pos, negsuc, replicate}
+use Rattle.paper.specs.Listing.{ascii}
+use Rattle.paper.specs.Calls.{Answer, done, refused, check, objects, count_values, fill_values, listing, build, Left, after_check, after_objects, after_count, after_fill, after_listing, after_build}
+use Rattle.paper.specs.Whole.{whole}
 
 -- a piece n times
 abbrev again : ℕ → List ℕ → List ℕ
@@ -109,7 +105,7 @@ impl Sheet {
             &mut vec![0; table],
         );
         let (name, field) = (word(name), word(field));
-        let question = format!("countValues {name} {field} {kind} {table} {}", file.name);
+        let question = format!("count_values {name} {field} {kind} {table} {}", file.name);
         self.claim(question, told(answer));
     }
 
@@ -133,7 +129,7 @@ impl Sheet {
         let (name, field) = (word(name), word(field));
         self.claim(
             format!(
-                "fillValues {name} {field} {kind} {room} {table} {}",
+                "fill_values {name} {field} {kind} {room} {table} {}",
                 file.name
             ),
             given(answer, |count| signed(&out[..count])),
@@ -178,7 +174,7 @@ impl Sheet {
     pub fn after_check(&mut self, file: &File, table: Lent<'_, u32>) {
         let mut work = lent(table);
         let answer = crate::check(&file.bytes, &mut work).map(|()| 0);
-        let question = format!("afterCheck {} {}", file.name, runs(&lent(table)));
+        let question = format!("after_check {} {}", file.name, runs(&lent(table)));
         self.left(question, answer, &work, "[]".to_string());
     }
 
@@ -186,7 +182,7 @@ impl Sheet {
         let mut work = lent(table);
         let answer = crate::objects(&file.bytes, name.as_bytes(), &mut work);
         let (name, before) = (word(name), runs(&lent(table)));
-        let question = format!("afterObjects {} {name} {before}", file.name);
+        let question = format!("after_objects {} {name} {before}", file.name);
         self.left(question, answer, &work, "[]".to_string());
     }
 
@@ -201,7 +197,7 @@ impl Sheet {
             &mut work,
         );
         let question = format!(
-            "afterCount {} {} {} {kind} {}",
+            "after_count {} {} {} {kind} {}",
             file.name,
             word(name),
             word(field),
@@ -228,7 +224,7 @@ impl Sheet {
             &mut out,
         );
         let question = format!(
-            "afterFill {} {} {} {kind} {} {}",
+            "after_fill {} {} {} {kind} {} {}",
             file.name,
             word(name),
             word(field),
@@ -242,7 +238,7 @@ impl Sheet {
         let (mut work, mut out) = (lent(table), lent(room));
         let answer = crate::listing(&file.bytes, &mut work, &mut out);
         let (before, lent) = (runs(&lent(table)), runs(&lent(room)));
-        let question = format!("afterListing {} {before} {lent}", file.name);
+        let question = format!("after_listing {} {before} {lent}", file.name);
         self.left(question, answer, &work, runs(&out));
     }
 
@@ -250,7 +246,7 @@ impl Sheet {
         let (mut work, mut out) = (lent(table), lent(room));
         let answer = crate::build(&text.bytes(), &mut work, &mut out);
         let (before, lent) = (runs(&lent(table)), runs(&lent(room)));
-        let question = format!("afterBuild {} {before} {lent}", text.shown());
+        let question = format!("after_build {} {before} {lent}", text.shown());
         self.left(question, answer, &work, runs(&out));
     }
 

@@ -10,10 +10,10 @@ loop-i-init c = (zero-le, refl, refl)
 
 pub loop-i-preserved : goal.loop-i-preserved
 loop-i-preserved c = let i = c.loop-i.i in (
-    omega arith,
-    ap (λ (l : List ℕ). set l i 0) c.loop-i.invariant.1 ∙ fill_more i 0 c.args.work.now (omega arith),
-    length-set c.loop-i.work i 0 ∙ c.loop-i.invariant.2,
-    )
+  omega arith,
+  ap (λ (l : List ℕ). set l i 0) c.loop-i.invariant.1 ∙ fill_more i 0 c.args.work.now (omega arith),
+  length-set c.loop-i.work i 0 ∙ c.loop-i.invariant.2,
+)
 
 pub shape_of-work : goal.shape_of-work
 shape_of-work c = c.loop-i.invariant.2

@@ -15,8 +15,8 @@ unfolding owns?
 loop-i-preserved c = let a = c.args in
     let i = c.loop-i.i in
     elim c.if-row-t.branch [
-    | then-row-t w ↦ let on = places-here (owns? a.t) (flds_of a.work.now) i no_field (omega arith) c.field_at-row.ensures.result_value refl (eq-eqb _ _ w.if-row-t.true) in (omega arith, omega arith, omega (arith, c.loop-i.invariant.2))
-    | else-row-t w ↦ let on = places-on (owns? a.t) (flds_of a.work.now) i no_field (omega arith) c.field_at-row.ensures.result_value refl (ne_eqb _ _ w.if-row-t.false) in (omega arith, omega arith, omega (arith, c.loop-i.invariant.2))
+      | then-row-t w ↦ let on = places-here (owns? a.t) (flds_of a.work.now) i no_field (omega arith) c.field_at-row.ensures.result_value refl (eq-eqb _ _ w.if-row-t.true) in (omega arith, omega arith, omega (arith, c.loop-i.invariant.2))
+      | else-row-t w ↦ let on = places-on (owns? a.t) (flds_of a.work.now) i no_field (omega arith) c.field_at-row.ensures.result_value refl (ne_eqb _ _ w.if-row-t.false) in (omega arith, omega arith, omega (arith, c.loop-i.invariant.2))
     ]
 
 pub returns : goal.returns

@@ -13,8 +13,8 @@ loop-i-init c = let a = c.args in (zero-le, name-start a.name.now a.src.now a.st
 pub loop-i-preserved : goal.loop-i-preserved
 loop-i-preserved c = let a = c.args in
     elim c.if-name-i.branch [
-    | then-name-i w ↦ (omega arith, differs-on a.name.now a.src.now a.start a.end c.requires c.loop-i.i c.loop-i.alike c.loop-i.invariant.1 (omega arith) (omega arith) w.if-name-i.true w.alike-is)
-    | else-name-i w ↦ (omega arith, alike-on a.name.now a.src.now a.start a.end c.requires c.loop-i.i c.loop-i.alike c.loop-i.invariant.1 (omega arith) (omega arith) w.if-name-i.false w.alike-is)
+      | then-name-i w ↦ (omega arith, differs-on a.name.now a.src.now a.start a.end c.requires c.loop-i.i c.loop-i.alike c.loop-i.invariant.1 (omega arith) (omega arith) w.if-name-i.true w.alike-is)
+      | else-name-i w ↦ (omega arith, alike-on a.name.now a.src.now a.start a.end c.requires c.loop-i.i c.loop-i.alike c.loop-i.invariant.1 (omega arith) (omega arith) w.if-name-i.false w.alike-is)
     ]
 
 pub returns : goal.returns

@@ -12,8 +12,8 @@ loop-i-init c = (zero-le, omega arith, bytes-start _ _)
 pub loop-i-preserved : goal.loop-i-preserved
 loop-i-preserved c = let l = c.loop-i in
     elim c.if-a-i.branch [
-    | then-a-i w ↦ (omega arith, l.invariant.1, bytes-differ _ _ l.invariant.2 (omega arith) (omega arith) w.if-a-i.true w.alike-is)
-    | else-a-i w ↦ (omega arith, l.invariant.1, bytes-alike _ _ l.invariant.2 (omega arith) (omega arith) w.if-a-i.false w.alike-is)
+      | then-a-i w ↦ (omega arith, l.invariant.1, bytes-differ _ _ l.invariant.2 (omega arith) (omega arith) w.if-a-i.true w.alike-is)
+      | else-a-i w ↦ (omega arith, l.invariant.1, bytes-alike _ _ l.invariant.2 (omega arith) (omega arith) w.if-a-i.false w.alike-is)
     ]
 
 pub returns : goal.returns

@@ -1,5 +1,4 @@
 use Rattle.std.proofs.Common.{◌≡◌, arith, eqb-true}
-use borrow.Author.Tests.{not-false}
 use Rattle.words.specs.Blocks.{not_there, hexes-none, hexes-on, hexes-other}
 use Rattle.words.proofs.read.digits_there.Goals as goal
 use Rattle.words.proofs.read.digits_there.Goals.{then-not-is_hex, else-not-is_hex}
@@ -21,9 +20,9 @@ bounds-t-at c = omega (arith, c.loop-i.invariant.within)
 
 pub loop-i-preserved : goal.loop-i-preserved
 loop-i-preserved c = elim c.if-not-is_hex.branch [
-    | then-not-is_hex w ↦ rw w.others-is (hexes-other c.loop-i.invariant c.loop-i-test.true)
-    | else-not-is_hex w ↦ rw w.others-is (hexes-on c.loop-i.invariant c.loop-i-test.true (c.is_hex.ensures w.if-not-is_hex.false))
-    ]
+  | then-not-is_hex w ↦ rw w.others-is (hexes-other c.loop-i.invariant c.loop-i-test.true)
+  | else-not-is_hex w ↦ rw w.others-is (hexes-on c.loop-i.invariant c.loop-i-test.true (c.is_hex.ensures w.if-not-is_hex.false))
+]
 
 pub returns : goal.returns
 returns c t = let all : c.loop-i.i ≡ c.args.n = omega (arith, c.loop-i.invariant.high) in rw all at (c.loop-i.invariant.so (eqb-true _ 0 t))

@@ -22,10 +22,10 @@ loop-bytes-smaller c = omega (arith, (c.unhex_block.ensures c.loop-bytes-test.tr
 
 pub loop-bytes-preserved : goal.loop-bytes-preserved
 loop-bytes-preserved c = (
-    unhexing-over c.loop-bytes.invariant.0 _ (pairs-over 32 _ _ (c.unhex_block.ensures c.loop-bytes-test.true).there)
-    (laid_as c.put_bytes-q.ensures (c.unhex_block.ensures c.loop-bytes-test.true).bytes),
-    rw (c.unhex_block.ensures c.loop-bytes-test.true).bytes (unhexed-long 32 _ _),
-    )
+  unhexing-over c.loop-bytes.invariant.0 _ (pairs-over 32 _ _ (c.unhex_block.ensures c.loop-bytes-test.true).there)
+      (laid_as c.put_bytes-q.ensures (c.unhex_block.ensures c.loop-bytes-test.true).bytes),
+  rw (c.unhex_block.ensures c.loop-bytes-test.true).bytes (unhexed-long 32 _ _),
+)
 
 pub shape_of-out : goal.shape_of-out
 shape_of-out c = omega (arith, c.loop-bytes.invariant.0.long, c.hex_pairs.auto)
