@@ -7,7 +7,7 @@ pub mod write;
 ghost use Rattle.std.specs.Prelude.{◌≡◌, ◌+◌, ◌^◌, ◌%◌, ◌≤◌, ◌<◌, length, take, drop};
 ghost use Rattle.paper.specs.Numbers.{fixed, v64};
 ghost use Rattle.paper.specs.File.{small};
-ghost use Rattle.numbers.specs.Cursors.{Read, Past, refusal_of, no_step, step_of};
+ghost use Rattle.numbers.specs.Cursors.{Read, Past};
 ghost use Rattle.numbers.specs.Begun.{Begun, Ended};
 ghost use Rattle.numbers.specs.Turned.{low_bytes, Turned, TakenAt, TakenV64};
 ghost use Rattle.numbers.specs.Words.{marks, septets, Ran};
@@ -32,19 +32,11 @@ impl Refusal {
     pub const SHORT: u64 = 1;
 }
 
-// A number that was read, with the cursor behind it, or the refusal.
-#[derive(Clone, Copy)]
-pub enum Number {
-    Got(u64, Cursor),
-    No(Refusal),
-}
+// What was read, with the cursor behind it, or the refusal.
+pub type Outcome<T> = Result<(T, Cursor), Refusal>;
 
-// The cursor behind what was read, or the refusal.
-#[derive(Clone, Copy)]
-pub enum Step {
-    Got(Cursor),
-    No(Refusal),
-}
+// The cursor behind what was passed over, or the refusal.
+pub type Step = Result<Cursor, Refusal>;
 
 // A number that is known to be there, with the cursor behind it.
 #[derive(Clone, Copy)]
@@ -60,35 +52,10 @@ pub struct Run {
     pub next: Cursor,
 }
 
-// The refusals of answers that are one. An answer that is none has number 0, which no rule has.
-pub fn refused(n: Number) -> Refusal
-    ensures { result ≡ refusal_of n }
+fn refuse(number: u64, place: usize) -> Outcome<u64>
+    ensures { result ≡ Err (record { number = number; place = place }) }
 {
-    match n {
-        Number::Got(_, c) => Refusal {
-            number: 0,
-            place: c.at,
-        },
-        Number::No(r) => r,
-    }
-}
-
-pub fn refused_step(s: Step) -> Refusal
-    ensures { result ≡ no_step s }
-{
-    match s {
-        Step::Got(c) => Refusal {
-            number: 0,
-            place: c.at,
-        },
-        Step::No(r) => r,
-    }
-}
-
-fn refuse(number: u64, place: usize) -> Number
-    ensures { result ≡ Number.No (record { number = number; place = place }) }
-{
-    Number::No(Refusal { number, place })
+    Err(Refusal { number, place })
 }
 
 // A byte as a number. Its bound, said once, spares each reader a fact.
@@ -99,7 +66,7 @@ fn wide(b: u8) -> u64
 }
 
 // `width` bytes, highest first.
-fn fixed_at(s: &[u8], at: usize, width: usize) -> Number
+fn fixed_at(s: &[u8], at: usize, width: usize) -> Outcome<u64>
     requires { width ≤ 8 }
     ensures { Read (fixed width) (256 ^ width) s.now at result }
 {
@@ -116,7 +83,7 @@ fn fixed_at(s: &[u8], at: usize, width: usize) -> Number
         x = x * 256 + b;
         i += 1;
     }
-    Number::Got(x, Cursor { at: at + width })
+    Ok((x, Cursor { at: at + width }))
 }
 
 // `width` bytes that are there, lowest first. Only so does the compiler make one load of them.
@@ -179,7 +146,7 @@ fn ends(x: u64) -> u64
 
 // The v64 that begins at `at` with a byte that another follows, and whose low seven bits are `low`: its other bytes. Each
 // but the ninth has seven bits; a coding may be longer than its number needs.
-fn v64_on(s: &[u8], at: usize, low: u64) -> Number
+fn v64_on(s: &[u8], at: usize, low: u64) -> Outcome<u64>
     requires { Begun s.now at low }
     ensures { Read v64 (2 ^ 64) s.now at result }
 {
@@ -196,7 +163,7 @@ fn v64_on(s: &[u8], at: usize, low: u64) -> Number
         if b < 128 {
             let high = weight * b;
             let sum = x + high;
-            return Number::Got(sum, Cursor { at: p });
+            return Ok((sum, Cursor { at: p }));
         }
         let part = weight * (b - 128);
         x += part;
@@ -210,17 +177,7 @@ fn v64_on(s: &[u8], at: usize, low: u64) -> Number
     let next = p + 1;
     let top = weight * b;
     let sum = x + top;
-    Number::Got(sum, Cursor { at: next })
-}
-
-// A number passed over.
-fn passed(n: Number) -> Step
-    ensures { result ≡ step_of n }
-{
-    match n {
-        Number::Got(_, next) => Step::Got(next),
-        Number::No(r) => Step::No(r),
-    }
+    Ok((sum, Cursor { at: next }))
 }
 
 // The lowest seven bits of each of the eight bytes of x, side by side: joined in twos, then in fours, then all eight. The twos are a
@@ -272,7 +229,7 @@ fn long_v64(s: &[u8], at: usize) -> Taken
 impl Cursor {
     // One byte to three are the cases to be fast in: no string or object of a file has a larger number. The way on from there is a
     // call, which hands its answer over in memory.
-    pub fn v64(self, s: &[u8]) -> Number
+    pub fn v64(self, s: &[u8]) -> Outcome<u64>
         ensures { Read v64 (2 ^ 64) s.now self.at result }
     {
         let at = self.at;
@@ -281,18 +238,18 @@ impl Cursor {
         }
         let b = wide(s[at]);
         if b < 128 {
-            return Number::Got(b, Cursor { at: at + 1 });
+            return Ok((b, Cursor { at: at + 1 }));
         }
         let low = b - 128;
         if 2 < s.len() - at {
             let second = wide(s[at + 1]);
             if second < 128 {
-                return Number::Got(low + 128 * second, Cursor { at: at + 2 });
+                return Ok((low + 128 * second, Cursor { at: at + 2 }));
             }
             let third = wide(s[at + 2]);
             if third < 128 {
                 let high = second - 128 + 128 * third;
-                return Number::Got(low + 128 * high, Cursor { at: at + 3 });
+                return Ok((low + 128 * high, Cursor { at: at + 3 }));
             }
         }
         v64_on(s, at, low)
@@ -319,19 +276,20 @@ impl Cursor {
     {
         let at = self.at;
         if s.len() <= at {
-            return Step::No(Refusal {
+            return Err(Refusal {
                 number: Refusal::SHORT,
                 place: at,
             });
         }
         let b = wide(s[at]);
         if b < 128 {
-            return Step::Got(Cursor { at: at + 1 });
+            return Ok(Cursor { at: at + 1 });
         }
         if s.len() - at < 9 {
-            return passed(v64_on(s, at, b - 128));
+            let (_, next) = v64_on(s, at, b - 128)?;
+            return Ok(next);
         }
-        Step::Got(self.pass_v64(s))
+        Ok(self.pass_v64(s))
     }
 
     // Past all v64s that end in the next eight bytes, where a ninth is there, or past the one that has all nine. What is counted is where they
@@ -355,38 +313,35 @@ impl Cursor {
     }
 
     // A count, local start or length, which is held to the bound of objects.
-    pub fn small(self, s: &[u8]) -> Number
+    pub fn small(self, s: &[u8]) -> Outcome<u64>
         ensures { Read small 65536 s.now self.at result }
     {
-        let a = self.v64(s);
-        let Number::Got(n, next) = a else {
-            return a;
-        };
+        let (n, next) = self.v64(s)?;
         if !Ledger::is_small(n) {
             return refuse(3, self.at);
         }
-        Number::Got(n, next)
+        Ok((n, next))
     }
 
-    pub fn be1(self, s: &[u8]) -> Number
+    pub fn be1(self, s: &[u8]) -> Outcome<u64>
         ensures { Read (fixed 1) (256 ^ 1) s.now self.at result }
     {
         fixed_at(s, self.at, 1)
     }
 
-    pub fn be2(self, s: &[u8]) -> Number
+    pub fn be2(self, s: &[u8]) -> Outcome<u64>
         ensures { Read (fixed 2) (256 ^ 2) s.now self.at result }
     {
         fixed_at(s, self.at, 2)
     }
 
-    pub fn be4(self, s: &[u8]) -> Number
+    pub fn be4(self, s: &[u8]) -> Outcome<u64>
         ensures { Read (fixed 4) (256 ^ 4) s.now self.at result }
     {
         fixed_at(s, self.at, 4)
     }
 
-    pub fn be8(self, s: &[u8]) -> Number
+    pub fn be8(self, s: &[u8]) -> Outcome<u64>
         ensures { Read (fixed 8) (256 ^ 8) s.now self.at result }
     {
         fixed_at(s, self.at, 8)
@@ -472,7 +427,7 @@ impl Cursor {
     }
 
     // A number of any such width. Eight bytes are asked for by themselves: then their number is known, and they are read at once.
-    pub fn fixed(self, s: &[u8], width: usize) -> Number
+    pub fn fixed(self, s: &[u8], width: usize) -> Outcome<u64>
         requires { width ≤ 8 }
         ensures { Read (fixed width) (256 ^ width) s.now self.at result }
     {
