@@ -1,18 +1,17 @@
 -- What the answers and the questions of lookups say. Assumes nothing.
-use Rattle.std.specs.Prelude.{◌≡◌, ℕ, ◌-◌, ◌<◌, ◌≤◌, Bool, List, [], length, slice_index, slice_index_or}
+use Rattle.std.specs.Prelude as prelude
+use Rattle.std.specs.Prelude.{Some, None, ◌≡◌, ℕ, ◌-◌, ◌<◌, ◌≤◌, Bool, List, [], length, slice_index, slice_index_or}
 use Rattle.std.proofs.Math.Option.{Option, none, some}
 use Rattle.paper.specs.Ledger.{Typ, Range, of?, before?, base?, holds?}
 use Rattle.paper.specs.Rules.{entry_of?, around?}
 use Rattle.paper.specs.Lists.{same, place}
 use Rattle.table.specs.View.{strs_of, names_of, said, Passed, Holds, Now}
-use Rattle.table.specs.declared.names.Found.{Found}
-use Rattle.table.specs.declared.names.Found.TheVariants.{At, Nothing}
 use Rattle.table.specs.declared.ranges.Ask.{Ask}
 use Rattle.table.specs.declared.ranges.Ask.TheVariants.{Of, Entry, Before, Around, Holding, Base}
 
-abbrev pub found : Found → Option ℕ
-found (At i) = some i
-found Nothing = none
+abbrev pub found : prelude.Option ℕ → Option ℕ
+found (Some i) = some i
+found None = none
 
 -- a name of length n that the first k types have not is not one of the first i either
 pub record Shorter (l : List ℕ) (n k i : ℕ) : Type 0 where

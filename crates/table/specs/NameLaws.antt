@@ -15,8 +15,8 @@ use Rattle.table.specs.Asks.{found, Shorter, Recalled}
 use Rattle.table.specs.Loops.{place-on, place_in}
 use Rattle.table.specs.Memos.{passed-all, memo-no, memo-yes}
 use Rattle.table.specs.Notes.{NoteTaken}
-use Rattle.table.specs.declared.names.Found.{Found}
-use Rattle.table.specs.declared.names.Found.TheVariants.{At, Nothing}
+use Rattle.std.specs.Prelude as prelude
+use Rattle.std.specs.Prelude.{Some, None}
 
 -- lists of different lengths are not the same
 pub lengths_differ : (xs ys : List ℕ) → (length xs ≢ length ys) → same xs ys ≡ false
@@ -163,11 +163,11 @@ module _ {f l : List ℕ} (h : Holds f l) where
     recalled-none lt is = record { now = record { holds = h; says = refl }; none_has = λ l. sym (known-none lt is); one_has = λ le. absurd (omega arith) }
 
   -- it was looked for, and a note is taken
-  module _ {i a b : ℕ} (S : Stands strs_of l i a b) (o : Found) (says : found o ≡ place (same (slice a b f)) 0 (names_of f l)) where
+  module _ {i a b : ℕ} (S : Stands strs_of l i a b) (o : prelude.Option ℕ) (says : found o ≡ place (same (slice a b f)) 0 (names_of f l)) where
     pub string-named : found o ≡ place (same (slice_index_or (strs_of f l) i [])) 0 (names_of f l)
     string-named = says ∙ ap (λ (x : List ℕ). place (same x) 0 (names_of f l)) (sym (S.is f))
 
-    module _ {t : ℕ} (is : o ≡ At t) where
+    module _ {t : ℕ} (is : o ≡ Some t) where
       there : place (same (slice_index_or (strs_of f l) i [])) 0 (names_of f l) ≡ some t
       there = sym string-named ∙ ap found is
 
@@ -179,7 +179,7 @@ module _ {f l : List ℕ} (h : Holds f l) where
           let memo = memo-yes (names_of f l) (slice_index_or (strs_of f l) i []) there in
           record { now = N.says f h memo; none_has = λ lt. absurd (omega arith); one_has = memo.named }
 
-    module _ (is : o ≡ Nothing) where
+    module _ (is : o ≡ None) where
       nowhere : place (same (slice_index_or (strs_of f l) i [])) 0 (names_of f l) ≡ none
       nowhere = sym string-named ∙ ap found is
 

@@ -1,4 +1,4 @@
-// Types and fields by their names. A name is lent, or is itself a part of the source.
+// Types and fields by their names: the place among the types or the fields, if there is one. A name is lent, or is itself a part of the source.
 ghost use Rattle.std.specs.Prelude.{◌≡◌, ◌+◌, ◌-◌, ◌*◌, ◌%◌, ◌<◌, ◌≤◌, true, false, [], length, slice_index, slice_index_or};
 ghost use Rattle.std.proofs.Math.Seq.{slice};
 ghost use Rattle.paper.specs.Lists.{same, place, place_named, places};
@@ -11,13 +11,6 @@ use super::pushes::note;
 use super::ranges::{tally_at, told};
 use super::rows::{FieldRow, Span, Stretch, field_at, fields, memo_at, string_at, type_at, types};
 use std::num::wrapping_add_u16;
-
-// A place among the types or the fields.
-#[derive(Clone, Copy)]
-pub enum Found {
-    At(u32),
-    Nothing,
-}
 
 fn length_of(start: u32, end: u32) -> usize
     ensures { result ≡ end - start }
@@ -81,7 +74,7 @@ fn has_name(src: &[u8], start: u32, end: u32, there: u32, name: &[u8], sum: u32)
 }
 
 // The type with a lent name, where the first k types have others.
-fn find_from(src: &[u8], work: &[u32], name: &[u8], k: u32) -> Found
+fn find_from(src: &[u8], work: &[u32], name: &[u8], k: u32) -> Option<u32>
     requires holds { Holds src.now work.now }
     requires passed { Passed (names_of src.now work.now) name.now k }
     ensures { found result ≡ place (same name.now) 0 (names_of src.now work.now) }
@@ -92,15 +85,15 @@ fn find_from(src: &[u8], work: &[u32], name: &[u8], k: u32) -> Found
     while i < n {
         let row = type_at(work, i);
         if has_name(src, row.start, row.end, row.sum, name, sum) {
-            return Found::At(i);
+            return Some(i);
         }
         i += 1;
     }
-    Found::Nothing
+    None
 }
 
 // The type with a lent name.
-pub fn find_type_called(src: &[u8], work: &[u32], name: &[u8]) -> Found
+pub fn find_type_called(src: &[u8], work: &[u32], name: &[u8]) -> Option<u32>
     requires { Holds src.now work.now }
     ensures { found result ≡ place (same name.now) 0 (names_of src.now work.now) }
 {
@@ -127,7 +120,7 @@ fn first_long(work: &[u32], k: u32, n: usize) -> u32
 
 // The type whose name has the bytes of a part of the source, where the first k types have others. They are read only where
 // a type's name is as long.
-fn find_part(src: &[u8], work: &[u32], name: Span, k: u32) -> Found
+fn find_part(src: &[u8], work: &[u32], name: Span, k: u32) -> Option<u32>
     requires holds { Holds src.now work.now }
     requires end_in_bounds { (name.end ≤ length src.now) × Passed (names_of src.now work.now) (slice name.start name.end src.now) k }
     ensures { found result ≡ place (same (slice name.start name.end src.now)) 0 (names_of src.now work.now) }
@@ -135,7 +128,7 @@ fn find_part(src: &[u8], work: &[u32], name: Span, k: u32) -> Found
     let long = length_of(name.start, name.end);
     let i = first_long(work, k, long);
     if types(work) <= i {
-        return Found::Nothing;
+        return None;
     }
     let to = name.end as usize;
     let from = to - long;
@@ -143,14 +136,14 @@ fn find_part(src: &[u8], work: &[u32], name: Span, k: u32) -> Found
 }
 
 // The type that string i names, counted from 0. What is noted of it is not looked for again.
-pub fn find_type(src: &[u8], work: &[u32], i: u32) -> Found
+pub fn find_type(src: &[u8], work: &[u32], i: u32) -> Option<u32>
     requires holds { Holds src.now work.now }
     requires i_bound { i < slice_index work.now 0 }
     ensures { found result ≡ place (same (slice_index_or (strs_of src.now work.now) i [])) 0 (names_of src.now work.now) }
 {
     let memo = memo_at(work, i);
     if 33 <= memo {
-        return Found::At(memo - 33);
+        return Some(memo - 33);
     }
     let name = string_at(work, i);
     find_part(src, work, name, memo)
@@ -171,7 +164,7 @@ pub fn recall_type(src: &[u8], work: &mut [u32], i: u32) -> u32
         return memo;
     }
     let name = string_at(work, i);
-    let Found::At(t) = find_part(src, work, name, memo) else {
+    let Some(t) = find_part(src, work, name, memo) else {
         note(work, i, n);
         return n;
     };
@@ -189,7 +182,7 @@ fn is_called(src: &[u8], row: FieldRow, t: u32, name: &[u8], sum: u32) -> bool
 }
 
 // The field of type t with a lent name.
-pub fn find_field_called(src: &[u8], work: &[u32], t: u32, name: &[u8]) -> Found
+pub fn find_field_called(src: &[u8], work: &[u32], t: u32, name: &[u8]) -> Option<u32>
     requires { Holds src.now work.now }
     ensures { found result ≡ place_named (called? t name.now) 0 (flds_of work.now) (titles_of src.now work.now) }
 {
@@ -199,15 +192,15 @@ pub fn find_field_called(src: &[u8], work: &[u32], t: u32, name: &[u8]) -> Found
     while i < n {
         let row = field_at(work, i);
         if is_called(src, row, t, name, sum) {
-            return Found::At(i);
+            return Some(i);
         }
         i += 1;
     }
-    Found::Nothing
+    None
 }
 
 // The field of type t whose name has the bytes of a part of the source.
-pub fn find_field(src: &[u8], work: &[u32], t: u32, name: Span) -> Found
+pub fn find_field(src: &[u8], work: &[u32], t: u32, name: Span) -> Option<u32>
     requires holds { Holds src.now work.now }
     requires end_in_bounds { name.end ≤ length src.now }
     ensures { found result ≡ place_named (called? t (slice name.start name.end src.now)) 0 (flds_of work.now) (titles_of src.now work.now) }

@@ -146,25 +146,19 @@ pub fn tally_at(work: &[u32], t: u32, k: u32) -> u32
     work[at]
 }
 
-// What is known of the objects of a type: that they are those from 1 up to a number, or that they may lie in several ranges.
-#[derive(Clone, Copy)]
-pub enum Pool {
-    Whole(u32),
-    Parts,
-}
-
-// The objects of a base type are those from 1 on. No range is looked at.
-pub fn pool_of(work: &[u32], t: u32) -> Pool
+// How many objects a base type has, if that is known: they are those from 1 on. No range is looked at; of other types, and where the
+// tallies do not tell, they may lie in several ranges.
+pub fn pool_of(work: &[u32], t: u32) -> Option<u32>
     requires { Ok work.now }
-    ensures { (n : ℕ) → result ≡ Pool.Whole n → (m : ℕ) → any (holds? t m) (log_of work.now) ≡ (nat_le 1 m && nat_le m n) }
+    ensures { (n : ℕ) → result ≡ Some n → (m : ℕ) → any (holds? t m) (log_of work.now) ≡ (nat_le 1 m && nat_le m n) }
 {
     if !told(work, t) {
-        return Pool::Parts;
+        return None;
     }
     if super_of(work, t) != 0 {
-        return Pool::Parts;
+        return None;
     }
-    Pool::Whole(tally_at(work, t, 1))
+    Some(tally_at(work, t, 1))
 }
 
 // It is known that no block from b on has a range of type t.
