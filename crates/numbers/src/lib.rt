@@ -7,6 +7,7 @@ pub mod write;
 ghost use Rattle.std.specs.Prelude.{◌≡◌, ◌+◌, ◌^◌, ◌%◌, ◌≤◌, ◌<◌, length, take, drop};
 ghost use Rattle.paper.specs.Numbers.{fixed, v64};
 ghost use Rattle.paper.specs.File.{small};
+ghost use Rattle.numbers.specs.Faults.{number_of};
 ghost use Rattle.numbers.specs.Cursors.{Read, Past};
 ghost use Rattle.numbers.specs.Begun.{Begun, Ended};
 ghost use Rattle.numbers.specs.Turned.{low_bytes, Turned, TakenAt, TakenV64};
@@ -20,16 +21,56 @@ pub struct Cursor {
     pub at: usize,
 }
 
-// A refusal: its number, and the place where what broke the rule began.
+// What is wrong with a file, by the names that the refusals have. `Padded` is given nowhere any more, and `Loop` never was.
 #[derive(Clone, Copy)]
-pub struct Refusal {
-    pub number: u64,
-    pub place: usize,
+pub enum Fault {
+    Short,
+    Padded,
+    Limit,
+    Ends,
+    Name,
+    Twice,
+    Super,
+    Loop,
+    Restriction,
+    Kind,
+    Fields,
+    Chunk,
+    Value,
+    Reference,
+    Range,
 }
 
-impl Refusal {
-    // The bytes end within a number.
-    pub const SHORT: u64 = 1;
+// The number of a refusal.
+impl From<Fault> for u64 {
+    ghost from_gives = { λ f n. n ≡ number_of f };
+
+    fn from(f: Fault) -> u64 {
+        match f {
+            Fault::Short => 1,
+            Fault::Padded => 2,
+            Fault::Limit => 3,
+            Fault::Ends => 4,
+            Fault::Name => 5,
+            Fault::Twice => 6,
+            Fault::Super => 7,
+            Fault::Loop => 8,
+            Fault::Restriction => 9,
+            Fault::Kind => 10,
+            Fault::Fields => 11,
+            Fault::Chunk => 12,
+            Fault::Value => 13,
+            Fault::Reference => 14,
+            Fault::Range => 21,
+        }
+    }
+}
+
+// A refusal: what is wrong, and the place where what broke the rule began.
+#[derive(Clone, Copy)]
+pub struct Refusal {
+    pub fault: Fault,
+    pub place: usize,
 }
 
 // What was read, with the cursor behind it, or the refusal.
@@ -52,10 +93,10 @@ pub struct Run {
     pub next: Cursor,
 }
 
-fn refuse(number: u64, place: usize) -> Outcome<u64>
-    ensures { result ≡ Err (record { number = number; place = place }) }
+fn refuse(fault: Fault, place: usize) -> Outcome<u64>
+    ensures { result ≡ Err (record { fault = fault; place = place }) }
 {
-    Err(Refusal { number, place })
+    Err(Refusal { fault, place })
 }
 
 // A byte as a number. Its bound, said once, spares each reader a fact.
@@ -71,10 +112,10 @@ fn fixed_at(s: &[u8], at: usize, width: usize) -> Outcome<u64>
     ensures { Read (fixed width) (256 ^ width) s.now at result }
 {
     if s.len() < at {
-        return refuse(Refusal::SHORT, at);
+        return refuse(Fault::Short, at);
     }
     if s.len() - at < width {
-        return refuse(Refusal::SHORT, at);
+        return refuse(Fault::Short, at);
     }
     let mut x: u64 = 0;
     let mut i: usize = 0;
@@ -156,7 +197,7 @@ fn v64_on(s: &[u8], at: usize, low: u64) -> Outcome<u64>
     let mut left: u64 = 7;
     while 0 < left {
         if s.len() <= p {
-            return refuse(Refusal::SHORT, at);
+            return refuse(Fault::Short, at);
         }
         let b = wide(s[p]);
         p += 1;
@@ -171,7 +212,7 @@ fn v64_on(s: &[u8], at: usize, low: u64) -> Outcome<u64>
         left -= 1;
     }
     if s.len() <= p {
-        return refuse(Refusal::SHORT, at);
+        return refuse(Fault::Short, at);
     }
     let b = wide(s[p]);
     let next = p + 1;
@@ -234,7 +275,7 @@ impl Cursor {
     {
         let at = self.at;
         if s.len() <= at {
-            return refuse(Refusal::SHORT, at);
+            return refuse(Fault::Short, at);
         }
         let b = wide(s[at]);
         if b < 128 {
@@ -277,7 +318,7 @@ impl Cursor {
         let at = self.at;
         if s.len() <= at {
             return Err(Refusal {
-                number: Refusal::SHORT,
+                fault: Fault::Short,
                 place: at,
             });
         }
@@ -318,7 +359,7 @@ impl Cursor {
     {
         let (n, next) = self.v64(s)?;
         if !Ledger::is_small(n) {
-            return refuse(3, self.at);
+            return refuse(Fault::Limit, self.at);
         }
         Ok((n, next))
     }
