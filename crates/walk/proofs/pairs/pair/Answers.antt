@@ -3,8 +3,8 @@ use Rattle.walk.specs.PairLaws.{pair-begins, pair-no-front}
 use Rattle.walk.specs.PairWays.{next-asks, start-inside, region-short, late-asks, kind-late, region-asks, region-refused, pair_ends}
 use Rattle.walk.proofs.pairs.pair.Goals as goal
 
-pub front-a-requires : goal.front-a-requires
-front-a-requires c = pair-begins c.requires
+pub front-requires : goal.front-requires
+front-requires c = pair-begins c.requires
 
 pub returns-in_err-size : goal.returns-in_err-size
 returns-in_err-size c = rw (handed c.from_residual.ensures.1) (pair-no-front c.requires c.front.ensures c.in_err-size.was)
