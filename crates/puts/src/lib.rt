@@ -37,7 +37,14 @@ fn put_restrictions(out: &mut [u8], at: usize, sup: Option<u64>) -> usize
 }
 
 // The head of an entry.
-pub fn put_head(out: &mut [u8], at: usize, name: u64, sup: Option<u64>, start: Option<u64>, count: u64) -> usize
+pub fn put_head(
+    out: &mut [u8],
+    at: usize,
+    name: u64,
+    sup: Option<u64>,
+    start: Option<u64>,
+    count: u64,
+) -> usize
     ensures { Laid out.old at (put_head (record { name = name; super = option sup; start = option start; count = count })) out.new result }
 {
     let second = put_v64(out, at, name);
