@@ -58,7 +58,7 @@ fn bools_in_turn(part: &[u8], c: Cursor, m: u64) -> Number
     let mut here = c;
     let mut rest = m;
     while 0 < rest {
-        let a = here.be1(part);
+        let a = here.be::<1>(part);
         let Number::Got(b, next) = a else {
             return a;
         };
