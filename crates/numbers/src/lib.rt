@@ -127,7 +127,7 @@ fn fixed_at(s: &[u8], at: usize, width: usize) -> Outcome<u64>
     Ok((x, Cursor { at: at + width }))
 }
 
-// `width` bytes that are there, lowest first. Only so does the compiler make one load of them.
+// `WIDTH` bytes that are there, lowest first. Only so does the compiler make one load of them.
 fn low_first<const WIDTH: usize>(s: &[u8], at: usize) -> u64
     requires { (WIDTH ≤ 8) × (at + WIDTH ≤ length s.now) }
     ensures { result ≡ low_bytes (take WIDTH (drop at s.now)) }

@@ -54,7 +54,7 @@ fn half_of<const WIDTH: usize>() -> u64
     128 << (8 * (WIDTH - 1))
 }
 
-// The number that x stands for in `WIDTH` bytes.
+// The number that x stands for in `WIDTH` bytes. At the widest the bound holds of every x.
 pub fn signed<const WIDTH: usize>(x: u64) -> i64
     requires { (0 < WIDTH) × (WIDTH ≤ 8) × (x < 256 ^ WIDTH) }
     ensures { result ≡ signed WIDTH x }
@@ -66,7 +66,7 @@ pub fn signed<const WIDTH: usize>(x: u64) -> i64
     from_low_bits(x, half)
 }
 
-// The bits that stand for z in `WIDTH` bytes.
+// The bits that stand for z in `WIDTH` bytes. At the widest every z has its place.
 pub fn unsigned<const WIDTH: usize>(z: i64) -> u64
     requires { (0 < WIDTH) × (WIDTH ≤ 8) × (signed? WIDTH z ≡ true) }
     ensures { Bits WIDTH z result }
