@@ -9,8 +9,8 @@ returns-in_err-n c = rw (handed c.from_residual.ensures.1) (types-no c.v64.ensur
 pub returns-in-2-to-8 : goal.returns-in-2-to-8
 returns-in-2-to-8 c = types-got c.v64.ensures c.in_ok-n.was (omega arith) (omega arith)
 
-pub returns-in_default-n : goal.returns-in_default-n
-returns-in_default-n c = types-bad c.v64.ensures c.in_ok-n.was (λ lo hi. omega arith)
+pub returns-in_default : goal.returns-in_default
+returns-in_default c = types-bad c.v64.ensures c.in_ok-n.was (λ lo hi. omega arith)
 
-pub returns-in_default-n-2 : goal.returns-in_default-n-2
-returns-in_default-n-2 c = types-bad c.v64.ensures c.in_ok-n.was (λ lo hi. omega arith)
+pub returns-in_default-2 : goal.returns-in_default-2
+returns-in_default-2 c = types-bad c.v64.ensures c.in_ok-n.was (λ lo hi. omega arith)
