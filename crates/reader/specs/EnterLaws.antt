@@ -27,7 +27,7 @@ use Rattle.reader.specs.declared.heads.Name.{Name}
 use Rattle.reader.specs.declared.heads.Top.{Top}
 use Rattle.reader.specs.Sound.{Sound, Headed, Open, log-room, entered-new, opened}
 use Rattle.reader.specs.Going.{Going, go_head}
-use Rattle.reader.specs.Heads.{Placed, head_of, TopRead, add_head, range_for, Declares, add_new, TypeEntered, Entered, LeftTop, TopEntered}
+use Rattle.reader.specs.Heads.{Placed, head_of, TopRead, add_head, range_for, Declares, add_new, TypeEntered, Entered, TopEntered}
 use Rattle.reader.specs.HeadLaws.{differ, named-below}
 use Rattle.reader.specs.TopLaws.{or-due}
 use Rattle.numbers.specs.Cursors.{Outcome}

@@ -9,7 +9,6 @@ use Rattle.paper.specs.Ledger.{State, Head, Typ, Range, before?, size, type_name
 use Rattle.paper.specs.Rules.{entry_of?, entered?, new?, type_of, place_rules, type_name_rules, super_named, chain_ends?, super_name_rules, super_of, count_rules, after_head}
 use Rattle.paper.specs.File.{head}
 use Rattle.numbers.specs.Cursors.{out_of, place_of, value_of, Outcome}
-use Rattle.numbers.specs.declared.Refusal.{Refusal}
 use Rattle.table.specs.View.{view, said, maybe, log_of, Holds, Said, Now, strings_in, types_in, ranges_in, block_in}
 use Rattle.table.specs.Adds.{add_type}
 use Rattle.table.specs.Asks.{found}

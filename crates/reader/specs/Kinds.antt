@@ -7,7 +7,6 @@ use Rattle.paper.specs.Rules.{any_type, element_kind_rules, types_rules, noted}
 use Rattle.paper.specs.File.{small, whole_of, kind}
 use Rattle.laws.specs.Packed.{packed}
 use Rattle.table.specs.View.{kind_from}
-use Rattle.numbers.specs.declared.Refusal.{Refusal}
 use Rattle.reader.specs.declared.kinds.Named.{Named}
 use Rattle.reader.specs.declared.kinds.Kind.{Kind as KindRow}
 use Rattle.numbers.specs.Cursors.{Outcome}
