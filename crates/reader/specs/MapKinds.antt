@@ -2,7 +2,7 @@
 use Rattle.std.specs.Prelude.{Ok, Err, ◌≡◌, refl, Bool, List, [], ◌∷◌, ◌++◌, ℕ, ◌+◌, ◌-◌, ◌*◌, ◌^◌, ◌≤◌, ◌<◌, min}
 use Rattle.std.proofs.Math.Path.{sym, ap}
 use Rattle.std.proofs.Common.{◌∙◌, append_assoc, append-nil, arith, length-append}
-use Rattle.std.proofs.Math.Nat.{pow-le-pow_right, min-le_left}
+use Rattle.std.proofs.Math.Nat.{pow-le-pow_right, min-le_left, min_comm}
 use Rattle.std.proofs.Math.ListN.{length}
 use Rattle.paper.specs.Reader.{Out, got, no, and_then, turned, repeat}
 use Rattle.paper.specs.Numbers.{number}
@@ -52,8 +52,8 @@ module _ {named : ℕ → Bool} {f : List ℕ} {at₀ all rest p at : ℕ} (g : 
   pub kinds-room : 0 < rest → p * 256 + 255 < 2 ^ 64
   kinds-room pos = omega (arith, g.is, packed-room g.done (omega (arith, g.few)))
 
-  pub kinds-fit : 0 < rest → (k : ℕ) {b : ℕ} → b ≡ min 255 k → p * 256 + b < 2 ^ 64
-  kinds-fit pos k byte = omega (arith, kinds-room pos, byte, min-le_left 255 k)
+  pub kinds-fit : 0 < rest → (k : ℕ) {b : ℕ} → b ≡ min k 255 → p * 256 + b < 2 ^ 64
+  kinds-fit pos k byte = omega (arith, kinds-room pos, byte, min_comm k 255, min-le_left 255 k)
 
   pub kinds-done : rest ≤ 0 → Read (packed_of named all) (2 ^ 64) f at₀ (Ok (p, record { at = at }))
   unfolding repeat
@@ -80,13 +80,13 @@ module _ {named : ℕ → Bool} {f : List ℕ} {at₀ all rest p at : ℕ} (g : 
         let R = was-refused one is in
         record { says = sym (turn ∙ rw R.says); inside = λ lo. R.inside (g.inside lo); below = omega arith }
 
-    pub kinds-next : {k : ℕ} {c : Cursor} → a ≡ Ok (k, c) → {b : ℕ} → b ≡ min 255 k → {left : ℕ} → left ≡ rest - 1 → KindsGoing named f at₀ all left (p * 256 + b) c.at
+    pub kinds-next : {k : ℕ} {c : Cursor} → a ≡ Ok (k, c) → {b : ℕ} → b ≡ min k 255 → {left : ℕ} → left ≡ rest - 1 → KindsGoing named f at₀ all left (p * 256 + b) c.at
     kinds-next {k} is byte fewer =
         let R = was-got one is in
         rw fewer
         (record {
           done = g.done ++ k ∷ [];
-          is = rw (byte, g.is) (sym (packed_more g.done k));
+          is = rw (byte, min_comm k 255, g.is) (sym (packed_more g.done k));
           few = rw (length-append g.done (k ∷ [])) (omega (arith, g.few));
           inside = λ lo. R.inside (g.inside lo);
           says = turn ∙ rw R.says;

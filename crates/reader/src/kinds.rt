@@ -1,5 +1,5 @@
 // Kinds, told apart by range.
-ghost use Rattle.std.specs.Prelude.{◌≡◌, ◌^◌, ◌≤◌, min};
+ghost use Rattle.std.specs.Prelude.{◌≡◌, ◌^◌, ◌≤◌};
 ghost use Rattle.paper.specs.Numbers.{number};
 ghost use Rattle.paper.specs.Rules.{element_kind_rules, types_rules};
 ghost use Rattle.numbers.specs.Cursors.{Read};
@@ -140,17 +140,7 @@ fn type_count(file: &[u8], c: Cursor) -> Outcome<u64>
     }
 }
 
-// The byte that stands for an element kind of a map.
-fn byte_for(k: u64) -> u64
-    ensures { result ≡ min 255 k }
-{
-    if k < 255 {
-        return k;
-    }
-    255
-}
-
-// So many element kinds, in one number. Eight bytes are the most that it holds.
+// So many element kinds, a byte each, in one number. Eight bytes are the most that it holds.
 fn packed_kinds(file: &[u8], c: Cursor, named: Named, count: u64) -> Outcome<u64>
     requires { count ≤ 8 }
     ensures { Read (packed_of (named? named) count) (2 ^ 64) file.now c.at result }
@@ -159,7 +149,7 @@ fn packed_kinds(file: &[u8], c: Cursor, named: Named, count: u64) -> Outcome<u64
     let mut packed: u64 = 0;
     for _ in 0..count {
         let (k, after) = element_kind(file, next, named)?;
-        packed = packed * 256 + byte_for(k);
+        packed = packed * 256 + k.min(255);
         next = after;
     }
     Ok((packed, next))

@@ -13,10 +13,10 @@ pub overflow_mul-packed : goal.overflow_mul-packed
 overflow_mul-packed c = omega (arith, kinds-room c.loop.invariant (omega arith))
 
 pub overflow_add-packed : goal.overflow_add-packed
-overflow_add-packed c = omega (arith, kinds-fit c.loop.invariant (omega arith) _ c.byte_for.ensures)
+overflow_add-packed c = omega (arith, kinds-fit c.loop.invariant (omega arith) _ c.min.ensures)
 
 pub loop-preserved : goal.loop-preserved
-loop-preserved c = kinds-next c.loop.invariant (omega arith) c.element_kind.ensures c.in_ok-k.was c.byte_for.ensures (omega arith)
+loop-preserved c = kinds-next c.loop.invariant (omega arith) c.element_kind.ensures c.in_ok-k.was c.min.ensures (omega arith)
 
 pub returns : goal.returns
 returns c = kinds-done c.loop.invariant (omega arith)
