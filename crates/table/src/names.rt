@@ -50,8 +50,7 @@ pub fn name_sum(name: &[u8]) -> u32
     sum as u32
 }
 
-// The part of the source has the name's bytes: it is as long, and no byte differs. All are looked at, many at a time: where the
-// sums are equal the names mostly are.
+// The part of the source has the name's bytes: it is as long, and no byte differs. `==` looks at many at a time.
 fn is_name(src: &[u8], start: u32, end: u32, name: &[u8]) -> bool
     requires { end ≤ length src.now }
     ensures { result ≡ same name.now (slice start end src.now) }
