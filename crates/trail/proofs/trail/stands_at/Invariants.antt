@@ -3,6 +3,3 @@ use Rattle.trail.proofs.trail.stands_at.Given as goal
 
 abbrev pub invariant-loop-i : goal.invariant-loop-i
 invariant-loop-i l = (length l.froms ≡ 32) × (length l.tos ≡ 32)
-
-abbrev pub decreases-loop-i : goal.decreases-loop-i
-decreases-loop-i l = l.n - l.i
