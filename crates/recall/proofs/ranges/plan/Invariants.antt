@@ -5,6 +5,3 @@ use Rattle.recall.proofs.ranges.plan.Given as goal
 
 abbrev pub invariant-loop-t : goal.invariant-loop-t
 invariant-loop-t l = Planning l.kinds l.starts l.places l.t l.k
-
-abbrev pub decreases-loop-t : goal.decreases-loop-t
-decreases-loop-t l = 32 - l.t
