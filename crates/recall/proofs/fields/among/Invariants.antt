@@ -1,4 +1,4 @@
-use Rattle.std.proofs.Common.{◌≡◌, ◌-◌, length}
+use Rattle.std.proofs.Common.{◌≡◌, length}
 use Rattle.recall.specs.Among.{AmongGoing}
 use Rattle.recall.proofs.fields.among.Given as goal
 

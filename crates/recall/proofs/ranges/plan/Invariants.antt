@@ -1,5 +1,4 @@
 -- The invariant: the first t types have their places. Assumes nothing.
-use Rattle.std.proofs.Common.{◌-◌}
 use Rattle.recall.specs.Groups.{Planning}
 use Rattle.recall.proofs.ranges.plan.Given as goal
 

@@ -1,5 +1,4 @@
 -- The invariant: the first i strings. Assumes nothing.
-use Rattle.std.proofs.Common.{◌-◌}
 use Rattle.recall.specs.Names.{PoolsGoing}
 use Rattle.recall.proofs.ranges.pools.Given as goal
 

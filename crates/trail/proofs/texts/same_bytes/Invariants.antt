@@ -1,4 +1,4 @@
-use Rattle.std.proofs.Common.{◌≡◌, ◌-◌, ◌≤◌, length}
+use Rattle.std.proofs.Common.{◌≡◌, ◌≤◌, length}
 use Rattle.trail.specs.Texts.{SoFar}
 use Rattle.trail.proofs.texts.same_bytes.Given as goal
 

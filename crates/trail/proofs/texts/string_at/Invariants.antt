@@ -1,4 +1,4 @@
-use Rattle.std.proofs.Common.{◌≤◌, ◌-◌, ◌≡◌, length}
+use Rattle.std.proofs.Common.{◌≤◌, ◌≡◌, length}
 use Rattle.trail.specs.Texts.{Seeking}
 use Rattle.trail.proofs.texts.string_at.Given as goal
 

@@ -1,4 +1,4 @@
-use Rattle.std.proofs.Common.{◌≡◌, ◌-◌, length}
+use Rattle.std.proofs.Common.{◌≡◌, length}
 use Rattle.trail.specs.Texts.{Within, bytes_of}
 use Rattle.trail.specs.Types.{Finding}
 use Rattle.trail.proofs.trail.find.Given as goal
