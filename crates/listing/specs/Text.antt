@@ -1,5 +1,6 @@
 -- The call: a file as text. Assumes nothing.
-use Rattle.std.specs.Prelude.{◌≡◌, refl, Bool, true, false, List, [], ◌++◌, ℕ, ◌^◌, ◌≤◌, ◌<◌, leb, drop, Result, Ok, Err}
+use Rattle.std.specs.Prelude as prelude
+use Rattle.std.specs.Prelude.{◌≡◌, refl, Bool, true, false, List, [], ◌++◌, ℕ, ◌^◌, ◌≤◌, ◌<◌, leb, drop, Result}
 use Rattle.std.proofs.Common.{sym, ◌∙◌, leb-true}
 use Rattle.std.proofs.Math.Path.{ap, subst}
 use native.Mathlib.Omega.{arith}
@@ -76,7 +77,7 @@ module _ (f : List ℕ) {l : List ℕ} (B : Begun l) where
 -- ── counted, and then written ──
 
 module _ {f out out₁ : List ℕ} (same : out₁ ≡ out) {m₀ : List ℕ} {n : ℕ} (C : FilePrinted f [] m₀ n) (small : length out < 2 ^ 63) where
-  pub text-no-room : length out₁ < n → TextWritten f out (Err (record { number = 19 })) out₁
+  pub text-no-room : length out₁ < n → TextWritten f out (prelude.Err (record { number = 19 })) out₁
   unfolding fitted need ◌>>◌ ◌>>=◌ most
   text-no-room lt =
       record {
@@ -86,7 +87,7 @@ module _ {f out out₁ : List ℕ} (same : out₁ ≡ out) {m₀ : List ℕ} {n 
             rw same (wrote_none (rw (lt-leb (length (print K.ledger)) (length out) (omega (arith, count)))));
       }
 
-  pub text-written : n ≤ length out₁ → {m : List ℕ} {r : ℕ} → FilePrinted f out₁ m r → TextWritten f out (Ok n) m
+  pub text-written : n ≤ length out₁ → {m : List ℕ} {r : ℕ} → FilePrinted f out₁ m r → TextWritten f out (prelude.Ok n) m
   unfolding most
   text-written le {m} {r} L =
       record {
@@ -102,7 +103,7 @@ module _ {f out out₁ : List ℕ} (same : out₁ ≡ out) {m₀ : List ℕ} {n 
 -- written at once, where it is known to fit
 pub text-direct :
     {f l out m : List ℕ} {n : ℕ} {b : Bool} → Roomy f l (length out) b → b ≡ true → Bytes f → ((K : FileThere f) → view f l ≡ known K.ledger) → length out < 2 ^ 63
-    → FilePrinted f out m n → TextWritten f out (Ok n) m
+    → FilePrinted f out m n → TextWritten f out (prelude.Ok n) m
 unfolding most
 text-direct {f} {l} {out} {m} {n} R is bytes says small L =
     record {
@@ -140,13 +141,13 @@ module _ {f l : List ℕ} {a : Step} (F : FileRead f l a) where
   unfolding listing ◌>>=◌ file-there
   listing-accepted is T = rw (read-got f (file-there is).read) (T.wrote (file-there is))
 
-  pub listing-refused : {e : Refusal} → a ≡ No e → {out : List ℕ} → Wrote (listing (length out) 16384 f) out (Err (record { number = e.number })) out
+  pub listing-refused : {e : Refusal} → a ≡ No e → {out : List ℕ} → Wrote (listing (length out) 16384 f) out (prelude.Err (record { number = e.number })) out
   unfolding listing ◌>>=◌
   listing-refused is = wrote_none (rw (read_no f (refused-file F is)))
 
 -- ── by the length of the lent work table ──
 
-pub listing-short : (f w out : List ℕ) → length w < 16384 → after (Err (record { number = 15 })) w out ≡ after_listing f w out
+pub listing-short : (f w out : List ℕ) → length w < 16384 → after (prelude.Err (record { number = 15 })) w out ≡ after_listing f w out
 unfolding after_listing writes listing ◌>>=◌ answer_of how_many left_in
 listing-short f w out lt = rw (read_short f w lt, untouched f w lt)
 
