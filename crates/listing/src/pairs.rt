@@ -20,8 +20,7 @@ fn print_region(file: &[u8], from: usize, work: &[u32], out: &mut [u8], at: usiz
     let n = dues(work);
     let mut place = from;
     let mut p = at;
-    let mut i = 0;
-    while i < n {
+    for i in 0..n {
         let d = due_at(work, i);
         let kind = field_at(work, d.field);
         let end = place + (d.size as usize);
@@ -35,7 +34,6 @@ fn print_region(file: &[u8], from: usize, work: &[u32], out: &mut [u8], at: usiz
             p,
         );
         place = end;
-        i += 1;
     }
     p
 }
