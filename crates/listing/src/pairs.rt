@@ -66,6 +66,7 @@ pub fn print_pairs(file: &[u8], work: &mut [u32], out: &mut [u8], at: usize) -> 
     let mut place: usize = 0;
     let mut p = at;
     let mut left = Ledger::PAIRS;
+    // What ends the loop is the end of the file; a `for` over the pairs that may be would have to ask for it all the same.
     while place < file.len() {
         // No accepted file has more.
         if left == 0 {
