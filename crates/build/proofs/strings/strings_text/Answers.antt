@@ -1,4 +1,4 @@
-use Rattle.std.proofs.Common.{arith, ◌≡◌, ◌+◌, ◌-◌, refl}
+use Rattle.std.proofs.Common.{arith, ◌≡◌, ◌+◌, ◌-◌}
 use Rattle.build.specs.Strings.{stringing-start, stringing-bad, string-places, stringing-next, stringing-done}
 use Rattle.build.proofs.strings.strings_text.Goals as goal
 
