@@ -14,7 +14,7 @@ pub struct Refused {
 // What was done, in one number, or the refusal.
 pub type Reply = Result<u64, Refused>;
 
-// The refusals that a file or its bytes are not told of, but what is asked.
+// What a call refuses by itself, beside the faults of a file: a table that is too short, what is asked for, the room, the text.
 impl Refused {
     pub const TABLE: Refused = Refused { number: 15 };
 
