@@ -19,10 +19,9 @@ use calls::replies::{Refused, Reply};
 use pairs::count_pairs;
 use paper::Ledger;
 use table::counts::{begin, clear};
-use texts::TextRead;
 
 // How long the file of a text is, and where the values of its pairs begin.
-fn count_file(text: &[u8], table: &mut [u32], places: &mut [u64]) -> TextRead
+fn count_file(text: &[u8], table: &mut [u32], places: &mut [u64]) -> Option<Taken>
     requires { (length table.old ≡ table_length) × (length text.now < 66000000) × (length places.old ≡ most_pairs) }
     ensures { FileCounted text.now places.new result }
 {
@@ -46,7 +45,7 @@ fn write_file(text: &[u8], table: &mut [u32], out: &mut [u8]) -> Reply
 {
     let mut places = [0u64; Ledger::PAIRS as usize];
     let a = count_file(text, table, &mut places);
-    let TextRead::Got(k) = a else {
+    let Some(k) = a else {
         return Err(Refused::LISTING);
     };
     let count = k.at;

@@ -1,6 +1,6 @@
 -- The call: a file as text. Assumes nothing.
 use Rattle.std.specs.Prelude as prelude
-use Rattle.std.specs.Prelude.{◌≡◌, refl, Bool, true, false, List, [], ◌++◌, ℕ, ◌^◌, ◌≤◌, ◌<◌, leb, drop, Result}
+use Rattle.std.specs.Prelude.{Err, Ok, ◌≡◌, refl, Bool, true, false, List, [], ◌++◌, ℕ, ◌^◌, ◌≤◌, ◌<◌, leb, drop, Result}
 use Rattle.std.proofs.Common.{sym, ◌∙◌, leb-true}
 use Rattle.std.proofs.Math.Path.{ap, subst}
 use native.Mathlib.Omega.{arith}
@@ -17,15 +17,13 @@ use Rattle.laws.specs.Longer.{file-inv}
 use Rattle.laws.specs.Says.{Bytes}
 use Rattle.laws.specs.Promises.{fitted-done}
 use Rattle.lay.specs.Laid.{most, Laid}
-use Rattle.table.specs.View.{view, Said, Ok}
+use Rattle.table.specs.View.{view, Said, Ok as TableOk}
 use Rattle.table.specs.Counts.{noughts, begun, Begun}
 use Rattle.numbers.specs.declared.Cursor.{Cursor}
 use Rattle.numbers.specs.declared.Refusal.{Refusal}
 use Rattle.values.specs.Filling.{sets-front}
 use Rattle.walk.specs.PairTurns.{WalkReady}
 use Rattle.walk.specs.FileLaws.{FileRead, walk-ready}
-use Rattle.numbers.specs.declared.Step.{Step}
-use Rattle.numbers.specs.declared.Step.TheVariants.{Got, No}
 use Rattle.calls.specs.Told.{answer_of, after, Wrote, wrote_none, wrote-all, read-got, read_no}
 use Rattle.calls.specs.Table.{untouched, read_short, noughts-first, read-long}
 use Rattle.calls.specs.Column.{sees, still-holds}
@@ -34,6 +32,8 @@ use Rattle.calls.specs.Fixed.{one_way}
 use Rattle.calls.specs.declared.replies.Refused.{Refused}
 use Rattle.listing.specs.Pairs.{PairsThere, PairsPrinted}
 use Rattle.listing.specs.Room.{Roomy, roomy-fits}
+use Rattle.numbers.specs.Cursors.{Step}
+use Rattle.numbers.specs.Faults.{number_of}
 
 -- the file is accepted
 pub record FileThere (f : List ℕ) : Type 0 where
@@ -117,12 +117,12 @@ text-direct {f} {l} {out} {m} {n} R is bytes says small L =
 
 -- the table that was read is asked for its fields
 pub record TableThere (f l : List ℕ) : Type 0 where
-  pub ok : Ok l
+  pub ok : TableOk l
   pub there : FileThere f
   pub says : (K : FileThere f) → view f l ≡ known K.ledger
 
 module _ {f l : List ℕ} {a : Step} (F : FileRead f l a) where
-  pub table-there : {c : Cursor} → a ≡ Got c → TableThere f l
+  pub table-there : {c : Cursor} → a ≡ Ok c → TableThere f l
   table-there is =
       let K = table-known F is in
       record {
@@ -134,14 +134,14 @@ module _ {f l : List ℕ} {a : Step} (F : FileRead f l a) where
       one-ledger : {x y : Ledger} {d e : ℕ} → got x d ≡ got y e → x ≡ y
       one-ledger q = cc q
 
-  pub file-there : {c : Cursor} → a ≡ Got c → FileThere f
+  pub file-there : {c : Cursor} → a ≡ Ok c → FileThere f
   file-there is = let K = table-known F is in record { ledger = K.accepted.ledger; end = K.at; read = K.accepted.read }
 
-  pub listing-accepted : {c : Cursor} (is : a ≡ Got c) {out : List ℕ} {r : Result ℕ Refused} {m : List ℕ} → TextWritten f out r m → Wrote (listing (length out) 16384 f) out r m
+  pub listing-accepted : {c : Cursor} (is : a ≡ Ok c) {out : List ℕ} {r : Result ℕ Refused} {m : List ℕ} → TextWritten f out r m → Wrote (listing (length out) 16384 f) out r m
   unfolding listing ◌>>=◌ file-there
   listing-accepted is T = rw (read-got f (file-there is).read) (T.wrote (file-there is))
 
-  pub listing-refused : {e : Refusal} → a ≡ No e → {out : List ℕ} → Wrote (listing (length out) 16384 f) out (prelude.Err (record { number = e.number })) out
+  pub listing-refused : {e : Refusal} → a ≡ Err e → {out : List ℕ} → Wrote (listing (length out) 16384 f) out (prelude.Err (record { number = number_of e.fault })) out
   unfolding listing ◌>>=◌
   listing-refused is = wrote_none (rw (read_no f (refused-file F is)))
 

@@ -63,10 +63,8 @@ fn listing_read(a: Step, file: &[u8], table: &mut [u32], out: &mut [u8]) -> Repl
     requires { (length table.old ≡ 16384) × FileRead file.now table.old a }
     ensures { Wrote (listing (length out.old) 16384 file.now) out.old result out.new }
 {
-    match a {
-        Step::Got(_) => write_text(file, table, out),
-        Step::No(e) => Err(Refused::from(e)),
-    }
+    a?;
+    write_text(file, table, out)
 }
 
 // The call over a table of just the length that reading needs.

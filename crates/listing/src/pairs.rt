@@ -6,7 +6,7 @@ ghost use Rattle.walk.specs.PairTurns.{WalkReady};
 ghost use Rattle.listing.specs.Pairs.{PairThere, PairPrinted, PairsThere, PairsPrinted};
 
 use crate::fronts::print_front;
-use numbers::{Cursor, Number};
+use numbers::Cursor;
 use paper::Ledger;
 use show::{Behind, show_chunk};
 use table::counts::next_block;
@@ -45,7 +45,7 @@ fn print_pair(file: &[u8], c: Cursor, work: &mut [u32], out: &mut [u8], at: usiz
 {
     let printed = print_front(file, c, work, out, at);
     let a = printed.read;
-    let Number::Got(size, start) = a else {
+    let Ok((size, start)) = a else {
         return Behind { next: c, at };
     };
     let from = start.at;
