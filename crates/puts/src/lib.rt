@@ -15,30 +15,29 @@ ghost use Rattle.puts.specs.Kinds.{constant_of};
 
 use numbers::write::{put_be1, put_be2, put_be4, put_be8, put_v64};
 use values::constants::at_most;
-use words::read::Maybe;
 
 // What an entry may leave out.
-fn put_option(out: &mut [u8], at: usize, x: Maybe) -> usize
+fn put_option(out: &mut [u8], at: usize, x: Option<u64>) -> usize
     ensures { Laid out.old at (put_option (option x)) out.new result }
 {
     match x {
-        Maybe::Dash => at,
-        Maybe::Some(n) => put_v64(out, at, n),
+        None => at,
+        Some(n) => put_v64(out, at, n),
     }
 }
 
 // The number of restrictions, 0. Only a new type has it, and only a new type says its super type.
-fn put_restrictions(out: &mut [u8], at: usize, sup: Maybe) -> usize
+fn put_restrictions(out: &mut [u8], at: usize, sup: Option<u64>) -> usize
     ensures { Laid out.old at (when given? (option sup) then put 0 else []) out.new result }
 {
     match sup {
-        Maybe::Dash => at,
-        Maybe::Some(_) => put_v64(out, at, 0),
+        None => at,
+        Some(_) => put_v64(out, at, 0),
     }
 }
 
 // The head of an entry.
-pub fn put_head(out: &mut [u8], at: usize, name: u64, sup: Maybe, start: Maybe, count: u64) -> usize
+pub fn put_head(out: &mut [u8], at: usize, name: u64, sup: Option<u64>, start: Option<u64>, count: u64) -> usize
     ensures { Laid out.old at (put_head (record { name = name; super = option sup; start = option start; count = count })) out.new result }
 {
     let second = put_v64(out, at, name);
