@@ -14,7 +14,6 @@ ghost use Rattle.words.specs.Answers.{option};
 ghost use Rattle.puts.specs.Kinds.{constant_of};
 
 use numbers::write::{put_be1, put_be2, put_be4, put_be8, put_v64};
-use values::constants::at_most;
 
 // What an entry may leave out.
 fn put_option(out: &mut [u8], at: usize, x: Option<u64>) -> usize
@@ -37,7 +36,14 @@ fn put_restrictions(out: &mut [u8], at: usize, sup: Option<u64>) -> usize
 }
 
 // The head of an entry.
-pub fn put_head(out: &mut [u8], at: usize, name: u64, sup: Option<u64>, start: Option<u64>, count: u64) -> usize
+pub fn put_head(
+    out: &mut [u8],
+    at: usize,
+    name: u64,
+    sup: Option<u64>,
+    start: Option<u64>,
+    count: u64,
+) -> usize
     ensures { Laid out.old at (put_head (record { name = name; super = option sup; start = option start; count = count })) out.new result }
 {
     let second = put_v64(out, at, name);
@@ -61,9 +67,9 @@ fn put_whole(out: &mut [u8], at: usize, k: u64, a: u64) -> usize
     ensures { Laid out.old at (put_whole k (constant_of k a)) out.new result }
 {
     match k {
-        0 => put_be1(out, at, at_most(a, 255)),
-        1 => put_be2(out, at, at_most(a, 65535)),
-        2 => put_be4(out, at, at_most(a, 4294967295)),
+        0 => put_be1(out, at, a.min(255)),
+        1 => put_be2(out, at, a.min(65535)),
+        2 => put_be4(out, at, a.min(4294967295)),
         3 => put_be8(out, at, a),
         _ => put_v64(out, at, a),
     }
