@@ -9,7 +9,7 @@ ghost use Rattle.values.specs.Filling.{Filled};
 ghost use Rattle.values.specs.Rows.{Fitting, On, IsV64, IsLink};
 
 use crate::runs::number_up_to;
-use numbers::{Cursor, Number, Refusal, refused, sign};
+use numbers::{Cursor, Outcome, sign};
 
 // A value of a plain kind.
 #[derive(Clone, Copy)]
@@ -20,13 +20,6 @@ pub enum Value {
     Float(u64, u64),
     // The number of a string or of an object, or 0.
     Object(u64),
-}
-
-// A value with the cursor behind it, or the refusal.
-#[derive(Clone, Copy)]
-pub enum Valued {
-    Got(Value, Cursor),
-    No(Refusal),
 }
 
 // The number that a column stores of a value.
@@ -49,7 +42,7 @@ pub fn store(v: Value) -> i64
 }
 
 // The number that stands for a value of kind k. A file has fewer strings and objects than 2^63, so a column can store theirs.
-fn number_of(part: &[u8], c: Cursor, k: u64) -> Number
+fn number_of(part: &[u8], c: Cursor, k: u64) -> Outcome<u64>
     requires { single_kind? k ≡ true }
     ensures { Read (bare k) (bound_of k) part.now c.at result }
 {
@@ -91,15 +84,12 @@ pub fn value_of(n: u64, k: u64) -> Value
 }
 
 // A value of kind k, of which it is known that it keeps the rules.
-pub fn read_value(part: &[u8], c: Cursor, k: u64) -> Valued
+pub fn read_value(part: &[u8], c: Cursor, k: u64) -> Outcome<Value>
     requires { single_kind? k ≡ true }
     ensures { ValueRead k part.now c.at result }
 {
-    let a = number_of(part, c, k);
-    let Number::Got(n, next) = a else {
-        return Valued::No(refused(a));
-    };
-    Valued::Got(value_of(n, k), next)
+    let (n, next) = number_of(part, c, k)?;
+    Ok((value_of(n, k), next))
 }
 
 // How many of n values there is room for.
@@ -298,8 +288,7 @@ fn fill_v64s(part: &[u8], out: &mut [i64], at: usize) -> usize
             p += n;
             from = next;
         } else {
-            let a = from.v64(part);
-            let Number::Got(x, next) = a else {
+            let Ok((x, next)) = from.v64(part) else {
                 return p;
             };
             out[p] = store(Value::Whole(sign::signed8(x)));
@@ -342,8 +331,7 @@ fn fill_objects(part: &[u8], out: &mut [i64], at: usize) -> usize
             from = objects_there(part, from, out, p, n);
             p += n;
         } else {
-            let a = number_up_to(part, from, 9223372036854775807);
-            let Number::Got(x, next) = a else {
+            let Ok((x, next)) = number_up_to(part, from, 9223372036854775807) else {
                 return p;
             };
             out[p] = store(Value::Object(x));
