@@ -1,4 +1,3 @@
-use Rattle.std.proofs.Common.{arith}
 use Rattle.puts.specs.Strings.{digits_are}
 use Rattle.puts.proofs.strings.digits.Goals as goal
 

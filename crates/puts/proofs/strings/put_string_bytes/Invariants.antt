@@ -1,4 +1,4 @@
-use Rattle.std.proofs.Common.{◌-◌, drop}
+use Rattle.std.proofs.Common.{drop}
 use Rattle.paper.specs.Lists.{flat}
 use Rattle.lay.specs.Laid.{Leads}
 use Rattle.table.specs.View.{strs_of}
