@@ -4,7 +4,7 @@ use Rattle.std.specs.Prelude.{◌≡◌, refl, true, false, replicate}
 use Rattle.std.proofs.Math.Path.{sym, ap}
 use Rattle.std.proofs.Common.{◌∙◌}
 use mathlib.Core.List.{List, [], ◌∷◌}
-use Prim.Native.Nat.{ℕ, zero, suc, ◌-◌, ◌≤◌, ◌<◌}
+use Prim.Native.Nat.{ℕ, zero, suc, ◌+◌, ◌-◌, ◌≤◌, ◌<◌}
 use native.Mathlib.Omega.{arith}
 use Rattle.paper.specs.Reader.{Reader, Out, got, no, turned, and_then, hold, must, Rule, ◌or_no◌, give, each, times}
 use Rattle.paper.specs.Numbers.{v64, number}
@@ -119,20 +119,24 @@ module _ {S A : Type 0} (read : S → Reader A) (after : S → A → S) (end : S
     pub reads : times rest read after state f b.at ≡ got more q
     pub ends : end (fold after s l) ≡ end (fold after state more)
 
-  pub record Going (n : ℕ) (f : List ℕ) (at last rest : ℕ) (b : Behind) : Type 0 where
-    pub left : (s : S) → end s ≡ last → (l : List A) (q : ℕ) → times n read after s f at ≡ got l q → Left s l q f rest b
+  -- i of n were passed over
+  pub record Going (n : ℕ) (f : List ℕ) (at last i : ℕ) (b : Behind) : Type 0 where
+    pub left : (s : S) → end s ≡ last → (l : List A) (q : ℕ) → times n read after s f at ≡ got l q → Left s l q f (n - i) b
 
-  pub going_start : (n : ℕ) (f : List ℕ) (at last : ℕ) → Going n f at last n (record { value = last; at = at })
-  going_start n f at last = record { left = λ s e l q h. record { state = s; more = l; here = e; reads = h; ends = refl } }
+  pub going_start : (n : ℕ) (f : List ℕ) (at last : ℕ) → Going n f at last 0 (record { value = last; at = at })
+  going_start n f at last =
+      let z : n - 0 ≡ n = omega arith in
+      record { left = λ s e l q h. record { state = s; more = l; here = e; reads = rw z h; ends = refl } }
 
-  module _ {n : ℕ} {f : List ℕ} {at last rest : ℕ} {b : Behind} (g : Going n f at last rest b) where
-    pub going_on : 0 < rest → {b₂ : Behind} → ((s : S) → end s ≡ b.value → Told (read s) (λ a. end (after s a)) f b.at b₂) → Going n f at last (rest - 1) b₂
+  module _ {n : ℕ} {f : List ℕ} {at last i : ℕ} {b : Behind} (g : Going n f at last i b) where
+    pub going_on : i < n → {b₂ : Behind} → ((s : S) → end s ≡ b.value → Told (read s) (λ a. end (after s a)) f b.at b₂) → Going n f at last (i + 1) b₂
     unfolding fold
-    going_on due {b₂} one =
+    going_on lt {b₂} one =
+        let less : n - i ≡ suc (n - (i + 1)) = omega arith in
         record {
           left = λ s e l q h.
               let B = g.left s e l q h in
-              let F = times-first read after B.state f b.at B.more q rest due B.reads in
+              let F = one_more read after B.state f b.at B.more q (n - (i + 1)) (rw less at B.reads) in
               let T = one B.state B.here in
               let z = T.place F.value F.next F.first in
               record {
@@ -144,17 +148,17 @@ module _ {S A : Type 0} (read : S → Reader A) (after : S → A → S) (end : S
               };
         }
 
-    pub going_done : rest ≤ 0 → (s : S) → end s ≡ last → Told (times n read after s) (last_end after end s) f at b
+    pub going_done : n ≤ i → (s : S) → end s ≡ last → Told (times n read after s) (last_end after end s) f at b
     unfolding fold
     going_done le s e =
         record {
           value = λ l q h.
               let B = g.left s e l q h in
-              let N = times_none read after B.state f b.at B.more q rest le B.reads in
+              let N = times_none read after B.state f b.at B.more q (n - i) (omega arith) B.reads in
               sym B.here ∙ sym (B.ends ∙ ap (λ (x : List A). end (fold after B.state x)) N.0);
           place = λ l q h.
               let B = g.left s e l q h in
-              (times_none read after B.state f b.at B.more q rest le B.reads).1;
+              (times_none read after B.state f b.at B.more q (n - i) (omega arith) B.reads).1;
         }
 
 -- ── a new field ──

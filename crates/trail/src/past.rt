@@ -33,10 +33,8 @@ pub fn past_ends(file: &[u8], at: usize, n: u64, last: u64) -> Behind
     ensures { Told (times n end_offset after last) (last_end after same last) file.now at result }
 {
     let mut here = Behind { value: last, at };
-    let mut rest = n;
-    while 0 < rest {
+    for _ in 0..n {
         here = past(file, here.at);
-        rest -= 1;
     }
     here
 }
@@ -99,10 +97,8 @@ pub fn past_news(file: &[u8], at: usize, n: u64, last: u64) -> Behind
     ensures { (t : ℕ) (u : Upto) → u.end ≡ last → Told (times n (new_field any_type t) (upto_new t) u) (last_end (upto_new t) end_of u) file.now at result }
 {
     let mut here = Behind { value: last, at };
-    let mut rest = n;
-    while 0 < rest {
+    for _ in 0..n {
         here = past_new(file, here.at);
-        rest -= 1;
     }
     here
 }

@@ -76,8 +76,7 @@ pub fn string_at(file: &[u8], starts: [u32; 32], blocks: u32, n: u64) -> Span
         return Span { start: 0, end: 0 };
     }
     let mut k = n - 1;
-    let mut i: usize = 0;
-    while i < 32 {
+    for i in 0..32 {
         if blocks as usize <= i {
             return Span { start: 0, end: 0 };
         }
@@ -87,7 +86,6 @@ pub fn string_at(file: &[u8], starts: [u32; 32], blocks: u32, n: u64) -> Span
             return string_in(file, c.at, c.value, k);
         }
         k -= c.value;
-        i += 1;
     }
     Span { start: 0, end: 0 }
 }
@@ -100,12 +98,10 @@ pub fn same_bytes(a: &[u8], b: &[u8]) -> bool
         return false;
     }
     let mut alike = true;
-    let mut i = 0;
-    while i < a.len() {
+    for i in 0..a.len() {
         if a[i] != b[i] {
             alike = false;
         }
-        i += 1;
     }
     alike
 }
