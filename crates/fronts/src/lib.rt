@@ -64,11 +64,10 @@ fn next_end(work: &[u32], e: Ends) -> Ends
 fn put_line(text: &[u8], p: Place, line: NewLine, end: u64, out: &mut [u8], at: usize) -> usize
     ensures { LineLaid text.now p.at line.kind.k line.kind.a line.kind.e line.name end out.old at out.new result }
 {
-    let kind = line.kind;
-    if kind.k == 20 {
-        return put_map(text, p, kind.a, line.name, end, out, at);
+    if line.kind.k == 20 {
+        return put_map(text, p, line, end, out, at);
     }
-    put_new(out, at, kind.k, kind.a, kind.e, line.name, end)
+    put_new(out, at, line, end)
 }
 
 // The field whose line comes next, with its chunk's end: of a known field the end is all.
@@ -106,7 +105,7 @@ fn put_entry(text: &[u8], work: &[u32], h: Here, out: &mut [u8]) -> Option<Here>
 {
     let (line, next) = type_line(text, h.next)?;
     let ends = h.ends;
-    let behind_head = put_head(out, h.at, line.name, line.sup, line.start, line.count);
+    let behind_head = put_head(out, h.at, line);
     let at = put_v64(out, behind_head, line.fields);
     put_fields(text, line.fields, work, Here { next, ends, at }, out)
 }

@@ -3,6 +3,7 @@
 ghost use Rattle.fronts.specs.Maps.{KindsFound, KindsLaid, MapLaid};
 
 use numbers::write::put_v64;
+use parse::NewLine;
 use puts::put_two;
 use words::read::Place;
 
@@ -37,23 +38,15 @@ fn put_kinds(text: &[u8], p: Place, n: u64, out: &mut [u8], at: usize) -> usize
     to
 }
 
-// The new field whose line begins at p, of a map of n types, and where its chunk ends.
-pub fn put_map(
-    text: &[u8],
-    p: Place,
-    n: u64,
-    name: u64,
-    end: u64,
-    out: &mut [u8],
-    at: usize,
-) -> usize
-    ensures { MapLaid text.now p.at n name end out.old at out.new result }
+// The new field whose line begins at p and says this, of a map, and where its chunk ends.
+pub fn put_map(text: &[u8], p: Place, line: NewLine, end: u64, out: &mut [u8], at: usize) -> usize
+    ensures { MapLaid text.now p.at line.kind.a line.name end out.old at out.new result }
 {
     let Some(kinds) = map_kinds(text, p) else {
         return at;
     };
     let types = put_two(out, at, 0, 20);
-    let first = put_v64(out, types, n);
-    let last = put_kinds(text, kinds, n, out, first);
-    put_two(out, last, name, end)
+    let first = put_v64(out, types, line.kind.a);
+    let last = put_kinds(text, kinds, line.kind.a, out, first);
+    put_two(out, last, line.name, end)
 }
