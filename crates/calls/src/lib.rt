@@ -15,7 +15,7 @@ ghost use Rattle.calls.specs.Told.{answer_of, Wrote, after};
 use asks::{count_objects, tell_count, write_values};
 use numbers::Step;
 use paper::Ledger;
-use replies::Reply;
+use replies::{Refused, Reply};
 use table::counts::clear;
 use walk::pairs::read;
 
@@ -26,7 +26,7 @@ fn objects_read(a: Step, file: &[u8], work: &[u32], name: &[u8]) -> Reply
 {
     match a {
         Step::Got(_) => count_objects(file, work, name),
-        Step::No(e) => Reply::Refused(e.number),
+        Step::No(e) => Err(Refused::from(e)),
     }
 }
 
@@ -36,7 +36,7 @@ fn count_read(a: Step, file: &[u8], work: &[u32], owner: &[u8], name: &[u8], k: 
 {
     match a {
         Step::Got(_) => tell_count(file, work, owner, name, k),
-        Step::No(e) => Reply::Refused(e.number),
+        Step::No(e) => Err(Refused::from(e)),
     }
 }
 
@@ -54,7 +54,7 @@ fn fill_read(
 {
     match a {
         Step::Got(_) => write_values(file, work, owner, name, k, out),
-        Step::No(e) => Reply::Refused(e.number),
+        Step::No(e) => Err(Refused::from(e)),
     }
 }
 
@@ -67,8 +67,8 @@ fn check_in(file: &[u8], table: &mut [u32]) -> Reply
     let a = read(file, table);
     clear(table);
     match a {
-        Step::Got(_) => Reply::Done(0),
-        Step::No(e) => Reply::Refused(e.number),
+        Step::Got(_) => Ok(0),
+        Step::No(e) => Err(Refused::from(e)),
     }
 }
 
@@ -115,7 +115,7 @@ pub fn check(file: &[u8], work: &mut [u32]) -> Reply
 {
     let needed = Ledger::TABLE as usize;
     if work.len() < needed {
-        return Reply::Refused(15);
+        return Err(Refused::TABLE);
     }
     check_in(file, &mut work[..needed])
 }
@@ -126,7 +126,7 @@ pub fn objects(file: &[u8], name: &[u8], work: &mut [u32]) -> Reply
 {
     let needed = Ledger::TABLE as usize;
     if work.len() < needed {
-        return Reply::Refused(15);
+        return Err(Refused::TABLE);
     }
     objects_in(file, name, &mut work[..needed])
 }
@@ -137,7 +137,7 @@ pub fn count_values(file: &[u8], owner: &[u8], name: &[u8], k: u64, work: &mut [
 {
     let needed = Ledger::TABLE as usize;
     if work.len() < needed {
-        return Reply::Refused(15);
+        return Err(Refused::TABLE);
     }
     count_in(file, owner, name, k, &mut work[..needed])
 }
@@ -155,7 +155,7 @@ pub fn fill_values(
 {
     let needed = Ledger::TABLE as usize;
     if work.len() < needed {
-        return Reply::Refused(15);
+        return Err(Refused::TABLE);
     }
     fill_in(file, owner, name, k, &mut work[..needed], out)
 }

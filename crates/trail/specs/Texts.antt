@@ -1,5 +1,5 @@
 -- Strings by their numbers, where the pairs begin at known places. Assumes nothing.
-use Rattle.std.specs.Prelude.{◌≡◌, Bool, true, false, ◌&&◌, leb, get_or, take, drop}
+use Rattle.std.specs.Prelude.{Err, Ok, ◌≡◌, Bool, true, false, ◌&&◌, leb, get_or, take, drop}
 use Rattle.std.proofs.Math.Path.{refl}
 use Rattle.std.proofs.Common.{sym, ap, ap₂, ◌∙◌, subst, add-one, length-append, length-take, drop_of_length-le, drop-cons, get_or-append-add, get_or-take, take_all, leb-true}
 use mathlib.Core.List.{List, [], ◌∷◌, ◌++◌, append_assoc, append-nil}
@@ -16,11 +16,9 @@ use Rattle.paper.specs.Keeps.{hold?}
 use Rattle.paper.specs.File.{string_end, string_block}
 use Rattle.laws.specs.Laws.{not-got, bind_inv}
 use Rattle.laws.specs.Bools.{and_split}
-use Rattle.numbers.specs.Cursors.{Read, was-got, was-refused}
+use Rattle.numbers.specs.Cursors.{Outcome, Read, was-got, was-refused}
 use Rattle.numbers.specs.declared.Cursor.{Cursor}
 use Rattle.numbers.specs.declared.Refusal.{Refusal}
-use Rattle.numbers.specs.declared.Number.{Number}
-use Rattle.numbers.specs.declared.Number.TheVariants.{Got, No}
 use Rattle.table.specs.NameLaws.{lengths_differ, name-start, differs-on, alike-on, alike_end}
 use Rattle.reader.specs.Strings.{ends, piece, pieces, Rising}
 use Rattle.reader.specs.StringLaws.{four-on, block-got}
@@ -31,11 +29,11 @@ use Rattle.trail.specs.Told.{Told, told_none, number-got, FirstOf, times-first, 
 
 -- ── numbers of four bytes ──
 
-module _ {f : List ℕ} {at b : ℕ} {a : Number} (R : Read (fixed 4) b f at a) where
-  pub four-none : {u : Refusal} {h : Behind} → a ≡ No u → Told (fixed 4) (λ n. n) f at h
+module _ {f : List ℕ} {at b : ℕ} {a : Outcome ℕ} (R : Read (fixed 4) b f at a) where
+  pub four-none : {u : Refusal} {h : Behind} → a ≡ Err u → Told (fixed 4) (λ n. n) f at h
   four-none is = told_none (λ v q h. not-got (sym (was-refused R is).says ∙ h))
 
-  pub four-one : {x : ℕ} {c : Cursor} → a ≡ Got x c → Told (fixed 4) (λ n. n) f at (record { value = x; at = c.at })
+  pub four-one : {x : ℕ} {c : Cursor} → a ≡ Ok (x , c) → Told (fixed 4) (λ n. n) f at (record { value = x; at = c.at })
   four-one is = record { value = λ v q h. cc (sym (was-got R is).says ∙ h); place = λ v q h. cc (sym (was-got R is).says ∙ h) }
 
 -- ── parts of the file ──

@@ -6,7 +6,7 @@ ghost use Rattle.trail.specs.Told.{Told, same as it};
 ghost use Rattle.trail.specs.Texts.{PartOf, InBlock, Text};
 
 use crate::past::{Behind, past};
-use numbers::{Cursor, Number};
+use numbers::Cursor;
 
 // A part of the file.
 #[derive(Clone, Copy)]
@@ -20,7 +20,7 @@ pub fn four(file: &[u8], at: usize) -> Behind
 {
     let c = Cursor { at };
     let a = c.be::<4>(file);
-    let Number::Got(value, next) = a else {
+    let Ok((value, next)) = a else {
         return Behind { value: 0, at };
     };
     Behind { value, at: next.at }
