@@ -176,7 +176,7 @@ module _ (l : List ℕ) (h : Here) {e : Ends} (N : NextEnd l h.ends e) {m m' : L
   -- by what its line says
   pub line-put :
       (t : List ℕ) → no 20 0 ≡ literal old_line t h.next.at → {x : NewLine} → NewReads t h.next.at (Some (x, c))
-      → LineLaid t h.next.at x.kind.k x.kind.a x.kind.e x.name e.end m h.at m' p → Puts field_line one_end field_bytes t l h m m' (Some (record { next = c; ends = e; at = p }))
+      → LineLaid t h.next.at x.kind.first x.kind.bits x.kind.last x.name e.end m h.at m' p → Puts field_line one_end field_bytes t l h m m' (Some (record { next = c; ends = e; at = p }))
   line-put t not-old R L =
       let B = turned-got noted_new (kept_new t h.next.at) R.says in
       new-put t not-old B.first (L.laid B.value c.at (sym B.first) B.is)

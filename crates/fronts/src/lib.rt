@@ -62,9 +62,9 @@ fn next_end(work: &[u32], e: Ends) -> Ends
 
 // The new field whose line begins at p and says this.
 fn put_line(text: &[u8], p: Place, line: NewLine, end: u64, out: &mut [u8], at: usize) -> usize
-    ensures { LineLaid text.now p.at line.kind.k line.kind.a line.kind.e line.name end out.old at out.new result }
+    ensures { LineLaid text.now p.at line.kind.first line.kind.bits line.kind.last line.name end out.old at out.new result }
 {
-    if line.kind.k == 20 {
+    if line.kind.first == 20 {
         return put_map(text, p, line, end, out, at);
     }
     put_new(out, at, line, end)

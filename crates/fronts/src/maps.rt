@@ -40,13 +40,13 @@ fn put_kinds(text: &[u8], p: Place, n: u64, out: &mut [u8], at: usize) -> usize
 
 // The new field whose line begins at p and says this, of a map, and where its chunk ends.
 pub fn put_map(text: &[u8], p: Place, line: NewLine, end: u64, out: &mut [u8], at: usize) -> usize
-    ensures { MapLaid text.now p.at line.kind.a line.name end out.old at out.new result }
+    ensures { MapLaid text.now p.at line.kind.bits line.name end out.old at out.new result }
 {
     let Some(kinds) = map_kinds(text, p) else {
         return at;
     };
     let types = put_two(out, at, 0, 20);
-    let first = put_v64(out, types, line.kind.a);
-    let last = put_kinds(text, kinds, line.kind.a, out, first);
+    let first = put_v64(out, types, line.kind.bits);
+    let last = put_kinds(text, kinds, line.kind.bits, out, first);
     put_two(out, last, line.name, end)
 }

@@ -33,7 +33,7 @@ name-held {f} {l} h t {n} k =
 -- ── one field ──
 
 -- so a row of the table has room for its kind
-pub new-first : {f : List ℕ} {at : ℕ} {a : Scanned NewLine} → NewReads f at a → {x : NewLine} {c : Place} → a ≡ Some (x, c) → x.kind.k ≤ 32
+pub new-first : {f : List ℕ} {at : ℕ} {a : Scanned NewLine} → NewReads f at a → {x : NewLine} {c : Place} → a ≡ Some (x, c) → x.kind.first ≤ 32
 new-first line is = (rw is at line).told
 
 -- the line, whose kind keeps its rules, and then the rules of the name
@@ -75,7 +75,7 @@ module _ {f l : List ℕ} (h : Holds f l) (t n : ℕ) {at : ℕ} {a : Scanned Ne
 
   module _ {x : NewLine} {c : Place} (is : a ≡ Some (x, c)) where
     -- the field that was read, of whose kind the line says what is kept
-    read : Before noted_new (kept_new f at) (record { kind = kind_from x.kind.k x.kind.a x.kind.e; name = x.name }) c.at
+    read : Before noted_new (kept_new f at) (record { kind = kind_from x.kind.first x.kind.bits x.kind.last; name = x.name }) c.at
     read = turned-got noted_new (kept_new f at) (rw is at line).says
 
     called : x.name ≡ read.value.name
@@ -85,7 +85,7 @@ module _ {f l : List ℕ} (h : Holds f l) (t n : ℕ) {at : ℕ} {a : Scanned Ne
     unfolding when◌then◌else◌
     new-unnamed broken = record { holds = h; says = sym (step_is ∙ rw (← read.first, ← called, broken)); still_open = tt }
 
-    module _ (kept : number? (field_name_rules t (view f l)) x.name ≡ true) {l' : List ℕ} (added : FieldAdded f t n x.name (record { first = x.kind.k; bits = x.kind.a; last = x.kind.e }) 0 l l') where
+    module _ (kept : number? (field_name_rules t (view f l)) x.name ≡ true) {l' : List ℕ} (added : FieldAdded f t n x.name x.kind 0 l l') where
       got-is : new_step t n (said f l) f at ≡ got (add_text t n (said f l) read.value) c.at
       unfolding when◌then◌else◌
       got-is = step_is ∙ rw (← read.first, ← called, kept)

@@ -9,7 +9,6 @@ ghost use Rattle.judge.specs.Fields.{Ready, OldTold, OldsTold, new_step, news_st
 use numbers::Cursor;
 use parse::{new_line, old_lines};
 use reader::fields::{add_field, judged_field_count, judged_field_name, known_fields, values_due};
-use reader::kinds::Kind;
 use table::ranges::objects_of;
 use words::read::Place;
 
@@ -51,12 +50,7 @@ fn new_text(text: &[u8], p: Place, work: &mut [u32], t: u32, objects: u32) -> Op
     let (line, next) = new_line(text, p)?;
     let name = line.name;
     judged_field_name(text, work, t, name, 0, Cursor { at: 0 }).ok()?;
-    let kind = Kind {
-        first: line.kind.k,
-        bits: line.kind.a,
-        last: line.kind.e,
-    };
-    add_field(text, work, t, kind, name, objects, 0);
+    add_field(text, work, t, line.kind, name, objects, 0);
     Some(next)
 }
 

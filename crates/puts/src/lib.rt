@@ -15,8 +15,8 @@ ghost use Rattle.parse.specs.Answers.{head_of};
 ghost use Rattle.puts.specs.Kinds.{constant_of};
 
 use numbers::write::{put_be, put_v64};
-use parse::kinds::Kind;
 use parse::{NewLine, TypeLine};
+use reader::kinds::Kind;
 
 // What an entry may leave out.
 fn put_option(out: &mut [u8], at: usize, x: Option<u64>) -> usize
@@ -90,22 +90,22 @@ fn put_array(out: &mut [u8], at: usize, n: u64, e: u64) -> usize
 
 // A kind, by its numbers. A map's element kinds do not stand in these, so they are laid by whoever reads them.
 pub fn put_kind(out: &mut [u8], at: usize, kind: Kind) -> usize
-    requires { kind.k ≡ 20 → ⊥ }
-    ensures { Laid out.old at (put_kind (kind_from kind.k kind.a kind.e)) out.new result }
+    requires { kind.first ≡ 20 → ⊥ }
+    ensures { Laid out.old at (put_kind (kind_from kind.first kind.bits kind.last)) out.new result }
 {
-    let Kind { k, a, e } = kind;
-    match k {
-        0..=4 => put_constant(out, at, k, a),
-        15 => put_array(out, at, a, e),
-        17..=19 => put_two(out, at, k, e),
-        _ => put_v64(out, at, e),
+    let Kind { first, bits, last } = kind;
+    match first {
+        0..=4 => put_constant(out, at, first, bits),
+        15 => put_array(out, at, bits, last),
+        17..=19 => put_two(out, at, first, last),
+        _ => put_v64(out, at, last),
     }
 }
 
 // A new field, as its line says it, and where its chunk ends. It has no restrictions.
 pub fn put_new(out: &mut [u8], at: usize, line: NewLine, end: u64) -> usize
-    requires { line.kind.k ≡ 20 → ⊥ }
-    ensures { Laid out.old at (put_new (record { kind = kind_from line.kind.k line.kind.a line.kind.e; name = line.name }, end)) out.new result }
+    requires { line.kind.first ≡ 20 → ⊥ }
+    ensures { Laid out.old at (put_new (record { kind = kind_from line.kind.first line.kind.bits line.kind.last; name = line.name }, end)) out.new result }
 {
     let second = put_v64(out, at, 0);
     let third = put_kind(out, second, line.kind);
