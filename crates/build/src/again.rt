@@ -46,6 +46,7 @@ pub fn pairs_again(text: &[u8], work: &mut [u32], places: &[u64], out: &mut [u8]
     let mut at: usize = 0;
     let mut left = Ledger::PAIRS;
     let mut from: usize = 0;
+    // As in the first pass, the end of the text ends the loop, and not that of the places.
     while from < text.len() {
         left -= 1;
         let values = places[left as usize] as usize;

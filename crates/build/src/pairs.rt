@@ -84,6 +84,7 @@ pub fn count_pairs(text: &[u8], work: &mut [u32], places: &mut [u64]) -> TextRea
     let mut at: usize = 0;
     let mut left = Ledger::PAIRS;
     let mut from: usize = 0;
+    // What ends the loop is the end of the text. A `for` over the places would have to ask for it in each turn, and once more behind.
     while from < text.len() {
         if left == 0 {
             return TextRead::Bad;

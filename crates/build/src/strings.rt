@@ -15,14 +15,12 @@ pub fn strings_text(text: &[u8], p: Place, n: u64, work: &mut [u32]) -> Step
     ensures { StringsTold text.now work.old n p.at result work.new }
 {
     let mut at = p.at;
-    let mut rest = n;
-    while 0 < rest {
+    for _ in 0..n {
         let StringLine::Got(first, end, next) = string_line(text, Place { at }) else {
             return Step::Bad;
         };
         push_string(work, first as u32, end as u32);
         at = next.at;
-        rest -= 1;
     }
     Step::To(Place { at })
 }

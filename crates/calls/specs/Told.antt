@@ -1,6 +1,7 @@
 -- What a reply says, and what each call replies to a file that is accepted or refused. Assumes nothing.
 use Rattle.std.specs.Prelude.{◌≡◌, refl, false, ◌&&◌, List, [], ◌∷◌, ◌++◌, ℕ, ◌≤◌, ◌<◌, leb, eqb, ℤ, length, drop, Result, Ok, Err}
-use Rattle.std.proofs.Common.{arith, le-leb}
+use Rattle.std.proofs.Common.{arith, le-leb, IsErrAnd, ap, ◌∙◌}
+use Rattle.std.proofs.lemmas.Result.{err_from_is_err_and}
 use Rattle.std.proofs.Math.Option.{none, some}
 use Rattle.std.proofs.lemmas.Bool.{lt-leb}
 use Rattle.paper.specs.Reader.{got, no}
@@ -38,6 +39,10 @@ answer_of (Ok n) = done n
 answer_of (Err e) = refused e.number
 
 -- the answer, the work table and the output after a call
+-- what `?` hands on is the refusal itself
+pub told_on : {T : Type 0} {r : Result T Refused} {q : Refused} → IsErrAnd r (λ u. u ≡ q) → r ≡ Err q
+told_on {T} {r} h = let p = err_from_is_err_and r h in p.1 ∙ ap Err p.2
+
 abbrev pub after : {A : Type 0} → Result ℕ Refused → List ℕ → List A → Left A
 after r table out = record { answer = answer_of r; table = table; output = out }
 

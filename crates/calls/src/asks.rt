@@ -8,7 +8,7 @@ ghost use Rattle.calls.specs.Column.{Known, Ready, Stored, WantedTold, ColumnTol
 
 use crate::fills::fill_column;
 use crate::replies::{Refused, Reply};
-use table::names::{Found, find_field_called, find_type_called};
+use table::names::{find_field_called, find_type_called};
 use table::ranges::objects_of;
 use table::rows::{FieldRow, field_at};
 use values::columns::fill_constant;
@@ -59,7 +59,7 @@ pub fn count_objects(file: &[u8], work: &[u32], name: &[u8]) -> Reply
     ensures { answer_of result ≡ count_of (view file.now work.now) name.now }
 {
     let a = find_type_called(file, work, name);
-    let Found::At(t) = a else {
+    let Some(t) = a else {
         return Err(Refused::NO_TYPE);
     };
     let count = objects_of(work, t);
@@ -80,11 +80,11 @@ pub fn tell_count(file: &[u8], work: &[u32], owner: &[u8], name: &[u8], k: u64) 
     ensures { answer_of result ≡ values_of (view file.now work.now) owner.now name.now k }
 {
     let a = find_type_called(file, work, owner);
-    let Found::At(t) = a else {
+    let Some(t) = a else {
         return Err(Refused::NO_TYPE);
     };
     let b = find_field_called(file, work, t, name);
-    let Found::At(i) = b else {
+    let Some(i) = b else {
         return Err(Refused::NO_FIELD);
     };
     let row = field_at(work, i);
@@ -134,11 +134,11 @@ pub fn write_values(
     ensures { ColumnTold file.now work.now owner.now name.now k out.old result out.new }
 {
     let a = find_type_called(file, work, owner);
-    let Found::At(t) = a else {
+    let Some(t) = a else {
         return Err(Refused::NO_TYPE);
     };
     let b = find_field_called(file, work, t, name);
-    let Found::At(i) = b else {
+    let Some(i) = b else {
         return Err(Refused::NO_FIELD);
     };
     let row = field_at(work, i);

@@ -24,20 +24,16 @@ fn objects_read(a: Step, file: &[u8], work: &[u32], name: &[u8]) -> Reply
     requires { FileRead file.now work.now a }
     ensures { answer_of result ≡ objects name.now table_length file.now }
 {
-    match a {
-        Step::Got(_) => count_objects(file, work, name),
-        Step::No(e) => Err(Refused::from(e)),
-    }
+    a?;
+    count_objects(file, work, name)
 }
 
 fn count_read(a: Step, file: &[u8], work: &[u32], owner: &[u8], name: &[u8], k: u64) -> Reply
     requires { FileRead file.now work.now a }
     ensures { answer_of result ≡ count_values owner.now name.now k table_length file.now }
 {
-    match a {
-        Step::Got(_) => tell_count(file, work, owner, name, k),
-        Step::No(e) => Err(Refused::from(e)),
-    }
+    a?;
+    tell_count(file, work, owner, name, k)
 }
 
 fn fill_read(
@@ -52,10 +48,8 @@ fn fill_read(
     requires { FileRead file.now work.now a }
     ensures { Wrote (fill_values owner.now name.now k (length out.old) table_length file.now) out.old result out.new }
 {
-    match a {
-        Step::Got(_) => write_values(file, work, owner, name, k, out),
-        Step::No(e) => Err(Refused::from(e)),
-    }
+    a?;
+    write_values(file, work, owner, name, k, out)
 }
 
 // The four calls over a table of just the length that reading needs: whatever stood in it, noughts are left.
@@ -66,10 +60,8 @@ fn check_in(file: &[u8], table: &mut [u32]) -> Reply
 {
     let a = read(file, table);
     clear(table);
-    match a {
-        Step::Got(_) => Ok(0),
-        Step::No(e) => Err(Refused::from(e)),
-    }
+    a?;
+    Ok(0)
 }
 
 fn objects_in(file: &[u8], name: &[u8], table: &mut [u32]) -> Reply

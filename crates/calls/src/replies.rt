@@ -1,5 +1,6 @@
 // What a call replies.
 ghost use Rattle.std.specs.Prelude.{◌≡◌};
+ghost use Rattle.numbers.specs.Faults.{number_of};
 
 use numbers::Refusal;
 
@@ -13,7 +14,7 @@ pub struct Refused {
 // What was done, in one number, or the refusal.
 pub type Reply = Result<u64, Refused>;
 
-// The refusals that a file or its bytes are not told of, but what is asked.
+// What a call refuses by itself, beside the faults of a file: a table that is too short, what is asked for, the room, the text.
 impl Refused {
     pub const TABLE: Refused = Refused { number: 15 };
 
@@ -30,9 +31,11 @@ impl Refused {
 
 // A file's own refusal: a call tells its number, and not its place.
 impl From<Refusal> for Refused {
-    ghost from_gives = { λ e r. r ≡ record { number = e.number } };
+    ghost from_gives = { λ e r. r ≡ record { number = number_of e.fault } };
 
     fn from(e: Refusal) -> Refused {
-        Refused { number: e.number }
+        Refused {
+            number: u64::from(e.fault),
+        }
     }
 }

@@ -158,7 +158,7 @@ module _ {f type field : List ℕ} {k : ℕ} {out : List ℤ} {r : Result ℕ Re
   fills-exactly l t i F Q fits =
       let many = column-objects f l F type field k t i Q in
       let (a, b) = written _ C.work out r C.replied (column_of l t i) (fills f l F type field k t i Q (length out) (length C.work) C.long fits) in
-      (a ∙ ap (λ (x : ℕ). Ok x) many, many, b ∙ ap (λ (x : ℕ). column_of l t i ++ drop x out) many)
+      (a ∙ ap {B = Result ℕ Refused} Ok many, many, b ∙ ap (λ (x : ℕ). column_of l t i ++ drop x out) many)
 
   -- and no other question is answered
   pub fills-only :

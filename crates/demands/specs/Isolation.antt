@@ -132,7 +132,7 @@ one-filled :
     → a ≡ Ok n → n ≤ length out → n ≤ length out' → take n o ≡ take n p
 one-filled {o = o} {p = p} bytes A C D n is fits fits' =
     let (l, t, i, F, Q) = counts-only A n bytes is in
-    let z : Ok n ≡ Ok (objects_of (known l) t) = sym is ∙ counts-exactly A l t i F Q in
+    let z : ◌≡◌ {A = Result ℕ Refused} (Ok n) (Ok (objects_of (known l) t)) = sym is ∙ counts-exactly A l t i F Q in
     let e : n ≡ objects_of (known l) t = cc z in
     let (_, many, y) = fills-exactly C l t i F Q (omega arith) in
     let (_, _, y') = fills-exactly D l t i F Q (omega arith) in

@@ -25,7 +25,7 @@ use Rattle.demands.specs.Exact.{Counted, Filled, count-says}
 -- what the second call replies, by the first one's reply and the room that it is lent
 unfoldable pub then_fill : Result ℕ Refused → ℕ → Result ℕ Refused
 then_fill (Ok n) room = when leb n room then Ok n else Err (record { number = 19 })
-then_fill (Err (record { number = n })) room = Err (record { number = n })
+then_fill (Err e) room = Err e
 
 -- ── a table that is long enough is as good as another ──
 
@@ -42,7 +42,7 @@ module _ (f type field : List ℕ) (k table table' : ℕ) (h : table_length ≤ 
 
 reply-then : (r q : Result ℕ Refused) (room : ℕ) → answer_of q ≡ (answer_of r >>= λ n. need (leb n room) 19 >> done n) → q ≡ then_fill r room
 unfolding answer_of then_fill need ◌>>=◌ ◌>>◌ when◌then◌else◌
-reply-then (Err (record { number = n })) q room h = said-refused q n h
+reply-then (Err e) q room h = said-refused q e.number h
 reply-then (Ok n) q room h = go (leb n room) h
   where
     go : (fits : Bool) → answer_of q ≡ (need fits 19 >> done n) → q ≡ (when fits then Ok n else Err (record { number = 19 }))

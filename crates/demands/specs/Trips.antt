@@ -104,7 +104,7 @@ ComesBack t file again out r f o =
     (l : Ledger) → keeps? l ≡ true → print l ≡ t → length (encode l) ≤ length file → length t ≤ length again → length (encode l) ≤ length out
     → (r ≡ Ok (length (encode l))) × (f ≡ encode l ++ drop (length (encode l)) file) × (o ≡ encode l ++ drop (length (encode l)) out)
 
-not-refused : {B : Type 0} (n m : ℕ) → Err (record { number = n }) ≡ Ok m → B
+not-refused : {B : Type 0} (n m : ℕ) → ◌≡◌ {A = Result ℕ Refused} (Err (record { number = n })) (Ok m) → B
 not-refused n m q = let z : ◌≡◌ {A = ℕ} 0 1 = cc q in absurd (omega arith)
 
 -- the listing was written, or not
@@ -142,7 +142,7 @@ module _ (t work file : List ℕ) {a : Result ℕ Refused} {w o : List ℕ} (c :
       let c' : after a w o ≡ after_build (print l) work file = rw same c in
       let (x, y) = build-exactly l work file h fits c' k in
       let z : w ≡ cleared work = ap (λ (x : Left ℕ). x.table) c in
-      let count : n ≡ length (encode l) = let u : Ok n ≡ Ok (length (encode l)) = sym is ∙ x in cc u in
+      let count : n ≡ length (encode l) = let u : ◌≡◌ {A = Result ℕ Refused} (Ok n) (Ok (length (encode l))) = sym is ∙ x in cc u in
       let front : take n o ≡ encode l = front-is n (encode l) o _ count y in
       let (u, v) = B (rw z (cleared-length work h)) l (rw front (shortest-follows l k)) (rw same roomy) enough in
       (u, y, v)

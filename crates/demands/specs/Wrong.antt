@@ -117,21 +117,21 @@ other-column = refl
 
 module _ (r : Result ℕ Refused) where
   D-counted : CountsExactly D date date 11 r → r ≡ Ok 2
-  D-counted h = h (first ∷ []) 0 0 D-follows D-asks ∙ ap (λ (n : ℕ). Ok n) D-objects
+  D-counted h = h (first ∷ []) 0 0 D-follows D-asks ∙ ap {B = Result ℕ Refused} Ok D-objects
 
   E-counted : CountsExactly E date date 11 r → r ≡ Ok 3
-  E-counted h = h (first ∷ second ∷ []) 0 0 E-follows E-asks ∙ ap (λ (n : ℕ). Ok n) E-objects
+  E-counted h = h (first ∷ second ∷ []) 0 0 E-follows E-asks ∙ ap {B = Result ℕ Refused} Ok E-objects
 
 module _ (out : List ℤ) (r : Result ℕ Refused) (o : List ℤ) where
   D-exactly : 2 ≤ length out → FillsExactly D date date 11 out r o → (r ≡ Ok 2) × (o ≡ pos 1 ∷ negsuc 0 ∷ drop 2 out)
   D-exactly fits h =
       let (a, _, b) = h (first ∷ []) 0 0 D-follows D-asks (rw D-objects fits) in
-      (a ∙ ap (λ (n : ℕ). Ok n) D-objects, b ∙ ap (λ (n : ℕ). column_of (first ∷ []) 0 0 ++ drop n out) D-objects ∙ ap (λ (c : List ℤ). c ++ drop 2 out) D-column)
+      (a ∙ ap {B = Result ℕ Refused} Ok D-objects, b ∙ ap (λ (n : ℕ). column_of (first ∷ []) 0 0 ++ drop n out) D-objects ∙ ap (λ (c : List ℤ). c ++ drop 2 out) D-column)
 
   E-exactly : 3 ≤ length out → FillsExactly E date date 11 out r o → (r ≡ Ok 3) × (o ≡ pos 1 ∷ negsuc 0 ∷ pos 256 ∷ drop 3 out)
   E-exactly fits h =
       let (a, _, b) = h (first ∷ second ∷ []) 0 0 E-follows E-asks (rw E-objects fits) in (
-        a ∙ ap (λ (n : ℕ). Ok n) E-objects,
+        a ∙ ap {B = Result ℕ Refused} Ok E-objects,
         b ∙ ap (λ (n : ℕ). column_of (first ∷ second ∷ []) 0 0 ++ drop n out) E-objects ∙ ap (λ (c : List ℤ). c ++ drop 3 out) E-column,
       )
 
@@ -142,7 +142,7 @@ module _ (out : List ℤ) (r : Result ℕ Refused) (o : List ℤ) where
 
 -- what a reader answers D and E is not the same
 two-is-not-three : {r : Result ℕ Refused} → r ≡ Ok 2 → r ≡ Ok 3 → ⊥
-two-is-not-three a b = let z : Ok 2 ≡ Ok 3 = sym a ∙ b in let y : ◌≡◌ {A = ℕ} 2 3 = cc z in omega arith
+two-is-not-three a b = let z : ◌≡◌ {A = Result ℕ Refused} (Ok 2) (Ok 3) = sym a ∙ b in let y : ◌≡◌ {A = ℕ} 2 3 = cc z in omega arith
 
 -- three numbers to write to
 abbrev noughts : List ℤ
@@ -188,14 +188,14 @@ module _ (reply : List ℕ → Result ℕ Refused) (exactly : (f : List ℕ) →
   pub refuses-everything : ((f : List ℕ) → (n : ℕ) × (reply f ≡ Err (record { number = n }))) → ⊥
   refuses-everything wrong =
       let (n, is) = wrong D in
-      let z : Ok 0 ≡ Err (record { number = n }) = sym D-accepted ∙ is in
+      let z : ◌≡◌ {A = Result ℕ Refused} (Ok 0) (Err (record { number = n })) = sym D-accepted ∙ is in
       let y : ◌≡◌ {A = ℕ} 0 1 = cc z in
       omega arith
 
   -- one that takes D and not D with its numbers in nine bytes, as the paper once said, refuses what says the same
   pub refuses-padded : (n : ℕ) → reply nines ≡ Err (record { number = n }) → ⊥
   refuses-padded n is =
-      let z : Ok 0 ≡ Err (record { number = n }) = sym ((exactly nines (follows-bytes nines (first ∷ []) nines-follow)).1 (first ∷ [], nines-follow)) ∙ is in
+      let z : ◌≡◌ {A = Result ℕ Refused} (Ok 0) (Err (record { number = n })) = sym ((exactly nines (follows-bytes nines (first ∷ []) nines-follow)).1 (first ∷ [], nines-follow)) ∙ is in
       let y : ◌≡◌ {A = ℕ} 0 1 = cc z in
       omega arith
 
@@ -226,7 +226,7 @@ module _ (reply : List ℕ → Result ℕ Refused) (exactly : (f : List ℕ) →
   pub refuses-to-count : ((f : List ℕ) → (n : ℕ) × (reply f ≡ Err (record { number = n }))) → ⊥
   refuses-to-count wrong =
       let (n, is) = wrong D in
-      let z : Ok 2 ≡ Err (record { number = n }) = sym (D-counted _ (exactly D)) ∙ is in
+      let z : ◌≡◌ {A = Result ℕ Refused} (Ok 2) (Err (record { number = n })) = sym (D-counted _ (exactly D)) ∙ is in
       let y : ◌≡◌ {A = ℕ} 0 1 = cc z in
       omega arith
 

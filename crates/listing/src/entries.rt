@@ -103,8 +103,7 @@ pub fn print_entries(
     let mut here = c.at;
     let mut last: u64 = 0;
     let mut p = at;
-    let mut rest = count;
-    while 0 < rest {
+    for _ in 0..count {
         let h = enter_any(file, Cursor { at: here }, work);
         let Topped::Got(top, c1) = h else {
             let read = Number::No(refused_top(h));
@@ -118,7 +117,6 @@ pub fn print_entries(
         };
         here = next.at;
         last = e;
-        rest -= 1;
     }
     Printed {
         read: Number::Got(last, Cursor { at: here }),

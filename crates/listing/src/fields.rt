@@ -26,14 +26,12 @@ fn past_ends(file: &[u8], c: Cursor, n: u64) -> Step
     ensures { PastAll n file.now c.at result }
 {
     let mut here = c;
-    let mut rest = n;
-    while 0 < rest {
+    for _ in 0..n {
         let a = here.v64(file);
         let Number::Got(_, next) = a else {
             return Step::No(refused(a));
         };
         here = next;
-        rest -= 1;
     }
     Step::Got(here)
 }
@@ -89,15 +87,13 @@ fn print_news(file: &[u8], c: Cursor, count: u64, out: &mut [u8], at: usize) -> 
 {
     let mut here = c;
     let mut p = at;
-    let mut rest = count;
-    while 0 < rest {
+    for _ in 0..count {
         let one = print_new(file, here, out, p);
         let Listed::Got(next, end) = one else {
             return one;
         };
         here = next;
         p = end;
-        rest -= 1;
     }
     Listed::Got(here, p)
 }

@@ -35,10 +35,8 @@ fn print_strings(file: &[u8], work: &[u32], from: u32, out: &mut [u8], at: usize
 {
     let n = strings(work);
     let mut p = at;
-    let mut i = from;
-    while i < n {
+    for i in from..n {
         p = put_part(file, string_at(work, i), out, p);
-        i += 1;
     }
     p
 }

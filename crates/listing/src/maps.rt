@@ -45,10 +45,8 @@ fn put_kinds(file: &[u8], c: Cursor, n: u64, out: &mut [u8], at: usize) -> usize
     ensures { Shown (λ s. repeat n v64) (commas decimal) file.now c.at out.old at out.new result }
 {
     let mut here = Behind { next: c, at };
-    let mut rest = n;
-    while 0 < rest {
+    for _ in 0..n {
         here = put_next_kind(file, here.next, out, here.at);
-        rest -= 1;
     }
     here.at
 }

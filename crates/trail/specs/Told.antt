@@ -50,7 +50,7 @@ module _ {f : List ℕ} {at : ℕ} {a : Outcome ℕ} (R : Read v64 1844674407370
   pub past-none : {u : Refusal} {b : Behind} → a ≡ Err u → Told v64 same f at b
   past-none is = told_none (λ v q h. not-got (sym (was-refused R is).says ∙ h))
 
-  pub past_one : {x : ℕ} {c : Cursor} → a ≡ Ok (x , c) → Told v64 same f at (record { value = x; at = c.at })
+  pub past_one : {x : ℕ} {c : Cursor} → a ≡ Ok (x, c) → Told v64 same f at (record { value = x; at = c.at })
   past_one is = record { value = λ v q h. cc (sym (was-got R is).says ∙ h); place = λ v q h. cc (sym (was-got R is).says ∙ h) }
 
 hold-got : {A : Type 0} (rs : List Rule) (p : ℕ) (a : A) (m : ℕ) (v : A) (e : ℕ) → hold rs p (got a m) ≡ got v e → (a ≡ v) × (m ≡ e) × (hold? rs ≡ true)
@@ -219,7 +219,7 @@ module _ {f : List ℕ} {at : ℕ} {b₁ : Behind} (P : Told v64 same f at b₁)
   pub new-no-kind : {e : Refusal} → k ≡ Err e → {r : NewField} → r.kind.first ≤ 32 → RowKept r.kind → NewTold f at r
   new-no-kind is row kept = record { row = row; kept = kept; told = λ t u g q h. not-got (ap out_kind (sym is) ∙ here (new-parts t u f at g q h)) }
 
-  module _ {row : KindRow} {c : Cursor} (is : k ≡ Ok (row , c)) {b₂ : Behind} (Q : Told v64 same f c.at b₂) {b₃ : Behind} (E : Told v64 same f b₂.at b₃) where
+  module _ {row : KindRow} {c : Cursor} (is : k ≡ Ok (row, c)) {b₂ : Behind} (Q : Told v64 same f c.at b₂) {b₃ : Behind} (E : Told v64 same f b₂.at b₃) where
     fits : row.first ≤ 32
     fits = rw is at K.told
 

@@ -90,18 +90,9 @@ pub fn string_at(file: &[u8], starts: [u32; 32], blocks: u32, n: u64) -> Span
     Span { start: 0, end: 0 }
 }
 
-// The same bytes. All are looked at, many at a time: names of one length are mostly equal where they are compared.
+// The same bytes.
 pub fn same_bytes(a: &[u8], b: &[u8]) -> bool
     ensures { result ≡ same a.now b.now }
 {
-    if a.len() != b.len() {
-        return false;
-    }
-    let mut alike = true;
-    for i in 0..a.len() {
-        if a[i] != b[i] {
-            alike = false;
-        }
-    }
-    alike
+    a == b
 }
