@@ -7,6 +7,8 @@ use Rattle.paper.specs.Numbers.{v64, number}
 use Rattle.paper.specs.Keeps.{hold?}
 use Rattle.laws.specs.Laws.{not-got, each-inv}
 use Rattle.lay.specs.Laid.{Laid}
+use Rattle.numbers.specs.declared.Cursor.{Cursor}
+use Rattle.numbers.specs.declared.Refusal.{Refusal}
 
 -- the words w are laid, and the cursor is at q
 abbrev pub StandsBy : List ℕ → ℕ → List ℕ → List ℕ → ℕ → Result (Cursor × ℕ) Refusal → Type 0

@@ -1,3 +1,4 @@
+use Rattle.numbers.specs.Cursors.{handed}
 use Rattle.std.proofs.Common.{arith, refl, ◌∙◌, ◌≡◌, ◌+◌, ◌-◌}
 use Rattle.lay.specs.Laid.{most}
 use Rattle.listing.specs.Fields.{news-start, news-no, news-on, news-done}
@@ -14,7 +15,7 @@ pub shape_of-out-in_err-next : goal.shape_of-out-in_err-next
 shape_of-out-in_err-next c = c.print_new.auto.out ∙ c.loop.invariant.long
 
 pub returns-in_err-next : goal.returns-in_err-next
-returns-in_err-next c = rw c.from_residual.ensures (news-no c.loop.invariant (omega arith) c.print_new.ensures c.in_err-next.was)
+returns-in_err-next c = rw (handed c.from_residual.ensures.1) (news-no c.loop.invariant (omega arith) c.print_new.ensures c.in_err-next.was)
 
 pub loop-preserved : goal.loop-preserved
 loop-preserved c =

@@ -9,4 +9,4 @@ pub returns-in_err-types : goal.returns-in_err-types
 returns-in_err-types c = rw (handed c.from_residual-in_err-types.ensures.1) (types-no-kind c.no_restrictions.ensures c.in_ok-kind.was c.v64.ensures c.in_err-types.was)
 
 pub returns : goal.returns
-returns c = types-read c.no_restrictions.ensures c.in_ok-kind.was c.v64.ensures c.in_ok-types.was c.v64.ensures
+returns c = types-read c.no_restrictions.ensures c.in_ok-kind.was c.v64.ensures c.in_ok-types.was c.v64-2.ensures

@@ -7,4 +7,4 @@ pub returns-in_default : goal.returns-in_default
 returns-in_default c = number-none c.v64-a.ensures (λ k. comma ∷ decimal k) c.in_default.is
 
 pub returns : goal.returns
-returns c = number-shows c.v64-a.ensures (λ k. comma ∷ decimal k) c.in-Got.is c.put_map_kind-end.ensures
+returns c = number-shows c.v64-a.ensures (λ k. comma ∷ decimal k) c.in-Ok.is c.put_map_kind-end.ensures
