@@ -4,9 +4,3 @@ use Rattle.lookups.proofs.ranges.gather_known.Goals as goal
 
 pub returns-in-Whole : goal.returns-in-Whole
 returns-in-Whole c = gathered-whole (c.pool_of-pool.ensures _ c.in-Whole.is) c.put_range.ensures
-
-pub returns-in-Some : goal.returns-in-Some
-returns-in-Some c = found_all c.gather_linked.ensures c.in-Some.is
-
-pub returns : goal.returns
-returns c = gathered-again c.gather_linked.ensures c.gather_each.ensures

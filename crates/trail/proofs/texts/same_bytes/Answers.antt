@@ -6,9 +6,6 @@ use Rattle.trail.proofs.texts.same_bytes.Goals.{then-a-i, else-a-i}
 pub returns-then-a-b : goal.returns-then-a-b
 returns-then-a-b c = bytes-long _ _ (λ e. c.if-a-b.true (omega arith))
 
-pub loop-i-init : goal.loop-i-init
-loop-i-init c = (zero-le, omega arith, bytes-start _ _)
-
 pub loop-i-preserved : goal.loop-i-preserved
 loop-i-preserved c = let l = c.loop-i in
     elim c.if-a-i.branch [
