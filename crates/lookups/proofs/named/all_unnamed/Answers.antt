@@ -1,4 +1,4 @@
-use Rattle.std.proofs.Common.{arith, refl, sym, ◌∙◌}
+use Rattle.std.proofs.Common.{arith, sym, ◌∙◌}
 use borrow.Author.Tests.{not-true}
 use Rattle.table.specs.View.{flds_of}
 use Rattle.table.specs.Loops.{all_here, all-on, all_end}

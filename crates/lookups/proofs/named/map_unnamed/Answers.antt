@@ -1,5 +1,4 @@
-use Rattle.std.proofs.Common.{arith, ◌-◌, ◌+◌, ◌≡◌}
-use Rattle.lookups.specs.Bytes.{asked-start}
+use Rattle.std.proofs.Common.{arith}
 use Rattle.lookups.specs.Named.{map-none, map-out, map_on, map_first}
 use Rattle.lookups.proofs.named.map_unnamed.Goals as goal
 

@@ -1,5 +1,5 @@
 -- `lookups::named::pool_of` meets its contract. Assumes nothing.
-use Rattle.std.proofs.Common.{arith, sym, ◌∙◌}
+use Rattle.std.proofs.Common.{arith}
 use Rattle.lookups.specs.Named.{pool-none, pool-some}
 use Rattle.lookups.proofs.named.pool_of.Goals as goal
 

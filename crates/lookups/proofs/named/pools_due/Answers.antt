@@ -1,6 +1,5 @@
 -- `lookups::named::pools_due` meets its contract. Assumes nothing.
-use Rattle.std.proofs.Common.{refl, sym, ◌∙◌}
-use Rattle.lookups.specs.Named.{due-some, due-none}
+use Rattle.lookups.specs.Named.{due-some}
 use Rattle.lookups.proofs.named.pools_due.Goals as goal
 
 pub returns-clause-pools_due : goal.returns-clause-pools_due

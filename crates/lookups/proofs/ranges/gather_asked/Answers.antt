@@ -1,8 +1,6 @@
 -- `lookups::ranges::gather_asked` meets its contract. Assumes nothing.
 use Rattle.std.proofs.Common.{sym, ◌∙◌}
-use borrow.Author.Tests.{not-true}
-use Rattle.table.specs.View.{log_of}
-use Rattle.lookups.specs.Group.{are-asked, not-asked}
+use Rattle.lookups.specs.Group.{are-asked}
 use Rattle.lookups.proofs.ranges.gather_asked.Goals as goal
 
 pub returns : goal.returns

@@ -1,7 +1,7 @@
 -- The invariant: the ranges from the i-th on were gathered. Assumes nothing.
 use Rattle.std.proofs.Common.{arith, ◌-◌}
 use Rattle.table.specs.View.{log_of}
-use Rattle.lookups.specs.Gather.{gathering-start, gathering-passed, gathering-taken, gather-room, gathered, end_fits}
+use Rattle.lookups.specs.Gather.{gathering-start, gathering-passed, gathering-taken, gather-room, end_fits}
 use Rattle.lookups.proofs.ranges.gather_each.Goals as goal
 
 pub loop-i-init : goal.loop-i-init

@@ -1,5 +1,5 @@
 -- `lookups::ranges::gather_known` meets its contract. Assumes nothing.
-use Rattle.lookups.specs.Gather.{gathered-whole, found_all, gathered-again}
+use Rattle.lookups.specs.Gather.{gathered-whole}
 use Rattle.lookups.proofs.ranges.gather_known.Goals as goal
 
 pub returns-in-Whole : goal.returns-in-Whole

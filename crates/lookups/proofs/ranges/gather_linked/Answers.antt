@@ -2,7 +2,7 @@
 -- nothing.
 use Rattle.std.proofs.Common.{arith, sym, ◌∙◌}
 use Rattle.table.specs.View.{log_of}
-use Rattle.lookups.specs.Gather.{linking-start, linking-on, link-room, sum_fits, linked-all, not_known, all_found, end_fits}
+use Rattle.lookups.specs.Gather.{linking-start, linking-on, link-room, linked-all, all_found, end_fits}
 use Rattle.lookups.proofs.ranges.gather_linked.Goals as goal
 
 pub loop-sum-init : goal.loop-sum-init

@@ -1,5 +1,5 @@
 -- The invariant: the ranges of the types from t on stand where they belong. Assumes nothing.
-use Rattle.std.proofs.Common.{arith, sym, ◌∙◌, ◌-◌}
+use Rattle.std.proofs.Common.{arith, ◌-◌}
 use Rattle.lookups.specs.Group.{group-start, group-room, group-on, group-done}
 use Rattle.lookups.proofs.ranges.group.Goals as goal
 

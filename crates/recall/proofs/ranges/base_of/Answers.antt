@@ -1,4 +1,3 @@
-use Rattle.std.proofs.Common.{arith}
 use Rattle.recall.specs.Sums.{base-own, base_above}
 use Rattle.recall.proofs.ranges.base_of.Goals as goal
 

@@ -1,4 +1,4 @@
-use Rattle.std.proofs.Common.{arith, sym, ◌∙◌}
+use Rattle.std.proofs.Common.{arith}
 use Rattle.recall.specs.Groups.{group-done}
 use Rattle.recall.proofs.ranges.group.Goals as goal
 

@@ -1,6 +1,6 @@
 -- The invariant: the first t types have their places. Assumes nothing.
 use Rattle.std.proofs.Common.{arith, sym, ◌∙◌}
-use Rattle.recall.specs.Groups.{plan-start, plan-room, plan-asked, plan-passed, plan-done}
+use Rattle.recall.specs.Groups.{plan-start, plan-room, plan-asked, plan-passed}
 use Rattle.recall.proofs.ranges.plan.Goals as goal
 use Rattle.recall.proofs.ranges.plan.Goals.{then-asked, else-asked}
 

@@ -1,5 +1,5 @@
 use Rattle.std.proofs.Common.{arith, refl}
-use Rattle.recall.specs.Names.{pool-unknown, pool-far, pool-below, pool-base}
+use Rattle.recall.specs.Names.{pool-unknown, pool-below, pool-base}
 use Rattle.recall.proofs.ranges.pool_of.Goals as goal
 
 pub returns-then-t-typ : goal.returns-then-t-typ

@@ -1,6 +1,6 @@
 -- The invariant: the first i strings. Assumes nothing.
-use Rattle.std.proofs.Common.{arith, refl, sym, ◌∙◌}
-use Rattle.recall.specs.Names.{pools-begin, pools-full, pools-next, pools-done}
+use Rattle.std.proofs.Common.{refl}
+use Rattle.recall.specs.Names.{pools-begin, pools-full, pools-done}
 use Rattle.recall.proofs.ranges.pools.Goals as goal
 
 pub loop-i-init : goal.loop-i-init

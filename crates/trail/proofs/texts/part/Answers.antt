@@ -1,5 +1,5 @@
 use Rattle.std.proofs.Common.{arith}
-use Rattle.trail.specs.Texts.{part-not, part-got}
+use Rattle.trail.specs.Texts.{part-got}
 use Rattle.trail.proofs.texts.part.Goals as goal
 
 pub returns : goal.returns

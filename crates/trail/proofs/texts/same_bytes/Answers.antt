@@ -1,5 +1,5 @@
-use Rattle.std.proofs.Common.{arith, zero-le}
-use Rattle.trail.specs.Texts.{bytes-long, bytes-start, bytes-differ, bytes-alike, bytes-end}
+use Rattle.std.proofs.Common.{arith}
+use Rattle.trail.specs.Texts.{bytes-long, bytes-differ, bytes-alike, bytes-end}
 use Rattle.trail.proofs.texts.same_bytes.Goals as goal
 use Rattle.trail.proofs.texts.same_bytes.Goals.{then-a-i, else-a-i}
 

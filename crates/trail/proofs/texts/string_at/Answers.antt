@@ -1,5 +1,5 @@
-use Rattle.std.proofs.Common.{rules, arith}
-use Rattle.trail.specs.Texts.{text-zero, seek-start, seek-end, seek-full, seek-on, seek_found}
+use Rattle.std.proofs.Common.{arith}
+use Rattle.trail.specs.Texts.{seek-on, seek_found}
 use Rattle.trail.proofs.texts.string_at.Goals as goal
 
 pub returns-then-k-c : goal.returns-then-k-c

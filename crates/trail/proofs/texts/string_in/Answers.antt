@@ -1,5 +1,4 @@
-use Rattle.std.proofs.Common.{arith}
-use Rattle.trail.specs.Texts.{in-none, in-first, in-later}
+use Rattle.trail.specs.Texts.{in-first, in-later}
 use Rattle.trail.proofs.texts.string_in.Goals as goal
 
 pub returns-then-k-eq0 : goal.returns-then-k-eq0

@@ -1,5 +1,5 @@
-use Rattle.std.proofs.Common.{rules, arith}
-use Rattle.trail.specs.Types.{find-start, find-over, find-end, find-found, find-on, find-there}
+use Rattle.std.proofs.Common.{arith}
+use Rattle.trail.specs.Types.{find-end, find-found, find-on, find-there}
 use Rattle.trail.proofs.trail.find.Goals as goal
 
 pub returns-then-there-n : goal.returns-then-there-n

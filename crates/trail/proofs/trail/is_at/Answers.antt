@@ -1,5 +1,4 @@
-use Rattle.std.proofs.Common.{arith}
-use Rattle.trail.specs.Types.{not_at, at_same, at_place}
+use Rattle.trail.specs.Types.{at_place}
 use Rattle.trail.proofs.trail.is_at.Goals as goal
 
 pub returns-then-b-to : goal.returns-then-b-to

@@ -1,5 +1,5 @@
 use Rattle.std.proofs.Common.{arith}
-use Rattle.trail.specs.Heads.{super-known, super-far, super-none, super-got, super-over}
+use Rattle.trail.specs.Heads.{super-known, super-none, super-got, super-over}
 use Rattle.trail.proofs.trail.past_super.Goals as goal
 
 pub returns-then-typ-t : goal.returns-then-typ-t

@@ -1,4 +1,4 @@
-use Rattle.trail.specs.Stages.{walk_start, walk-on, walk-done}
+use Rattle.trail.specs.Stages.{walk-on, walk-done}
 use Rattle.trail.proofs.trail.walk.Goals as goal
 
 pub loop-preserved : goal.loop-preserved
