@@ -15,7 +15,7 @@ use Rattle.paper.specs.Lists.{any, total}
 use Rattle.paper.specs.Ledger.{Range, of?, size, holds?}
 use Rattle.table.specs.Answers.{no_range}
 use Rattle.table.specs.ToldLaws.{joined}
-use Rattle.table.specs.Loops.{any-on, any-end, total-on}
+use Rattle.table.specs.Loops.{any-on, any-end, total_here}
 use Rattle.values.specs.Items.{in_ranges}
 use Rattle.lookups.specs.Low.{Low, low-at, count_of, Bounded}
 
@@ -183,17 +183,17 @@ module _ (log : List Range) (i : ℕ) (lt : i < length log) {x : Range} (is : x 
   end_fits low few = let (a, b) = low-at 0 log no_range i low lt in rw is (omega arith)
 
   module _ {t : ℕ} (same : x.type ≡ t) where
+    its_type : true ≡ of? t x
+    unfolding of?
+    its_type = rw (eq-eqb x.type t same)
+
     one_more : count_of t (drop i log) ≡ 1 + count_of t (drop (i + 1) log)
-    unfolding count_of of? total when◌then◌else◌
-    one_more =
-        let one : total (of? t) (λ r. 1) (x ∷ []) ≡ 1 = rw (eq-eqb x.type t same) in
-        omega (arith, total-on (of? t) log i no_range lt is (λ r. 1), one)
+    unfolding count_of
+    one_more = total_here (of? t) log i no_range lt is its_type (λ r. 1) refl
 
     its-objects : total (of? t) size (drop i log) ≡ x.count + total (of? t) size (drop (i + 1) log)
-    unfolding of? size total when◌then◌else◌
-    its-objects =
-        let one : total (of? t) size (x ∷ []) ≡ x.count + 0 = rw (eq-eqb x.type t same) in
-        omega (arith, total-on (of? t) log i no_range lt is size, one)
+    unfolding size
+    its-objects = total_here (of? t) log i no_range lt is its_type size refl
 
     its_own : (n : ℕ) → any (holds? t n) (drop i log) ≡ ((leb (x.first + 1) n && leb n (x.first + x.count)) || any (holds? t n) (drop (i + 1) log))
     unfolding any holds? of?

@@ -6,7 +6,7 @@ ghost use Rattle.lookups.specs.Low.{Bounded};
 ghost use Rattle.lookups.specs.Gather.{RangePut, GatheredTo, MaybeGathered};
 ghost use Rattle.lookups.specs.Group.{refers?, asked?, GatheredAsked, AllGrouped};
 
-use table::ranges::{Pool, objects_of, pool_of, tally_at};
+use table::ranges::{objects_of, pool_of, tally_at};
 use table::rows::{link_at, range_at, ranges};
 
 // The range of the objects behind number `begin` up to number `end`, before those that stand from k up to a place: where it
@@ -93,7 +93,7 @@ fn gather_known(work: &[u32], t: u32, first: &mut [u32], last: &mut [u32], to: u
     ensures { GatheredTo t (log_of work.now) to first.old last.old first.new last.new result }
 {
     let pool = pool_of(work, t);
-    if let Pool::Whole(n) = pool {
+    if let Some(n) = pool {
         return put_range(first, last, to, to, 0, n);
     }
     if let Some(k) = gather_linked(work, t, first, last, to) {

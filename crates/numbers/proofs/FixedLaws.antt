@@ -12,7 +12,8 @@ use borrow.Author.Tests.{le-leb, lt-leb}
 use Rattle.paper.specs.Reader.{got, when◌then◌else◌, bytes, ◌>>=◌, give}
 use Rattle.paper.specs.Numbers.{high_first, fixed}
 use Rattle.numbers.specs.Cursors.{Read, answer-got, answer-no}
-use Rattle.numbers.specs.declared.Number.TheVariants.{Got, No}
+use Rattle.std.specs.Prelude.{Ok, Err}
+use Rattle.numbers.specs.declared.Fault.TheVariants.{Short}
 
 pub high-first-more : (bs : List ℕ) (b : ℕ) → high_first (bs ++ (b ∷ [])) ≡ high_first bs * 256 + b
 unfolding high_first
@@ -31,7 +32,7 @@ sum-none f at width = record { count = omega arith; value = refl; below = omega 
 
 pub too_short :
     (f : List ℕ) (at width : ℕ) → length f < at + width
-    → Read (fixed width) (256 ^ width) f at (No (record { number = 1; place = at }))
+    → Read (fixed width) (256 ^ width) f at (Err (record { fault = Short; place = at }))
 unfolding fixed bytes ◌>>=◌ give when◌then◌else◌
 too_short f at width h = answer-no (rw (lt-leb (at + width) (length f) h)) (one-le-pow width 256 (lit< tt))
 
@@ -54,7 +55,7 @@ module _ {f : List ℕ} {at width x i : ℕ} (S : Summed f at width x i) (room :
       let below = S.below in
       omega (arith, pow-le-pow_right {n = 256} (lit< tt) {i = i} {j = 7} (omega arith))
 
-  pub sum-whole : width ≤ i → Read (fixed width) (256 ^ width) f at (Got x (record { at = at + width }))
+  pub sum-whole : width ≤ i → Read (fixed width) (256 ^ width) f at (Ok (x, (record { at = at + width })))
   unfolding fixed bytes ◌>>=◌ give when◌then◌else◌
   sum-whole h =
       let all : i ≡ width = omega (arith, S.count) in

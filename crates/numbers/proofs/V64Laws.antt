@@ -13,7 +13,8 @@ use Rattle.paper.specs.Numbers.{fixed, coding, low_first, v64}
 use Rattle.numbers.specs.Begun.{Begun, Ended, one_byte}
 use Rattle.numbers.specs.Turned.{TakenV64}
 use Rattle.numbers.specs.Cursors.{Read, answer-got, answer-no}
-use Rattle.numbers.specs.declared.Number.TheVariants.{Got, No}
+use Rattle.std.specs.Prelude.{Ok, Err}
+use Rattle.numbers.specs.declared.Fault.TheVariants.{Short}
 
 -- ── one byte ──
 
@@ -98,12 +99,12 @@ with_first at b (no n p) h = refl
 
 -- ── the first byte ──
 
-pub none-there : (f : List ℕ) (at : ℕ) → length f ≤ at → Read v64 (2 ^ 64) f at (No (record { number = 1; place = at }))
+pub none-there : (f : List ℕ) (at : ℕ) → length f ≤ at → Read v64 (2 ^ 64) f at (Err (record { fault = Short; place = at }))
 none-there f at h = answer-no (v64-held f at ∙ rw (cut f at 8 h)) (lit< tt)
 
 pub one-there :
     (f : List ℕ) (at b : ℕ) → at < length f → b ≡ get_or f at 0 → b < 128
-    → Read v64 (2 ^ 64) f at (Got b (record { at = at + 1 }))
+    → Read v64 (2 ^ 64) f at (Ok (b, (record { at = at + 1 })))
 unfolding low_first
 one-there f at b room is h =
     answer-got (v64-held f at ∙ rw (last f at 8 room (λ i. rw (sym is) h), sym is)) (omega arith) (omega arith)
@@ -142,7 +143,7 @@ module _ {f : List ℕ} {at x w p left : ℕ} (R : Reading f at x w p left) wher
       let m = mul-le-mul_left {m = b} {n = 255} w (omega arith) in
       (omega arith, omega arith, omega arith)
 
-  pub reading-cut : length f ≤ p → Read v64 (2 ^ 64) f at (No (record { number = 1; place = at }))
+  pub reading-cut : length f ≤ p → Read v64 (2 ^ 64) f at (Err (record { fault = Short; place = at }))
   unfolding finish
   reading-cut h = answer-no (R.means ∙ rw (cut f p left h)) (lit< tt)
 
@@ -152,7 +153,7 @@ module _ {f : List ℕ} {at x w p left : ℕ} (R : Reading f at x w p left) wher
 
     pub reading-last :
         (y : ℕ) → y ≡ x + w * b → (0 < left → b < 128) → b < 256
-        → Read v64 (2 ^ 64) f at (Got y (record { at = p + 1 }))
+        → Read v64 (2 ^ 64) f at (Ok (y, (record { at = p + 1 })))
     unfolding finish low_first
     reading-last y sum h small = rw sum (answer-got (stops h) (omega arith) (fits b small).1)
 
@@ -177,7 +178,7 @@ module _ {f : List ℕ} {at x w p left : ℕ} (R : Reading f at x w p left) wher
 -- the last byte is the second
 pub two-read :
     (f : List ℕ) (at a b : ℕ) → at + 1 < length f → a ≡ get_or f at 0 → b ≡ get_or f (at + 1) 0 → 128 ≤ a → a < 256 → b < 128
-    → Read v64 (2 ^ 64) f at (Got (a - 128 + 128 * b) (record { at = at + 2 }))
+    → Read v64 (2 ^ 64) f at (Ok ((a - 128 + 128 * b), (record { at = at + 2 })))
 two-read f at a b room first second on small last =
     let end : at + 1 + 1 ≡ at + 2 = omega arith in
     let B : Begun f at (a - 128) = record { room = omega arith; byte = omega arith; small = omega arith } in
@@ -186,7 +187,7 @@ two-read f at a b room first second on small last =
 -- and the third
 pub three-read :
     (f : List ℕ) (at a b c : ℕ) → at + 2 < length f → a ≡ get_or f at 0 → b ≡ get_or f (at + 1) 0 → c ≡ get_or f (at + 2) 0 → 128 ≤ a → a < 256 → 128 ≤ b → b < 256 → c < 128
-    → Read v64 (2 ^ 64) f at (Got (a - 128 + 128 * (b - 128 + 128 * c)) (record { at = at + 3 }))
+    → Read v64 (2 ^ 64) f at (Ok ((a - 128 + 128 * (b - 128 + 128 * c)), (record { at = at + 3 })))
 three-read f at a b c room first second third on small more-on b-small end-byte =
     let place : at + 2 ≡ at + 1 + 1 = omega arith in
     let end : at + 1 + 1 + 1 ≡ at + 3 = omega arith in
@@ -265,7 +266,7 @@ module _ (f : List ℕ) (p : ℕ) where
 
 -- ── taken, by a look at each of the first three bytes ──
 
-taken-read : {f : List ℕ} {at x n : ℕ} → Read v64 (2 ^ 64) f at (Got x (record { at = at + n })) → 0 < n → n ≤ 9 → TakenV64 f at (record { number = x; next = record { at = at + n } })
+taken-read : {f : List ℕ} {at x n : ℕ} → Read v64 (2 ^ 64) f at (Ok (x, (record { at = at + n }))) → 0 < n → n ≤ 9 → TakenV64 f at (record { number = x; next = record { at = at + n } })
 taken-read R h k = record { says = sym R.says; on = omega arith; most = omega arith; below = R.below }
 
 module _ {f : List ℕ} {at : ℕ} (room : at + 9 ≤ length f) (a : ℕ) (a-is : a ≡ get_or f at 0) where

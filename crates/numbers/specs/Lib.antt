@@ -1,4 +1,5 @@
 pub mod Cursors
+pub mod Faults
 pub mod Begun
 pub mod Turned
 pub mod Words

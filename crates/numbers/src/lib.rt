@@ -7,7 +7,8 @@ pub mod write;
 ghost use Rattle.std.specs.Prelude.{◌≡◌, ◌+◌, ◌^◌, ◌%◌, ◌≤◌, ◌<◌, length, take, drop};
 ghost use Rattle.paper.specs.Numbers.{fixed, v64};
 ghost use Rattle.paper.specs.File.{small};
-ghost use Rattle.numbers.specs.Cursors.{Read, Past, refusal_of, no_step, step_of};
+ghost use Rattle.numbers.specs.Faults.{number_of};
+ghost use Rattle.numbers.specs.Cursors.{Read, Past};
 ghost use Rattle.numbers.specs.Begun.{Begun, Ended};
 ghost use Rattle.numbers.specs.Turned.{low_bytes, Turned, TakenAt, TakenV64};
 ghost use Rattle.numbers.specs.Words.{marks, septets, Ran};
@@ -20,31 +21,63 @@ pub struct Cursor {
     pub at: usize,
 }
 
-// A refusal: its number, and the place where what broke the rule began.
+// What is wrong with a file, by the names that the refusals have. `Padded` is given nowhere any more, and `Loop` never was.
+#[derive(Clone, Copy)]
+pub enum Fault {
+    Short,
+    Padded,
+    Limit,
+    Ends,
+    Name,
+    Twice,
+    Super,
+    Loop,
+    Restriction,
+    Kind,
+    Fields,
+    Chunk,
+    Value,
+    Reference,
+    Range,
+}
+
+// The number of a refusal.
+impl From<Fault> for u64 {
+    ghost from_gives = { λ f n. n ≡ number_of f };
+
+    fn from(f: Fault) -> u64 {
+        match f {
+            Fault::Short => 1,
+            Fault::Padded => 2,
+            Fault::Limit => 3,
+            Fault::Ends => 4,
+            Fault::Name => 5,
+            Fault::Twice => 6,
+            Fault::Super => 7,
+            Fault::Loop => 8,
+            Fault::Restriction => 9,
+            Fault::Kind => 10,
+            Fault::Fields => 11,
+            Fault::Chunk => 12,
+            Fault::Value => 13,
+            Fault::Reference => 14,
+            Fault::Range => 21,
+        }
+    }
+}
+
+// A refusal: what is wrong, and the place where what broke the rule began.
 #[derive(Clone, Copy)]
 pub struct Refusal {
-    pub number: u64,
+    pub fault: Fault,
     pub place: usize,
 }
 
-impl Refusal {
-    // The bytes end within a number.
-    pub const SHORT: u64 = 1;
-}
+// What was read, with the cursor behind it, or the refusal.
+pub type Outcome<T> = Result<(T, Cursor), Refusal>;
 
-// A number that was read, with the cursor behind it, or the refusal.
-#[derive(Clone, Copy)]
-pub enum Number {
-    Got(u64, Cursor),
-    No(Refusal),
-}
-
-// The cursor behind what was read, or the refusal.
-#[derive(Clone, Copy)]
-pub enum Step {
-    Got(Cursor),
-    No(Refusal),
-}
+// The cursor behind what was passed over, or the refusal.
+pub type Step = Result<Cursor, Refusal>;
 
 // A number that is known to be there, with the cursor behind it.
 #[derive(Clone, Copy)]
@@ -60,35 +93,10 @@ pub struct Run {
     pub next: Cursor,
 }
 
-// The refusals of answers that are one. An answer that is none has number 0, which no rule has.
-pub fn refused(n: Number) -> Refusal
-    ensures { result ≡ refusal_of n }
+fn refuse(fault: Fault, place: usize) -> Outcome<u64>
+    ensures { result ≡ Err (record { fault = fault; place = place }) }
 {
-    match n {
-        Number::Got(_, c) => Refusal {
-            number: 0,
-            place: c.at,
-        },
-        Number::No(r) => r,
-    }
-}
-
-pub fn refused_step(s: Step) -> Refusal
-    ensures { result ≡ no_step s }
-{
-    match s {
-        Step::Got(c) => Refusal {
-            number: 0,
-            place: c.at,
-        },
-        Step::No(r) => r,
-    }
-}
-
-fn refuse(number: u64, place: usize) -> Number
-    ensures { result ≡ Number.No (record { number = number; place = place }) }
-{
-    Number::No(Refusal { number, place })
+    Err(Refusal { fault, place })
 }
 
 // A byte as a number. Its bound, said once, spares each reader a fact.
@@ -99,15 +107,15 @@ fn wide(b: u8) -> u64
 }
 
 // `width` bytes, highest first.
-fn fixed_at(s: &[u8], at: usize, width: usize) -> Number
+fn fixed_at(s: &[u8], at: usize, width: usize) -> Outcome<u64>
     requires { width ≤ 8 }
     ensures { Read (fixed width) (256 ^ width) s.now at result }
 {
     if s.len() < at {
-        return refuse(Refusal::SHORT, at);
+        return refuse(Fault::Short, at);
     }
     if s.len() - at < width {
-        return refuse(Refusal::SHORT, at);
+        return refuse(Fault::Short, at);
     }
     let mut x: u64 = 0;
     let mut i: usize = 0;
@@ -116,17 +124,17 @@ fn fixed_at(s: &[u8], at: usize, width: usize) -> Number
         x = x * 256 + b;
         i += 1;
     }
-    Number::Got(x, Cursor { at: at + width })
+    Ok((x, Cursor { at: at + width }))
 }
 
-// `width` bytes that are there, lowest first. Only so does the compiler make one load of them.
-fn low_first(s: &[u8], at: usize, width: usize) -> u64
-    requires { (width ≤ 8) × (at + width ≤ length s.now) }
-    ensures { result ≡ low_bytes (take width (drop at s.now)) }
+// `WIDTH` bytes that are there, lowest first. Only so does the compiler make one load of them.
+fn low_first<const WIDTH: usize>(s: &[u8], at: usize) -> u64
+    requires { (WIDTH ≤ 8) × (at + WIDTH ≤ length s.now) }
+    ensures { result ≡ low_bytes (take WIDTH (drop at s.now)) }
 {
     let mut x: u64 = 0;
     let mut i: usize = 0;
-    while i < width {
+    while i < WIDTH {
         let b = wide(s[at + i]);
         x += b << (8 * i);
         i += 1;
@@ -134,39 +142,21 @@ fn low_first(s: &[u8], at: usize, width: usize) -> u64
     x
 }
 
-// The lowest `width` bytes of x the other way round.
-fn turned(x: u64, width: u64) -> u64
-    requires { width ≤ 8 }
-    ensures { Turned width x result }
+// The lowest `WIDTH` bytes of x the other way round. Where the width is known, the compiler knows this for one instruction, before it
+// meets the bytes that are turned.
+fn turned<const WIDTH: usize>(x: u64) -> u64
+    requires { WIDTH ≤ 8 }
+    ensures { Turned WIDTH x result }
 {
     let mut y: u64 = 0;
     let mut rest = x;
-    let mut i: u64 = 0;
-    while i < width {
+    let mut i: usize = 0;
+    while i < WIDTH {
         y = y * 256 + rest % 256;
         rest /= 256;
         i += 1;
     }
     y
-}
-
-// Each width by itself: the compiler then knows the turning for one instruction, before it meets the bytes that are turned.
-fn turned2(x: u64) -> u64
-    ensures { Turned 2 x result }
-{
-    turned(x, 2)
-}
-
-fn turned4(x: u64) -> u64
-    ensures { Turned 4 x result }
-{
-    turned(x, 4)
-}
-
-fn turned8(x: u64) -> u64
-    ensures { Turned 8 x result }
-{
-    turned(x, 8)
 }
 
 // Which of the eight bytes of x end a v64: those without their top bit, which is set here.
@@ -179,7 +169,7 @@ fn ends(x: u64) -> u64
 
 // The v64 that begins at `at` with a byte that another follows, and whose low seven bits are `low`: its other bytes. Each
 // but the ninth has seven bits; a coding may be longer than its number needs.
-fn v64_on(s: &[u8], at: usize, low: u64) -> Number
+fn v64_on(s: &[u8], at: usize, low: u64) -> Outcome<u64>
     requires { Begun s.now at low }
     ensures { Read v64 (2 ^ 64) s.now at result }
 {
@@ -189,14 +179,14 @@ fn v64_on(s: &[u8], at: usize, low: u64) -> Number
     let mut left: u64 = 7;
     while 0 < left {
         if s.len() <= p {
-            return refuse(Refusal::SHORT, at);
+            return refuse(Fault::Short, at);
         }
         let b = wide(s[p]);
         p += 1;
         if b < 128 {
             let high = weight * b;
             let sum = x + high;
-            return Number::Got(sum, Cursor { at: p });
+            return Ok((sum, Cursor { at: p }));
         }
         let part = weight * (b - 128);
         x += part;
@@ -204,23 +194,13 @@ fn v64_on(s: &[u8], at: usize, low: u64) -> Number
         left -= 1;
     }
     if s.len() <= p {
-        return refuse(Refusal::SHORT, at);
+        return refuse(Fault::Short, at);
     }
     let b = wide(s[p]);
     let next = p + 1;
     let top = weight * b;
     let sum = x + top;
-    Number::Got(sum, Cursor { at: next })
-}
-
-// A number passed over.
-fn passed(n: Number) -> Step
-    ensures { result ≡ step_of n }
-{
-    match n {
-        Number::Got(_, next) => Step::Got(next),
-        Number::No(r) => Step::No(r),
-    }
+    Ok((sum, Cursor { at: next }))
 }
 
 // The lowest seven bits of each of the eight bytes of x, side by side: joined in twos, then in fours, then all eight. The twos are a
@@ -249,7 +229,7 @@ fn long_v64(s: &[u8], at: usize) -> Taken
     requires { at + 9 ≤ length s.now }
     ensures { TakenV64 s.now at result }
 {
-    let x = low_first(s, at, 8);
+    let x = low_first::<8>(s, at);
     let marked = ends(x);
     if marked == 0 {
         let ninth = wide(s[at + 8]) << 56;
@@ -272,27 +252,27 @@ fn long_v64(s: &[u8], at: usize) -> Taken
 impl Cursor {
     // One byte to three are the cases to be fast in: no string or object of a file has a larger number. The way on from there is a
     // call, which hands its answer over in memory.
-    pub fn v64(self, s: &[u8]) -> Number
+    pub fn v64(self, s: &[u8]) -> Outcome<u64>
         ensures { Read v64 (2 ^ 64) s.now self.at result }
     {
         let at = self.at;
         if s.len() <= at {
-            return refuse(Refusal::SHORT, at);
+            return refuse(Fault::Short, at);
         }
         let b = wide(s[at]);
         if b < 128 {
-            return Number::Got(b, Cursor { at: at + 1 });
+            return Ok((b, Cursor { at: at + 1 }));
         }
         let low = b - 128;
         if 2 < s.len() - at {
             let second = wide(s[at + 1]);
             if second < 128 {
-                return Number::Got(low + 128 * second, Cursor { at: at + 2 });
+                return Ok((low + 128 * second, Cursor { at: at + 2 }));
             }
             let third = wide(s[at + 2]);
             if third < 128 {
                 let high = second - 128 + 128 * third;
-                return Number::Got(low + 128 * high, Cursor { at: at + 3 });
+                return Ok((low + 128 * high, Cursor { at: at + 3 }));
             }
         }
         v64_on(s, at, low)
@@ -305,7 +285,7 @@ impl Cursor {
         ensures { Ended s.now self.at result.at × (result.at ≤ self.at + 9) }
     {
         let at = self.at;
-        let marked = ends(low_first(s, at, 8));
+        let marked = ends(low_first::<8>(s, at));
         let bit = u64::trailing_zeros(marked);
         Cursor {
             at: at + ((bit / 8) as usize) + 1,
@@ -319,19 +299,20 @@ impl Cursor {
     {
         let at = self.at;
         if s.len() <= at {
-            return Step::No(Refusal {
-                number: Refusal::SHORT,
+            return Err(Refusal {
+                fault: Fault::Short,
                 place: at,
             });
         }
         let b = wide(s[at]);
         if b < 128 {
-            return Step::Got(Cursor { at: at + 1 });
+            return Ok(Cursor { at: at + 1 });
         }
         if s.len() - at < 9 {
-            return passed(v64_on(s, at, b - 128));
+            let (_, next) = v64_on(s, at, b - 128)?;
+            return Ok(next);
         }
-        Step::Got(self.pass_v64(s))
+        Ok(self.pass_v64(s))
     }
 
     // Past all v64s that end in the next eight bytes, where a ninth is there, or past the one that has all nine. What is counted is where they
@@ -341,7 +322,7 @@ impl Cursor {
         ensures { Ran s.now self.at result }
     {
         let at = self.at;
-        let marked = ends(low_first(s, at, 8));
+        let marked = ends(low_first::<8>(s, at));
         if marked == 0 {
             let next = Cursor { at: at + 9 };
             return Run { count: 1, next };
@@ -355,81 +336,32 @@ impl Cursor {
     }
 
     // A count, local start or length, which is held to the bound of objects.
-    pub fn small(self, s: &[u8]) -> Number
+    pub fn small(self, s: &[u8]) -> Outcome<u64>
         ensures { Read small 65536 s.now self.at result }
     {
-        let a = self.v64(s);
-        let Number::Got(n, next) = a else {
-            return a;
-        };
+        let (n, next) = self.v64(s)?;
         if !Ledger::is_small(n) {
-            return refuse(3, self.at);
+            return refuse(Fault::Limit, self.at);
         }
-        Number::Got(n, next)
+        Ok((n, next))
     }
 
-    pub fn be1(self, s: &[u8]) -> Number
-        ensures { Read (fixed 1) (256 ^ 1) s.now self.at result }
+    // A number of `WIDTH` bytes, highest first.
+    pub fn be<const WIDTH: usize>(self, s: &[u8]) -> Outcome<u64>
+        requires { WIDTH ≤ 8 }
+        ensures { Read (fixed WIDTH) (256 ^ WIDTH) s.now self.at result }
     {
-        fixed_at(s, self.at, 1)
-    }
-
-    pub fn be2(self, s: &[u8]) -> Number
-        ensures { Read (fixed 2) (256 ^ 2) s.now self.at result }
-    {
-        fixed_at(s, self.at, 2)
-    }
-
-    pub fn be4(self, s: &[u8]) -> Number
-        ensures { Read (fixed 4) (256 ^ 4) s.now self.at result }
-    {
-        fixed_at(s, self.at, 4)
-    }
-
-    pub fn be8(self, s: &[u8]) -> Number
-        ensures { Read (fixed 8) (256 ^ 8) s.now self.at result }
-    {
-        fixed_at(s, self.at, 8)
+        fixed_at(s, self.at, WIDTH)
     }
 
     // Numbers of a fixed width that are known to be there: no test, and in a loop over many the compiler reads several at once.
-    pub fn take1(self, s: &[u8]) -> Taken
-        requires { self.at + 1 ≤ length s.now }
-        ensures { TakenAt 1 s.now self.at result }
+    pub fn take<const WIDTH: usize>(self, s: &[u8]) -> Taken
+        requires { (WIDTH ≤ 8) × (self.at + WIDTH ≤ length s.now) }
+        ensures { TakenAt WIDTH s.now self.at result }
     {
         let at = self.at;
-        let number = wide(s[at]);
-        let next = Cursor { at: at + 1 };
-        Taken { number, next }
-    }
-
-    pub fn take2(self, s: &[u8]) -> Taken
-        requires { self.at + 2 ≤ length s.now }
-        ensures { TakenAt 2 s.now self.at result }
-    {
-        let at = self.at;
-        let number = turned2(low_first(s, at, 2));
-        let next = Cursor { at: at + 2 };
-        Taken { number, next }
-    }
-
-    pub fn take4(self, s: &[u8]) -> Taken
-        requires { self.at + 4 ≤ length s.now }
-        ensures { TakenAt 4 s.now self.at result }
-    {
-        let at = self.at;
-        let number = turned4(low_first(s, at, 4));
-        let next = Cursor { at: at + 4 };
-        Taken { number, next }
-    }
-
-    pub fn take8(self, s: &[u8]) -> Taken
-        requires { self.at + 8 ≤ length s.now }
-        ensures { TakenAt 8 s.now self.at result }
-    {
-        let at = self.at;
-        let number = turned8(low_first(s, at, 8));
-        let next = Cursor { at: at + 8 };
+        let number = turned::<WIDTH>(low_first::<WIDTH>(s, at));
+        let next = Cursor { at: at + WIDTH };
         Taken { number, next }
     }
 
@@ -472,12 +404,12 @@ impl Cursor {
     }
 
     // A number of any such width. Eight bytes are asked for by themselves: then their number is known, and they are read at once.
-    pub fn fixed(self, s: &[u8], width: usize) -> Number
+    pub fn fixed(self, s: &[u8], width: usize) -> Outcome<u64>
         requires { width ≤ 8 }
         ensures { Read (fixed width) (256 ^ width) s.now self.at result }
     {
         if width == 8 {
-            return self.be8(s);
+            return self.be::<8>(s);
         }
         fixed_at(s, self.at, width)
     }

@@ -13,32 +13,38 @@ ghost use Rattle.table.specs.View.{kind_from};
 ghost use Rattle.words.specs.Answers.{option};
 ghost use Rattle.puts.specs.Kinds.{constant_of};
 
-use numbers::write::{put_be1, put_be2, put_be4, put_be8, put_v64};
+use numbers::write::{put_be, put_v64};
 use values::constants::at_most;
-use words::read::Maybe;
 
 // What an entry may leave out.
-fn put_option(out: &mut [u8], at: usize, x: Maybe) -> usize
+fn put_option(out: &mut [u8], at: usize, x: Option<u64>) -> usize
     ensures { Laid out.old at (put_option (option x)) out.new result }
 {
     match x {
-        Maybe::Dash => at,
-        Maybe::Some(n) => put_v64(out, at, n),
+        None => at,
+        Some(n) => put_v64(out, at, n),
     }
 }
 
 // The number of restrictions, 0. Only a new type has it, and only a new type says its super type.
-fn put_restrictions(out: &mut [u8], at: usize, sup: Maybe) -> usize
+fn put_restrictions(out: &mut [u8], at: usize, sup: Option<u64>) -> usize
     ensures { Laid out.old at (when given? (option sup) then put 0 else []) out.new result }
 {
     match sup {
-        Maybe::Dash => at,
-        Maybe::Some(_) => put_v64(out, at, 0),
+        None => at,
+        Some(_) => put_v64(out, at, 0),
     }
 }
 
 // The head of an entry.
-pub fn put_head(out: &mut [u8], at: usize, name: u64, sup: Maybe, start: Maybe, count: u64) -> usize
+pub fn put_head(
+    out: &mut [u8],
+    at: usize,
+    name: u64,
+    sup: Option<u64>,
+    start: Option<u64>,
+    count: u64,
+) -> usize
     ensures { Laid out.old at (put_head (record { name = name; super = option sup; start = option start; count = count })) out.new result }
 {
     let second = put_v64(out, at, name);
@@ -62,10 +68,10 @@ fn put_whole(out: &mut [u8], at: usize, k: u64, a: u64) -> usize
     ensures { Laid out.old at (put_whole k (constant_of k a)) out.new result }
 {
     match k {
-        0 => put_be1(out, at, at_most(a, 255)),
-        1 => put_be2(out, at, at_most(a, 65535)),
-        2 => put_be4(out, at, at_most(a, 4294967295)),
-        3 => put_be8(out, at, a),
+        0 => put_be::<1>(out, at, at_most(a, 255)),
+        1 => put_be::<2>(out, at, at_most(a, 65535)),
+        2 => put_be::<4>(out, at, at_most(a, 4294967295)),
+        3 => put_be::<8>(out, at, a),
         _ => put_v64(out, at, a),
     }
 }

@@ -1,12 +1,13 @@
--- A name held against a part of the bytes, from the front. Assumes nothing.
-use Rattle.std.specs.Prelude.{◌≡◌, ℕ, zero, suc, ◌+◌, ◌-◌, ◌*◌, ◌%◌, ◌<◌, ◌≤◌, Bool, true, false, ◌&&◌, List, [], ◌∷◌, length, get_or, take, drop, ◌==◌, ◌≢◌, slice_index, slice_index_or, slice_range, refl}
-use Rattle.std.proofs.Common.{sym, ◌∙◌, subst, ⊎_elim, add-one, add-zero, mul-le-mul_left, not-suc-le-zero, le_of_suc-le-suc, drop_of_length-le, length-take-le, drop-cons, eq-eqb, ne_eqb, eqb-true}
+-- A name held against a part of the bytes. Assumes nothing.
+use Rattle.std.specs.Prelude.{◌≡◌, ℕ, zero, suc, ◌+◌, ◌-◌, ◌*◌, ◌%◌, ◌<◌, ◌≤◌, Bool, true, false, ◌&&◌, List, [], ◌∷◌, length, get_or, take, drop, ◌==◌, ◌≢◌, nat_eq, slice_index, slice_index_or, slice_range, refl}
+use Rattle.std.proofs.Common.{sym, ◌∙◌, subst, ⊎_elim, add-one, mul-le-mul_left, not-suc-le-zero, le_of_suc-le-suc, drop_of_length-le, length-take-le, drop-cons, eqb-true}
 use Rattle.std.proofs.Math.Path.{ap, ap₂}
 use Rattle.std.proofs.Math.Option.{none, some}
 use Rattle.std.proofs.lemmas.Bool.{false≢true}
-use Rattle.std.proofs.Math.Bool.{and-false, and-true}
+use Rattle.std.proofs.Math.Bool.{and-false}
 use native.Mathlib.Omega.{arith}
-use Rattle.std.proofs.Math.Seq.{slice, slice-cons, length-slice, take-nil}
+use Rattle.std.proofs.Math.Seq.{slice, length-slice, take-nil}
+use Rattle.std.specs.Cmp.Lexicographic.{pointwise}
 use Rattle.paper.specs.Lists.{same, place}
 use Rattle.table.specs.RowLaws.{lt-or-ge}
 use Rattle.table.specs.View.{strs_of, names_of, summed, sum_of, Passed, Holds}
@@ -15,8 +16,8 @@ use Rattle.table.specs.Asks.{found, Shorter, Recalled}
 use Rattle.table.specs.Loops.{place-on, place_in}
 use Rattle.table.specs.Memos.{passed-all, memo-no, memo-yes}
 use Rattle.table.specs.Notes.{NoteTaken}
-use Rattle.table.specs.declared.names.Found.{Found}
-use Rattle.table.specs.declared.names.Found.TheVariants.{At, Nothing}
+use Rattle.std.specs.Prelude as prelude
+use Rattle.std.specs.Prelude.{Some, None}
 
 -- lists of different lengths are not the same
 pub lengths_differ : (xs ys : List ℕ) → (length xs ≢ length ys) → same xs ys ≡ false
@@ -34,36 +35,13 @@ module _ (n f : List ℕ) (s e : ℕ) (in_f : e ≤ length f) where
   pub name-length : (length n ≢ e - s) → same n (slice s e f) ≡ false
   name-length ne = lengths_differ n (slice s e f) (λ q. ne (q ∙ length-slice s e f in_f))
 
-  pub name-start : same n (slice s e f) ≡ same (drop 0 n) (slice (s + 0) e f)
-  name-start = rw add-zero refl
-
-  -- byte i of the name
-  module _ (i : ℕ) (lt : i < length n) (lt' : s + i < e) where
-    name-differs : (slice_index n i ≢ slice_index f (s + i)) → same (drop i n) (slice (s + i) e f) ≡ false
-    unfolding same
-    name-differs ne = ap₂ same (drop-cons n i 0 lt) (slice-cons (s + i) e f 0 lt' in_f) ∙ simp (ne_eqb _ _ ne)
-
-    name-on : get_or n i 0 ≡ slice_index f (s + i) → same (drop i n) (slice (s + i) e f) ≡ same (drop (i + 1) n) (slice (s + (i + 1)) e f)
-    unfolding same
-    name-on q =
-        let on : suc (s + i) ≡ s + (i + 1) = omega arith in
-        ap₂ same (drop-cons n i 0 lt) (slice-cons (s + i) e f 0 lt' in_f)
-        ∙ simp (eq-eqb _ _ q) (ap₂ (λ (a b : ℕ). same (drop a n) (slice b e f)) (sym (add-one i)) on)
-
-  name-end : (i : ℕ) → length n ≤ i → e ≤ s + i → same (drop i n) (slice (s + i) e f) ≡ true
-  unfolding same
-  name-end i h k = ap₂ same (drop_of_length-le n h) (over f e in_f (s + i) k)
-
--- b says whether all bytes before the i-th are the same
-module _ (n f : List ℕ) (s e : ℕ) (in_f : e ≤ length f) (i : ℕ) (b : Bool) (so_far : same n (slice s e f) ≡ (b && same (drop i n) (slice (s + i) e f))) where
-  pub differs-on : i < length n → s + i < e → (slice_index n i ≢ slice_index f (s + i)) → {b' : Bool} → b' ≡ false → same n (slice s e f) ≡ (b' && same (drop (i + 1) n) (slice (s + (i + 1)) e f))
-  differs-on lt lt' ne is = so_far ∙ ap (λ (x : Bool). b && x) (name-differs n f s e in_f i lt lt' ne) ∙ and-false b ∙ rw is refl
-
-  pub alike-on : i < length n → s + i < e → slice_index n i ≡ slice_index f (s + i) → {b' : Bool} → b' ≡ b → same n (slice s e f) ≡ (b' && same (drop (i + 1) n) (slice (s + (i + 1)) e f))
-  alike-on lt lt' q is = so_far ∙ ap (λ (x : Bool). b && x) (name-on n f s e in_f i lt lt' q) ∙ rw is refl
-
-  pub alike_end : length n ≤ i → e ≤ s + i → b ≡ same n (slice s e f)
-  alike_end h k = sym (so_far ∙ ap (λ (x : Bool). b && x) (name-end n f s e in_f i h k) ∙ and-true b)
+-- what `==` says of two slices
+pub same-pairs : (xs ys : List ℕ) → pointwise nat_eq xs ys ≡ same xs ys
+unfolding same
+same-pairs [] [] = refl
+same-pairs [] (y ∷ ys) = refl
+same-pairs (x ∷ xs) [] = refl
+same-pairs (x ∷ xs) (y ∷ ys) = ap (λ (b : Bool). nat_eq x y && b) (same-pairs xs ys)
 
 -- ── sums ──
 
@@ -163,11 +141,11 @@ module _ {f l : List ℕ} (h : Holds f l) where
     recalled-none lt is = record { now = record { holds = h; says = refl }; none_has = λ l. sym (known-none lt is); one_has = λ le. absurd (omega arith) }
 
   -- it was looked for, and a note is taken
-  module _ {i a b : ℕ} (S : Stands strs_of l i a b) (o : Found) (says : found o ≡ place (same (slice a b f)) 0 (names_of f l)) where
+  module _ {i a b : ℕ} (S : Stands strs_of l i a b) (o : prelude.Option ℕ) (says : found o ≡ place (same (slice a b f)) 0 (names_of f l)) where
     pub string-named : found o ≡ place (same (slice_index_or (strs_of f l) i [])) 0 (names_of f l)
     string-named = says ∙ ap (λ (x : List ℕ). place (same x) 0 (names_of f l)) (sym (S.is f))
 
-    module _ {t : ℕ} (is : o ≡ At t) where
+    module _ {t : ℕ} (is : o ≡ Some t) where
       there : place (same (slice_index_or (strs_of f l) i [])) 0 (names_of f l) ≡ some t
       there = sym string-named ∙ ap found is
 
@@ -179,7 +157,7 @@ module _ {f l : List ℕ} (h : Holds f l) where
           let memo = memo-yes (names_of f l) (slice_index_or (strs_of f l) i []) there in
           record { now = N.says f h memo; none_has = λ lt. absurd (omega arith); one_has = memo.named }
 
-    module _ (is : o ≡ Nothing) where
+    module _ (is : o ≡ None) where
       nowhere : place (same (slice_index_or (strs_of f l) i [])) 0 (names_of f l) ≡ none
       nowhere = sym string-named ∙ ap found is
 

@@ -10,7 +10,8 @@ use Rattle.table.specs.Told.{up_to?}
 use Rattle.table.specs.ToldLaws.{all-weak, none_of, total-same, total-none, still-up, no-entry, all-before, clear-more}
 use Rattle.table.specs.OwnedLaws.{none_before, none-behind, none-past}
 use Rattle.table.specs.Answers.{Stretched}
-use Rattle.table.specs.declared.ranges.Pool.TheVariants.{Whole, Parts}
+use Rattle.std.specs.Prelude as prelude
+use Rattle.std.specs.Prelude.{Some, None}
 
 module _ (l : List ℕ) (b t : ℕ) (none : all (up_to? t b) (log_of l) ≡ true) where
   pub not_entered : any (entry_of? b t) (log_of l) ≡ false
@@ -43,14 +44,14 @@ module _ {l : List ℕ} (ok : Ok l) (on : slice_index_or l 7 0 ≡ 1) (t : ℕ) 
       rw (a-is, b-is) (record { forward = O.begins t lt; inside = O.ends t lt; before = none_before O t lt; behind = none-behind O t lt })
 
   -- of a base type
-  pub pool-told : {up : ℕ} → maybe up ≡ (type_in (types_of l) t).super → up ≡ 0 → {x : ℕ} → x ≡ tally l t 1 → (n : ℕ) → Whole x ≡ Whole n → (m : ℕ) → any (holds? t m) (log_of l) ≡ (nat_le 1 m && nat_le m n)
+  pub pool-told : {up : ℕ} → maybe up ≡ (type_in (types_of l) t).super → up ≡ 0 → {x : ℕ} → x ≡ tally l t 1 → (n : ℕ) → Some x ≡ Some n → (m : ℕ) → any (holds? t m) (log_of l) ≡ (nat_le 1 m && nat_le m n)
   unfolding given?
   pool-told {up} above none_above {x} is n same m =
       let base : given? (type_in (types_of l) t).super ≡ false = ap given? (sym above) ∙ ap (λ (k : ℕ). given? (maybe k)) none_above in
       let count : x ≡ n = cc in
       (ok.telling on).lying t lt base m ∙ ap (λ (k : ℕ). nat_le 1 m && nat_le m k) (sym is ∙ count)
 
-pub pool-untold : (t : ℕ) (log : List Range) (n : ℕ) → Parts ≡ Whole n → (m : ℕ) → any (holds? t m) log ≡ (nat_le 1 m && nat_le m n)
+pub pool-untold : (t : ℕ) (log : List Range) (n : ℕ) → ◌≡◌ {A = prelude.Option ℕ} None (Some n) → (m : ℕ) → any (holds? t m) log ≡ (nat_le 1 m && nat_le m n)
 pool-untold t log n clash m = let z : ◌≡◌ {A = ℕ} 0 1 = cc in absurd (omega arith)
 
 -- all fields

@@ -21,9 +21,9 @@ pub fn constant_of(k: u32, a: u64) -> i64
     ensures { (e : ℕ) → kind_from k a e ≡ constant k result }
 {
     match k {
-        0 => sign::signed1(at_most(a, 255)),
-        1 => sign::signed2(at_most(a, 65535)),
-        2 => sign::signed4(at_most(a, 4294967295)),
-        _ => sign::signed8(a),
+        0 => sign::signed::<1>(at_most(a, 255)),
+        1 => sign::signed::<2>(at_most(a, 65535)),
+        2 => sign::signed::<4>(at_most(a, 4294967295)),
+        _ => sign::signed::<8>(a),
     }
 }

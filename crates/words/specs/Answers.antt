@@ -1,40 +1,38 @@
 -- What the answers of the readers mean, in the terms of the definitions. Assumes nothing.
-use Rattle.std.specs.Prelude.{◌≡◌, true, false, List, ℕ, ◌+◌, ◌≤◌, ◌<◌, ℤ, length, get_or}
+use Rattle.std.specs.Prelude as prelude
+use Rattle.std.specs.Prelude.{Some, None, ◌≡◌, true, false, List, ℕ, ◌+◌, ◌≤◌, ◌<◌, ℤ, length, get_or}
 use Rattle.std.proofs.Math.Option.{Option, none, some}
 use Rattle.paper.specs.Reader.{Out, got, no}
 use Rattle.paper.specs.Numbers.{signed}
 use Rattle.paper.specs.Scan.{digit?, hex_bytes}
 use Rattle.lay.specs.Laid.{Laid}
-use Rattle.words.specs.declared.read.Step.{Step}
-use Rattle.words.specs.declared.read.Step.TheVariants.{To, Bad as NotTo}
-use Rattle.words.specs.declared.read.Number.{Number}
-use Rattle.words.specs.declared.read.Number.TheVariants.{Got, Bad}
-use Rattle.words.specs.declared.read.Maybe.{Maybe}
-use Rattle.words.specs.declared.read.Maybe.TheVariants.{Dash, Some}
-use Rattle.words.specs.declared.read.MaybeNumber.{MaybeNumber}
-use Rattle.words.specs.declared.read.MaybeNumber.TheVariants.{Got as GotMaybe, Bad as BadMaybe}
+use Rattle.words.specs.declared.read.Place.{Place}
 use Rattle.words.specs.declared.read.Bytes.{Bytes}
 
-abbrev pub out_step : Step → Out (Unit {0})
-out_step (To c) = got tt c.at
-out_step NotTo = no 20 0
+-- what was read and the place behind it
+abbrev pub Scanned : Type 0 → Type 0
+Scanned A = prelude.Option (A × Place)
 
-abbrev pub out_number : Number → Out ℕ
-out_number (Got x c) = got x c.at
-out_number Bad = no 20 0
+abbrev pub out_step : prelude.Option Place → Out (Unit {0})
+out_step (Some c) = got tt c.at
+out_step None = no 20 0
+
+abbrev pub out_number : Scanned ℕ → Out ℕ
+out_number (Some (x , c)) = got x c.at
+out_number None = no 20 0
 
 -- the signed number of 64 bits
-abbrev pub out_bits : Number → Out ℤ
-out_bits (Got x c) = got (signed 8 x) c.at
-out_bits Bad = no 20 0
+abbrev pub out_bits : Scanned ℕ → Out ℤ
+out_bits (Some (x , c)) = got (signed 8 x) c.at
+out_bits None = no 20 0
 
-abbrev pub option : Maybe → Option ℕ
-option Dash = none
+abbrev pub option : prelude.Option ℕ → Option ℕ
+option None = none
 option (Some x) = some x
 
-abbrev pub out_maybe : MaybeNumber → Out (Option ℕ)
-out_maybe (GotMaybe m c) = got (option m) c.at
-out_maybe BadMaybe = no 20 0
+abbrev pub out_maybe : Scanned (prelude.Option ℕ) → Out (Option ℕ)
+out_maybe (Some (m , c)) = got (option m) c.at
+out_maybe None = no 20 0
 
 -- r is the byte at a place, 256 past the end
 pub record Peeked (t : List ℕ) (at r : ℕ) : Type 0 where

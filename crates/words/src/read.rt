@@ -1,4 +1,4 @@
-// Words read from a text, from a place in it. A reader answers what stands there with the place behind it, or `Bad`.
+// Words read from a text, from a place in it. A reader answers what stands there with the place behind it, or `None`.
 ghost use Rattle.std.specs.Prelude.{◌≡◌, true, ◌+◌, ◌≤◌, ◌<◌, length, drop};
 ghost use Rattle.lay.specs.Laid.{Laid};
 ghost use Rattle.paper.specs.Scan.{byte_is, literal, ended, too_large?, digits_on, natural, integer, or_none, nibble, hex_on};
@@ -17,33 +17,8 @@ pub struct Place {
     pub at: usize,
 }
 
-// The place behind bytes that had to stand there.
-#[derive(Clone, Copy)]
-pub enum Step {
-    To(Place),
-    Bad,
-}
-
-// A number and the place behind it.
-#[derive(Clone, Copy)]
-pub enum Number {
-    Got(u64, Place),
-    Bad,
-}
-
-// A number, or a dash for none.
-#[derive(Clone, Copy)]
-pub enum Maybe {
-    Dash,
-    Some(u64),
-}
-
-// The same and the place behind it.
-#[derive(Clone, Copy)]
-pub enum MaybeNumber {
-    Got(Maybe, Place),
-    Bad,
-}
+// What was read and the place behind it; `None` where it does not stand there.
+pub type Scanned<T> = Option<(T, Place)>;
 
 // Behind the hex digits that were read, and behind the bytes that were laid.
 #[derive(Clone, Copy)]
@@ -142,7 +117,7 @@ fn digits_there(t: &[u8], at: usize, n: usize) -> bool
 }
 
 // The number of n hex digits that are there.
-fn hex_value(t: &[u8], at: usize, n: usize) -> Number
+fn hex_value(t: &[u8], at: usize, n: usize) -> Scanned<u64>
     requires { Hexes t.now at n × (n ≤ 16) }
     ensures { out_number result ≡ hex_on n 0 t.now at }
 {
@@ -154,11 +129,11 @@ fn hex_value(t: &[u8], at: usize, n: usize) -> Number
         p += 1;
         i += 1;
     }
-    Number::Got(v, Place { at: p })
+    Some((v, Place { at: p }))
 }
 
 // The number of n hex digits, one by one, up to the first byte that is none.
-fn hex_in_turn(t: &[u8], at: usize, n: usize) -> Number
+fn hex_in_turn(t: &[u8], at: usize, n: usize) -> Scanned<u64>
     requires { n ≤ 16 }
     ensures { out_number result ≡ hex_on n 0 t.now at }
 {
@@ -168,13 +143,13 @@ fn hex_in_turn(t: &[u8], at: usize, n: usize) -> Number
     while i < n {
         let d = nibble(peek(t, p));
         if 16 <= d {
-            return Number::Bad;
+            return None;
         }
         v = 16 * v + d;
         p += 1;
         i += 1;
     }
-    Number::Got(v, Place { at: p })
+    Some((v, Place { at: p }))
 }
 
 // The 64 bytes at a place, four in a number, the first of them its lowest byte.
@@ -304,7 +279,7 @@ fn sure_digits(all: usize, at: usize) -> usize
 }
 
 // A decimal that begins with the number v and has more digits, if any stand there.
-fn more_digits(t: &[u8], at: usize, first: u64) -> Number
+fn more_digits(t: &[u8], at: usize, first: u64) -> Scanned<u64>
     ensures { out_number result ≡ digits_on first at (drop at t.now) }
 {
     let mut v = first;
@@ -312,10 +287,10 @@ fn more_digits(t: &[u8], at: usize, first: u64) -> Number
     loop {
         let d = digit(peek(t, p));
         if 10 <= d {
-            return Number::Got(v, Place { at: p });
+            return Some((v, Place { at: p }));
         }
         if too_large(v, d) {
-            return Number::Bad;
+            return None;
         }
         v = 10 * v + d;
         p += 1;
@@ -324,20 +299,20 @@ fn more_digits(t: &[u8], at: usize, first: u64) -> Number
 
 impl Place {
     // The byte b.
-    pub fn byte(self, t: &[u8], b: u64) -> Step
+    pub fn byte(self, t: &[u8], b: u64) -> Option<Place>
         requires { b < 256 }
         ensures { out_step result ≡ byte_is b t.now self.at }
     {
         let at = self.at;
         if peek(t, at) == b {
             let next = at + 1;
-            return Step::To(Place { at: next });
+            return Some(Place { at: next });
         }
-        Step::Bad
+        None
     }
 
     // These bytes.
-    pub fn literal(self, t: &[u8], w: &[u8]) -> Step
+    pub fn literal(self, t: &[u8], w: &[u8]) -> Option<Place>
         ensures { out_step result ≡ literal w.now t.now self.at }
     {
         let mut p = self.at;
@@ -345,26 +320,26 @@ impl Place {
         while i < w.len() {
             let b = peek(w, i);
             if peek(t, p) != b {
-                return Step::Bad;
+                return None;
             }
             p += 1;
             i += 1;
         }
-        Step::To(Place { at: p })
+        Some(Place { at: p })
     }
 
     // A decimal below 2 ^ 64. Behind a first 0 there is no more of it.
-    pub fn natural(self, t: &[u8]) -> Number
+    pub fn natural(self, t: &[u8]) -> Scanned<u64>
         ensures { out_number result ≡ natural t.now self.at }
     {
         let at = self.at;
         let first = digit(peek(t, at));
         if 10 <= first {
-            return Number::Bad;
+            return None;
         }
         let next = at + 1;
         if first == 0 {
-            return Number::Got(0, Place { at: next });
+            return Some((0, Place { at: next }));
         }
         let sure = sure_digits(t.len(), at);
         let mut v = first;
@@ -372,7 +347,7 @@ impl Place {
         while p < sure {
             let d = digit(t[p] as u64);
             if 10 <= d {
-                return Number::Got(v, Place { at: p });
+                return Some((v, Place { at: p }));
             }
             v = 10 * v + d;
             p += 1;
@@ -381,78 +356,64 @@ impl Place {
     }
 
     // A decimal and the byte that ends it.
-    pub fn natural_ended(self, t: &[u8], end: u64) -> Number
+    pub fn natural_ended(self, t: &[u8], end: u64) -> Scanned<u64>
         requires { end < 256 }
         ensures { out_number result ≡ ended end natural t.now self.at }
     {
-        let Number::Got(n, c) = self.natural(t) else {
-            return Number::Bad;
-        };
-        let Step::To(e) = c.byte(t, end) else {
-            return Number::Bad;
-        };
-        Number::Got(n, e)
+        let (n, c) = self.natural(t)?;
+        let e = c.byte(t, end)?;
+        Some((n, e))
     }
 
     // The 64 bits of a signed decimal.
-    pub fn integer(self, t: &[u8]) -> Number
+    pub fn integer(self, t: &[u8]) -> Scanned<u64>
         ensures { out_bits result ≡ integer t.now self.at }
     {
         let at = self.at;
         if peek(t, at) == DASH {
             let next = at + 1;
             let digits = Place { at: next };
-            let Number::Got(n, c) = digits.natural(t) else {
-                return Number::Bad;
-            };
+            let (n, c) = digits.natural(t)?;
             if n == 0 {
-                return Number::Bad;
+                return None;
             }
             if HALF < n {
-                return Number::Bad;
+                return None;
             }
-            return Number::Got(MOST - (n - 1), c);
+            return Some((MOST - (n - 1), c));
         }
-        let Number::Got(n, c) = self.natural(t) else {
-            return Number::Bad;
-        };
+        let (n, c) = self.natural(t)?;
         if HALF <= n {
-            return Number::Bad;
+            return None;
         }
-        Number::Got(n, c)
+        Some((n, c))
     }
 
     // A decimal, or a dash for none.
-    pub fn or_none(self, t: &[u8]) -> MaybeNumber
+    pub fn or_none(self, t: &[u8]) -> Scanned<Option<u64>>
         ensures { out_maybe result ≡ or_none t.now self.at }
     {
         let at = self.at;
         if peek(t, at) == DASH {
             let next = at + 1;
-            return MaybeNumber::Got(Maybe::Dash, Place { at: next });
+            return Some((None, Place { at: next }));
         }
-        let Number::Got(n, c) = self.natural(t) else {
-            return MaybeNumber::Bad;
-        };
-        MaybeNumber::Got(Maybe::Some(n), c)
+        let (n, c) = self.natural(t)?;
+        Some((Some(n), c))
     }
 
     // A decimal or a dash, and the byte that ends it.
-    pub fn or_none_ended(self, t: &[u8], end: u64) -> MaybeNumber
+    pub fn or_none_ended(self, t: &[u8], end: u64) -> Scanned<Option<u64>>
         requires { end < 256 }
         ensures { out_maybe result ≡ ended end or_none t.now self.at }
     {
-        let MaybeNumber::Got(m, c) = self.or_none(t) else {
-            return MaybeNumber::Bad;
-        };
-        let Step::To(e) = c.byte(t, end) else {
-            return MaybeNumber::Bad;
-        };
-        MaybeNumber::Got(m, e)
+        let (m, c) = self.or_none(t)?;
+        let e = c.byte(t, end)?;
+        Some((m, e))
     }
 
     // A number in n hex digits. Sixteen are 64 bits, so more might not fit the answer.
-    pub fn hex(self, t: &[u8], n: usize) -> Number
+    pub fn hex(self, t: &[u8], n: usize) -> Scanned<u64>
         requires { n ≤ 16 }
         ensures { out_number result ≡ hex_on n 0 t.now self.at }
     {

@@ -5,4 +5,4 @@ pub returns-in-Got : goal.returns-in-Got
 returns-in-Got c = (check-accepted c.read-a.ensures c.in-Got.is, c.clear.ensures)
 
 pub returns-in-No : goal.returns-in-No
-returns-in-No c = (check-refused c.read-a.ensures c.in-No.is, c.clear.ensures)
+returns-in-No c = (rw c.from.ensures (check-refused c.read-a.ensures c.in-No.is), c.clear.ensures)

@@ -9,4 +9,4 @@ pub returns-in-Got : goal.returns-in-Got
 returns-in-Got c = count-accepted c.requires c.in-Got.is _ _ _ c.tell_count.ensures
 
 pub returns-in-No : goal.returns-in-No
-returns-in-No c = count-refused c.requires c.in-No.is _ _ _
+returns-in-No c = rw c.from.ensures (count-refused c.requires c.in-No.is _ _ _)

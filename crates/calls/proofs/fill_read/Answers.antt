@@ -8,4 +8,4 @@ pub returns-in-Got : goal.returns-in-Got
 returns-in-Got c = fill-accepted c.requires c.in-Got.is _ _ _ c.write_values.ensures
 
 pub returns-in-No : goal.returns-in-No
-returns-in-No c = fill-refused c.requires c.in-No.is _ _ _
+returns-in-No c = rw c.from.ensures (fill-refused c.requires c.in-No.is _ _ _)

@@ -9,4 +9,4 @@ pub returns-in-Got : goal.returns-in-Got
 returns-in-Got c = objects-accepted c.requires c.in-Got.is _ c.count_objects.ensures
 
 pub returns-in-No : goal.returns-in-No
-returns-in-No c = objects-refused c.requires c.in-No.is _
+returns-in-No c = rw c.from.ensures (objects-refused c.requires c.in-No.is _)

@@ -1,11 +1,12 @@
+use Rattle.numbers.specs.Cursors.{handed}
 use Rattle.numbers.specs.Ruled.{within, beyond, small-no, small-big, small-got}
 use Rattle.numbers.proofs.Cursor.small.Goals as goal
 
-pub returns-in_default : goal.returns-in_default
-returns-in_default c = small-no c.v64-a.ensures c.in_default.is
+pub returns-in_err-n : goal.returns-in_err-n
+returns-in_err-n c = rw (handed c.from_residual.ensures.1) (small-no c.v64.ensures c.in_err-n.was)
 
 pub returns-then-not-is_small : goal.returns-then-not-is_small
-returns-then-not-is_small c = rw c.refuse.ensures (small-big c.v64-a.ensures c.in-Got.is (beyond c.is_small.ensures c.if-not-is_small.true-raw))
+returns-then-not-is_small c = rw c.refuse.ensures (small-big c.v64.ensures c.in_ok-n.was (beyond c.is_small.ensures c.if-not-is_small.true-raw))
 
 pub returns : goal.returns
-returns c = small-got c.v64-a.ensures c.in-Got.is (within c.is_small.ensures c.if-not-is_small.false-raw)
+returns c = small-got c.v64.ensures c.in_ok-n.was (within c.is_small.ensures c.if-not-is_small.false-raw)
