@@ -1,5 +1,5 @@
 -- Strings by their numbers, where the pairs begin at known places. Assumes nothing.
-use Rattle.std.specs.Prelude.{Err, Ok, ◌≡◌, Bool, true, false, ◌&&◌, leb, get_or, take, drop}
+use Rattle.std.specs.Prelude.{Err, Ok, ◌≡◌, Bool, true, false, leb, get_or, take, drop}
 use Rattle.std.proofs.Math.Path.{refl}
 use Rattle.std.proofs.Common.{sym, ap, ap₂, ◌∙◌, subst, add-one, length-append, length-take, drop-cons, get_or-append-add, get_or-take, take_all, leb-true}
 use mathlib.Core.List.{List, [], ◌∷◌, ◌++◌, append_assoc, append-nil}
@@ -9,7 +9,7 @@ use Rattle.std.proofs.Math.ListN.{length, get_or-append}
 use Rattle.std.proofs.Math.Seq.{slice}
 use Rattle.paper.specs.Reader.{when◌then◌else◌, Out, got, no, and_then, hold, must, ◌or_no◌, give, bytes, times}
 use Rattle.paper.specs.Numbers.{v64, fixed, number}
-use Rattle.paper.specs.Lists.{same, last_or}
+use Rattle.paper.specs.Lists.{last_or}
 use Rattle.paper.specs.Ledger.{State}
 use Rattle.paper.specs.Rules.{strings_rules, end_rules}
 use Rattle.paper.specs.Keeps.{hold?}
