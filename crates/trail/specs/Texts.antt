@@ -1,12 +1,11 @@
 -- Strings by their numbers, where the pairs begin at known places. Assumes nothing.
 use Rattle.std.specs.Prelude.{Err, Ok, ◌≡◌, Bool, true, false, leb, get_or, take, drop}
 use Rattle.std.proofs.Math.Path.{refl}
-use Rattle.std.proofs.Common.{sym, ap, ap₂, ◌∙◌, subst, add-one, length-append, length-take, drop-cons, get_or-append-add, get_or-take, take_all, leb-true}
+use Rattle.std.proofs.Common.{sym, ap, ap₂, ◌∙◌, subst, add-one, length-append, length-take, drop-cons, get_or-append-add, get_or-take, leb-true}
 use mathlib.Core.List.{List, [], ◌∷◌, ◌++◌, append_assoc, append-nil}
 use Prim.Native.Nat.{ℕ, zero, suc, ◌+◌, ◌-◌, ◌*◌, ◌≤◌, ◌<◌}
 use native.Mathlib.Omega.{arith}
 use Rattle.std.proofs.Math.ListN.{length, get_or-append}
-use Rattle.std.proofs.Math.Seq.{slice}
 use Rattle.paper.specs.Reader.{when◌then◌else◌, Out, got, no, and_then, hold, must, ◌or_no◌, give, bytes, times}
 use Rattle.paper.specs.Numbers.{v64, fixed, number}
 use Rattle.paper.specs.Lists.{last_or}
@@ -323,9 +322,3 @@ module _ {f starts : List ℕ} {blocks n i k : ℕ} (g : Seeking f starts blocks
               let m-is = T.place (length a) m one.counted in
               I.is (get_or starts i 0) a (subst (λ (x : ℕ). Block f (get_or starts i 0) x a) (sym m-is) one) n-is less ∙ sym (S.is ∙ ap (λ (l : List (List ℕ)). get_or l k []) is ∙ get_or-append a b [] k (omega arith));
         }
-
--- ── the same bytes ──
-
--- the names' laws are stated for a part of the source, and all of b is one
-whole : (b : List ℕ) → slice 0 (length b) b ≡ b
-whole b = take_all (length b) b (omega arith)
