@@ -369,27 +369,6 @@ pub record MaybeGathered (t : ℕ) (log : List Range) (to : ℕ) (first₀ last�
   pub found : GatheredBy t log to first₀ last₀ first last r
 
 module _ {t : ℕ} {log : List Range} {to : ℕ} {first₀ last₀ first last : List ℕ} where
-  pub not_known : {i k sum : ℕ} → Linking t log to first₀ last₀ first last i k sum → MaybeGathered t log to first₀ last₀ first last None
-  not_known L =
-      record { first-long = L.first-long; last-long = L.last-long; first-kept = L.first-kept; last-kept = L.last-kept; found = tt }
-
   pub all_found : {k : ℕ} → GatheredTo t log to first₀ last₀ first last k → MaybeGathered t log to first₀ last₀ first last (Some k)
   all_found G =
       record { first-long = G.first-long; last-long = G.last-long; first-kept = G.first-kept; last-kept = G.last-kept; found = G }
-
-  -- gathered again, where the lists had others before
-  module _ {r : Option ℕ} (M : MaybeGathered t log to first₀ last₀ first last r) where
-    pub gathered-again : {first₁ last₁ : List ℕ} {k : ℕ} → GatheredTo t log to first last first₁ last₁ k → GatheredTo t log to first₀ last₀ first₁ last₁ k
-    gathered-again G =
-        record {
-          first-long = G.first-long ∙ M.first-long;
-          last-long = G.last-long ∙ M.last-long;
-          first-kept = G.first-kept ∙ M.first-kept;
-          last-kept = G.last-kept ∙ M.last-kept;
-          below = G.below;
-          count = G.count;
-          objects-are = G.objects-are;
-        }
-
-    pub found_all : {k : ℕ} → r ≡ Some k → GatheredTo t log to first₀ last₀ first last k
-    found_all is = let N = rw is at M in N.found

@@ -148,18 +148,6 @@ are-asked is F =
       objects-are = λ asks n. F.objects-are n;
     }
 
-pub not-asked : {asked : Bool} (t : ℕ) (log : List Range) (to : ℕ) (first last : List ℕ) → asked ≡ false → GatheredAsked asked t log to first last first last to
-not-asked t log to first last is =
-    record {
-      first-long = refl;
-      last-long = refl;
-      first-kept = refl;
-      last-kept = refl;
-      below = omega arith;
-      count = omega arith;
-      objects-are = λ asks. absurd (bool-apart (sym asks ∙ is));
-    }
-
 -- the ranges of the types from t on stand from k on
 pub record Grouping (kinds : List ℕ) (log : List Range) (starts first last : List ℕ) (t k : ℕ) : Type 0 where
   pub starts-long : length starts ≡ 33

@@ -111,11 +111,6 @@ module _ {f l₀ : List ℕ} {n : ℕ} where
 
   module _ {l list : List ℕ} {i : ℕ} (G : PoolsGoing f l₀ n l list i) where
     module _ (lt : i < n) where
-      pub pool-there : Holds f l × (i < strings_in l)
-      pool-there =
-          let same : strings_in l ≡ strings_in l₀ = sym G.now.holds.strs-count ∙ ap (λ (g : Said). length g.state.strings) G.now.says ∙ G.begun.strs-count in
-          (G.now.holds, omega (arith, G.all_of))
-
       pub place-there : i < 1024
       place-there = omega (arith, G.all_of, G.begun.ok.strs-fit)
 

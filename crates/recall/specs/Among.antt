@@ -17,19 +17,15 @@ use Rattle.paper.specs.Keeps.{hold?}
 use Rattle.laws.specs.Laws.{bind-got}
 use Rattle.laws.specs.Bools.{and_split}
 use Rattle.trail.specs.Told.{NewTold, FirstOf, times-first, times_none, new-parts, number-got}
-use Rattle.trail.specs.Texts.{Blocks, Text, bytes_of}
+use Rattle.trail.specs.Texts.{Blocks}
 use Rattle.trail.specs.Heads.{Knows}
 use Rattle.trail.specs.declared.past.NewField.{NewField}
-use Rattle.trail.specs.declared.texts.Span.{Span}
 use Rattle.trail.specs.declared.trail.Trail.{Trail}
 
 -- ── a string by its number, compared ──
 
 pub record IsString (f starts : List ℕ) (blocks n : ℕ) (name : List ℕ) (r : Bool) : Type 0 where
   pub is : (strs : List (List ℕ)) → Blocks f (take blocks starts) strs → 0 < n → n ≤ length strs → r ≡ same name (get_or strs (n - 1) [])
-
-pub is-string : {f starts : List ℕ} {blocks n : ℕ} {name : List ℕ} {s : Span} {r : Bool} → Text f starts blocks n s → r ≡ same name (bytes_of f s) → IsString f starts blocks n name r
-is-string {name = name} T q = record { is = λ strs B lo hi. q ∙ ap (same name) (T.is strs B lo hi) }
 
 -- ── a new field's name is a string ──
 

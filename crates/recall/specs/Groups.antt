@@ -1,5 +1,5 @@
 -- The ranges of the types that a map's kinds name, gathered on one walk. Assumes nothing.
-use Rattle.std.specs.Prelude.{◌≡◌, Bool, ◌⊎◌, ℕ, zero, suc, ◌+◌, ◌-◌, ◌*◌, ◌≤◌, ◌<◌, length, take, drop, set, replicate}
+use Rattle.std.specs.Prelude.{◌≡◌, Bool, ◌⊎◌, ℕ, zero, suc, ◌+◌, ◌-◌, ◌*◌, ◌≤◌, ◌<◌, length, take, drop, set}
 use Rattle.std.proofs.Math.Path.{refl, ap}
 use Rattle.std.proofs.Common.{sym, ap₂, ◌∙◌, subst, inl, inr}
 use Rattle.std.proofs.Math.Bool.{true, false}
@@ -132,29 +132,10 @@ module _ {kinds starts places : List ℕ} {t k : ℕ} (P : Planning kinds starts
         (λ q. never_both q asks)
         (λ q. get_or-set_same places t top 0 (omega (arith, P.places-long)))
 
-  pub plan-done : 32 ≤ t → PlanMade kinds (set starts 32 k) places
-  plan-done end =
-      let all-met : t ≡ 32 = omega (arith, P.upto) in
-      record {
-        starts-long = length-set starts 32 k ∙ P.starts-long;
-        places-long = P.places-long;
-        few = P.few;
-        starts-are = λ v le. go v le (ℕᴺ_discrete v 32);
-        inside = λ v lt. P.inside v (omega arith);
-        outside = λ v lt. P.outside v (omega arith);
-      }
-    where
-      go : (v : ℕ) → v ≤ 32 → Dec (v ≡ 32) → get_or (set starts 32 k) v 0 ≡ 32 * named_below kinds v
-      go v le (yes e) = rw e (get_or-set_same starts 32 k 0 (omega (arith, P.starts-long)) ∙ P.next ∙ ap (λ (i : ℕ). 32 * named_below kinds i) (omega (arith, P.upto)))
-      go v le (no ne) = get_or-set_other starts 32 v k 0 ne ∙ P.starts-are v (omega arith)
-
 -- ── places without a range ──
 
 pub record Emptied (first last : List ℕ) : Type 0 where
   pub same : (j : ℕ) → j < length first → get_or first j 0 ≡ get_or last j 0
-
-pub emptied : (n m x : ℕ) {first last : List ℕ} → n ≡ m → first ≡ replicate n x → last ≡ replicate m x → Emptied first last
-emptied n m x e a b = record { same = λ j lt. ap (λ (l : List ℕ). get_or l j 0) (a ∙ ap (λ (k : ℕ). replicate k x) e ∙ sym b) }
 
 -- ── the walk by this plan ──
 

@@ -1,5 +1,5 @@
 -- The log of ranges on a walk: what each entry adds to sums and tests over it. Assumes nothing.
-use Rattle.std.specs.Prelude.{◌≡◌, Bool, ℕ, zero, suc, ◌+◌, ◌-◌, ◌≤◌, ◌<◌, get_or}
+use Rattle.std.specs.Prelude.{◌≡◌, Bool, ℕ, zero, suc, ◌+◌, ◌≤◌, ◌<◌, get_or}
 use Rattle.std.proofs.Math.Path.{refl, sym, ap, ap₂}
 use Rattle.std.proofs.Common.{◌∙◌, subst, arith}
 use Rattle.std.proofs.Math.Bool.{true, false, ◌&&◌, ◌||◌, not}
@@ -9,7 +9,7 @@ use Rattle.std.proofs.Math.Decide.{dec_le}
 use Rattle.std.proofs.Math.Dec.{leb, eqb}
 use Rattle.std.proofs.Math.ListN.{length, get_or-append}
 use Rattle.std.proofs.lemmas.List.{get_or_at}
-use borrow.Author.Tests.{leb-true, leb-false, le-leb, lt-leb, eqb-true, eqb-false, eq-eqb, ne_eqb}
+use borrow.Author.Tests.{eqb-true, eqb-false, eq-eqb, ne_eqb}
 use Rattle.paper.specs.Reader.{when◌then◌else◌, got}
 use Rattle.paper.specs.Lists.{any, all, total, given?}
 use Rattle.paper.specs.Ledger.{Typ, Range, nothing, type_in, no_type, of?, here?, size, objects_of, base?, objects_in_all}
@@ -20,7 +20,7 @@ use Rattle.reader.specs.Counting.{Keys}
 use Rattle.reader.specs.Sound.{type_of_range}
 use Rattle.trail.specs.declared.trail.Trail.{Trail}
 use Rattle.trail.specs.declared.trail.Top.{Top}
-use Rattle.trail.specs.Heads.{HeadPast, new_is, not-both}
+use Rattle.trail.specs.Heads.{HeadPast, new_is}
 use Rattle.trail.specs.Stages.{Stage, begin, onward, At}
 use Rattle.recall.specs.declared.log.Entries.{Entries}
 use Rattle.recall.specs.declared.log.Fits.{Fits}
@@ -159,12 +159,6 @@ pub record Plus (sum n r : ℕ) : Type 0 where
   pub low : r ≤ 4294967295
   pub is : sum + n ≤ 4294967295 → r ≡ sum + n
 
-pub plus-over : {sum n : ℕ} → (sum + n ≤ 4294967295 → ⊥) → Plus sum n 4294967295
-plus-over never = record { low = omega arith; is = λ le. absurd (never le) }
-
-pub plus-is : {sum n : ℕ} → sum + n ≤ 4294967295 → Plus sum n (sum + n)
-plus-is le = record { low = le; is = λ le. refl }
-
 -- ── the objects of a type ──
 
 pub record ObjectsAre (typ r : ℕ) (g : Stage) : Type 0 where
@@ -236,12 +230,6 @@ all_more {g = g} {h = h} {top = top} O known =
 pub record BasePlus (top : Top) (all r : ℕ) : Type 0 where
   pub base : top.up ≡ 0 → Plus all top.count r
   pub other : (top.up ≡ 0 → ⊥) → r ≡ all
-
-pub base_plus : {top : Top} {all r : ℕ} → top.up ≡ 0 → Plus all top.count r → BasePlus top all r
-base_plus z P = record { base = λ e. P; other = λ ne. absurd (ne z) }
-
-pub base-not : {top : Top} {all : ℕ} → (top.up ≡ 0 → ⊥) → BasePlus top all all
-base-not ne = record { base = λ e. absurd (ne e); other = λ ne. refl }
 
 -- ── whether a type has an entry in the block that is numbered so, from 1 ──
 
@@ -473,67 +461,3 @@ inside-done {start = start} {n = n} W =
             clear = λ is u e. p.clear u e ∙ all_here R is (λ b r. not (b && below? g.state.types r.type u) || leb (r.start + r.count) start);
           };
     }
-
--- ── the tests of one range ──
-
-leb-alike : (a b c d : ℕ) → (a ≤ b → c ≤ d) → (c ≤ d → a ≤ b) → leb a b ≡ leb c d
-leb-alike a b c d to back = go (leb c d) refl
-  where
-    go : (x : Bool) → leb c d ≡ x → leb a b ≡ x
-    go true e = le-leb a b (back (leb-true c d e))
-    go false e = lt-leb a b (over (dec_le a b))
-      where
-        over : Dec (a ≤ b) → b < a
-        over (Dec.yes y) = absurd (omega (arith, to y, leb-false c d e))
-        over (Dec.no y) = omega arith
-
-module _ {top : Top} {up start n : ℕ} {before : Bool} where
-  pub around-had : before ≡ true → Around top up start n before true
-  around-had is = record { is = λ u e. ap (λ (b : Bool). b || (eqb top.typ u && (leb top.start start && leb (start + n) (top.start + top.count)))) (sym is) }
-
-  module _ (first : before ≡ false) where
-    settled : (r : Bool) → ((u : ℕ) → up ≡ u + 1 → r ≡ (eqb top.typ u && (leb top.start start && leb (start + n) (top.start + top.count)))) → Around top up start n before r
-    settled r w = record { is = λ u e. w u e ∙ ap (λ (b : Bool). b || (eqb top.typ u && (leb top.start start && leb (start + n) (top.start + top.count)))) (sym first) }
-
-    pub around-not : ((u : ℕ) → up ≡ u + 1 → top.typ ≡ u → top.start ≤ start → start + n ≤ top.start + top.count → ⊥) → Around top up start n before false
-    around-not never = settled false (λ u e. go u e (eqb top.typ u) refl (leb top.start start) refl (leb (start + n) (top.start + top.count)) refl)
-      where
-        go : (u : ℕ) → up ≡ u + 1 → (a : Bool) → eqb top.typ u ≡ a → (b : Bool) → leb top.start start ≡ b → (c : Bool) → leb (start + n) (top.start + top.count) ≡ c → false ≡ (a && (b && c))
-        go u e true x true y true z = absurd (never u e (eqb-true top.typ u x) (leb-true top.start start y) (leb-true (start + n) (top.start + top.count) z))
-        go u e true x true y false z = refl
-        go u e true x false y c z = refl
-        go u e false x b y c z = refl
-
-    pub around-at : top.typ + 1 ≡ up → top.start ≤ start → start - top.start ≤ top.count → Around top up start n before (leb n (top.count - (start - top.start)))
-    around-at same low fits =
-        settled _
-        (λ u e. leb-alike n (top.count - (start - top.start)) (start + n) (top.start + top.count) (λ w. omega arith) (λ w. omega arith)
-        ∙ sym (ap₂ (λ (x y : Bool). x && (y && leb (start + n) (top.start + top.count))) (eq-eqb top.typ u (omega arith)) (le-leb top.start start low)))
-
-module _ {top : Top} {up start : ℕ} {before : Bool} where
-  pub clear-not : not before ≡ true → Clear top up start before false
-  clear-not is = record { is = go before is }
-    where
-      go : (b : Bool) → not b ≡ true → false ≡ (b && (not (eqb top.up up) || leb (top.start + top.count) start))
-      go true h = not-both (sym h)
-      go false h = refl
-
-  module _ (so_far : not before ≡ false) where
-    still : (r : Bool) → r ≡ (not (eqb top.up up) || leb (top.start + top.count) start) → Clear top up start before r
-    still r w = record { is = go before so_far }
-      where
-        go : (b : Bool) → not b ≡ false → r ≡ (b && (not (eqb top.up up) || leb (top.start + top.count) start))
-        go true h = w
-        go false h = not-both h
-
-    pub clear-other : (top.up ≡ up → ⊥) → Clear top up start before true
-    clear-other ne = still true (ap (λ (b : Bool). not b || leb (top.start + top.count) start) (sym (ne_eqb top.up up ne)))
-
-    pub clear-early : top.up ≡ up → start < top.start → Clear top up start before false
-    clear-early same lt = still false (sym (ap₂ (λ (a b : Bool). not a || b) (eq-eqb top.up up same) (lt-leb (top.start + top.count) start (omega arith))))
-
-    pub clear_at : top.up ≡ up → top.start ≤ start → Clear top up start before (leb top.count (start - top.start))
-    clear_at same low =
-        still _
-        (leb-alike top.count (start - top.start) (top.start + top.count) start (λ w. omega arith) (λ w. omega arith)
-        ∙ sym (ap (λ (b : Bool). not b || leb (top.start + top.count) start) (eq-eqb top.up up same)))

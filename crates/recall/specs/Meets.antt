@@ -1,5 +1,5 @@
 -- The ranges and the objects of all types on one walk. Assumes nothing.
-use Rattle.std.specs.Prelude.{◌≡◌, refl, List, ℕ, zero, suc, ◌+◌, ◌-◌, ◌≤◌, ◌<◌, length, get_or, set, replicate}
+use Rattle.std.specs.Prelude.{◌≡◌, refl, List, ℕ, zero, suc, ◌+◌, ◌-◌, ◌≤◌, ◌<◌, length, get_or, replicate}
 use Rattle.std.proofs.Common.{sym, ap, ◌∙◌, subst, arith}
 use Rattle.paper.specs.Ledger.{Range, nothing, objects_of, pool_before}
 use Rattle.paper.specs.Rules.{base_under}
@@ -49,23 +49,6 @@ nowhere = record { long = refl; far = all_alike 32 18446744073709551615 }
 
 pub record Tallied (p : Tally) (types : ℕ) (top : Top) (base : ℕ) (r : Tally) : Type 0 where
   pub told : top.typ < 32 → PoolOn p.sums p.befores p.bases types top.typ top.count base r.sums r.befores r.bases
-
-module _ {p : Tally} {types : ℕ} {top : Top} {base : ℕ} where
-  pub tally-not : 32 ≤ top.typ → {r : Tally} → Tallied p types top base r
-  tally-not far = record { told = λ lt. absurd (omega arith) }
-
-  module _ {sum : ℕ} (S : Plus (get_or p.sums top.typ 0) top.count sum) where
-    pub tally-known : top.typ < types → Tallied p types top base (record { sums = set p.sums top.typ sum; befores = p.befores; bases = p.bases })
-    tally-known known =
-        record {
-          told = λ lt. record { befores-same = refl; sum = sum; sum_is = S; sums-set = refl; known = λ k. refl; fresh = λ ge. absurd (omega arith) };
-        }
-
-    pub tally-fresh : types ≤ top.typ → Tallied p types top base (record { sums = set p.sums top.typ sum; befores = p.befores; bases = set p.bases top.typ base })
-    tally-fresh fresh =
-        record {
-          told = λ lt. record { befores-same = refl; sum = sum; sum_is = S; sums-set = refl; known = λ k. absurd (omega arith); fresh = λ ge. refl };
-        }
 
 -- the lists are true of a stage
 pub record Meeting (places₀ first₀ last₀ : List ℕ) (p : Tally) (places first last : List ℕ) (g : Stage) : Type 0 where

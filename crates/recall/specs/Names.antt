@@ -40,9 +40,6 @@ module _ {f : List ℕ} {t : Trail} {n : ℕ} {name : Span} (X : Text f t.starts
   pool-unknown ge = record { told = λ s K S lo hi. rw ((its-place s K lo hi).fresh ge) refl }
 
   module _ (lt : typ < t.types) where
-    pub pool-far : {sums : List ℕ} → 32 ≤ typ → {r : ℕ} → NamedPool f t sums n r
-    pool-far far = record { told = λ s K S lo hi. absurd (omega (arith, K.names.few)) }
-
     pub pool-below : {sums : List ℕ} → (get_or t.sups typ 0 ≡ 0 → ⊥) → NamedPool f t sums n 0
     unfolding pool_of given? when◌then◌else◌
     pool-below up = record { told = λ s K S lo hi. rw ((its-place s K lo hi).known lt) (rw (← K.sups typ lt) (go s (get_or t.sups typ 0) up)) }

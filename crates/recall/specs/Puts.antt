@@ -1,7 +1,7 @@
 -- Ranges put down by their types, each behind those of its type that are there. Assumes nothing.
 use Rattle.std.specs.Prelude.{◌≡◌, Bool, true, false, ◌&&◌, ◌||◌, ◌⊎◌, List, [], ◌∷◌, ◌++◌, ℕ, suc, ◌+◌, ◌≤◌, ◌<◌, leb, length, get_or, set}
 use Rattle.std.proofs.Math.Path.{refl}
-use Rattle.std.proofs.Common.{sym, ap, ap₂, ◌∙◌, inl, inr, arith, lt_of_not-le, length-set, get_or-set_same, get_or-set_other, eq-eqb, ne_eqb}
+use Rattle.std.proofs.Common.{sym, ap, ap₂, ◌∙◌, inl, inr, arith, lt_of_not-le, get_or-set_same, get_or-set_other, eq-eqb, ne_eqb}
 use Rattle.std.proofs.Math.Decide.{dec_le}
 use native.Nat.{ℕᴺ_discrete}
 use Rattle.paper.specs.Reader.{when◌then◌else◌}
@@ -23,35 +23,6 @@ pub record PutOn (typ begin end : ℕ) (places first last places' first' last' :
       typ < length places → get_or places typ 0 < length first → get_or places typ 0 < length last
       → (places' ≡ set places typ (get_or places typ 0 + 1)) × (first' ≡ set first (get_or places typ 0) begin) × (last' ≡ set last (get_or places typ 0) end)
   pub left : length first ≤ get_or places typ 0 → (places' ≡ places) × (first' ≡ first) × (last' ≡ last)
-
-module _ {typ begin end : ℕ} {places first last : List ℕ} where
-  pub put-not : (typ < length places → get_or places typ 0 < length first → get_or places typ 0 < length last → ⊥) → PutOn typ begin end places first last places first last
-  put-not never =
-      record {
-        places-long = refl;
-        first-long = refl;
-        last-long = refl;
-        ends = λ t le. le;
-        done = λ a b c. absurd (never a b c);
-        left = λ le. (refl, refl, refl);
-      }
-
-  pub put-done :
-      {k : ℕ} → k ≡ get_or places typ 0 → typ < length places → k < length first → k < length last
-      → PutOn typ begin end places first last (set places typ (k + 1)) (set first k begin) (set last k end)
-  put-done {k} is a b c =
-      record {
-        places-long = length-set places typ (k + 1);
-        first-long = length-set first k begin;
-        last-long = length-set last k end;
-        ends = λ t le. moved t (ℕᴺ_discrete t typ) le;
-        done = λ x y z. rw is (refl, refl, refl);
-        left = λ le. absurd (omega (arith, is));
-      }
-    where
-      moved : (t : ℕ) → Dec (t ≡ typ) → get_or places t 0 ≤ length first → get_or (set places typ (k + 1)) t 0 ≤ length first
-      moved t (yes e) le = rw (e, get_or-set_same places typ (k + 1) 0 a) (omega arith)
-      moved t (no ne) le = rw (get_or-set_other places typ t (k + 1) 0 ne) le
 
 -- ── the ranges of all types ──
 

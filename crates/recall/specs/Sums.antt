@@ -7,7 +7,7 @@ use mathlib.Core.List.{List, [], ◌∷◌, ◌++◌, append-nil}
 use Rattle.std.proofs.Math.Decide.{dec_le}
 use native.Nat.{ℕᴺ_discrete}
 use Rattle.std.proofs.Math.Dec.{eqb}
-use Rattle.std.proofs.Math.ListN.{length, get_or, length-set, get_or-eq_default}
+use Rattle.std.proofs.Math.ListN.{length, get_or, length-set}
 use Rattle.std.proofs.lemmas.List.{get_or_at}
 use Rattle.paper.specs.Reader.{when◌then◌else◌}
 use Rattle.paper.specs.Lists.{total}
@@ -46,9 +46,6 @@ pub record Plus (sum n r : ℕ) : Type 0 where
 
 pub record OfType (list : List ℕ) (typ r : ℕ) : Type 0 where
   pub is : r ≡ get_or list typ 0
-
-pub of-far : {list : List ℕ} {typ : ℕ} → length list ≡ 32 → 32 ≤ typ → OfType list typ 0
-of-far {list} {typ} long far = record { is = sym (get_or-eq_default list 0 {n = typ} (omega arith)) }
 
 pub record BaseTold (bases : List ℕ) (typ up r : ℕ) : Type 0 where
   pub is : (ts : List Typ) → ((i : ℕ) → get_or bases i 0 ≡ (type_in ts i).base) → r ≡ base_under ts typ (maybe up)

@@ -17,13 +17,7 @@ pub struct Entries {
 fn plus(sum: u64, n: u64) -> u64
     ensures { Plus sum n result }
 {
-    if 4294967295 < n {
-        return 4294967295;
-    }
-    if 4294967295 - n < sum {
-        return 4294967295;
-    }
-    sum + n
+    sum.saturating_add(n).min(4294967295)
 }
 
 // The objects of all base pools, with an entry's if it is a base type's.

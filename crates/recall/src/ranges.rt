@@ -35,11 +35,7 @@ fn no_tally() -> Tally
 fn plus(sum: u32, n: u64) -> u32
     ensures { Plus sum n result }
 {
-    let room = 4294967295 - sum;
-    if (room as u64) < n {
-        return 4294967295;
-    }
-    sum + (n as u32)
+    (sum as u64).saturating_add(n).min(4294967295) as u32
 }
 
 // What a list has of a type.

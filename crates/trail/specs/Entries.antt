@@ -53,16 +53,6 @@ pub record EntryPast (f : List ℕ) (t : Trail) (r : Trail) : Type 0 where
 
 -- ── the fields that a type has ──
 
-module _ {t : Trail} {typ : ℕ} where
-  pub had-new : t.types ≤ typ → Had t typ 0
-  had-new ge = record { small = omega arith; is = λ f s K. sym (K.others typ ge) }
-
-  pub had-far : typ < t.types → 32 ≤ typ → Had t typ 0
-  had-far lt ge = record { small = omega arith; is = λ f s K. absurd (omega (arith, K.names.few)) }
-
-  pub had-got : typ < t.types → {r : ℕ} → (r ≡ get_or t.owns typ 0) × (r < 256) → Had t typ r
-  had-got lt (same, small) = record { small = small; is = λ f s K. same ∙ K.owns typ lt }
-
 -- ── what an entry makes known ──
 
 -- so many more for the type t₀
@@ -401,13 +391,6 @@ pub record Given (have count r : ℕ) : Type 0 where
 pub record Beyond (n known r : ℕ) : Type 0 where
   pub few : r ≤ 128
   pub is : known ≤ n → n - known ≤ 128 → r ≡ n - known
-
-module _ {n known : ℕ} where
-  pub beyond-not : (known ≤ n → n - known ≤ 128 → ⊥) → Beyond n known 0
-  beyond-not never = record { few = omega arith; is = λ a b. absurd (never a b) }
-
-  pub beyond-got : n - known ≤ 128 → Beyond n known (n - known)
-  beyond-got few = record { few = few; is = λ a b. refl }
 
 -- the numbers of an entry that was read, as its parts have them
 pub record FieldsTold (f : List ℕ) (s : State) (t : Trail) (e : Entry × List ℕ) (q : ℕ) (P : EntryParts s t.end f t.at e q) (r : Fields) : Type 0 where

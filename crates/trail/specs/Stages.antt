@@ -364,16 +364,7 @@ pub record Behind? (f : List ℕ) (rest : ℕ) (g : Stage) (at : ℕ) (t : Trail
 pub record Walking (f : List ℕ) (k i : ℕ) (t : Trail) : Type 0 where
   pub left : length f ≤ 1048576 → (g : Stage) (at : ℕ) → steps k begin f 0 ≡ got g at → Behind? f (k - i) g at t
 
-pub walk_start : (f : List ℕ) (k : ℕ) {t : Trail} → Begins t → Walking f k 0 t
-walk_start f k B =
-    let z : k - 0 ≡ k = omega arith in
-    record {
-      left = λ size g at h.
-          let T = B.told f size in
-          record { here = begin; tells = tells-there T; left = rw z (ap (steps k begin f) T.place ∙ h) };
-    }
-
-pub steps_first : (k : ℕ) (g : Stage) (f : List ℕ) (at : ℕ) (h : Stage) (q : ℕ) → steps (suc k) g f at ≡ got h q → (m : Stage) × (p : ℕ) × (onward g f at ≡ got m p) × (steps k m f p ≡ got h q)
+steps_first : (k : ℕ) (g : Stage) (f : List ℕ) (at : ℕ) (h : Stage) (q : ℕ) → steps (suc k) g f at ≡ got h q → (m : Stage) × (p : ℕ) × (onward g f at ≡ got m p) × (steps k m f p ≡ got h q)
 unfolding steps
 steps_first k g f at h q r =
     let A = bind_inv (onward g) (steps k) f at h q r in

@@ -1,15 +1,14 @@
 -- Strings by their numbers, where the pairs begin at known places. Assumes nothing.
-use Rattle.std.specs.Prelude.{Err, Ok, ◌≡◌, Bool, true, false, ◌&&◌, leb, get_or, take, drop}
+use Rattle.std.specs.Prelude.{Err, Ok, ◌≡◌, Bool, true, false, leb, get_or, take, drop}
 use Rattle.std.proofs.Math.Path.{refl}
-use Rattle.std.proofs.Common.{sym, ap, ap₂, ◌∙◌, subst, add-one, length-append, length-take, drop_of_length-le, drop-cons, get_or-append-add, get_or-take, take_all, leb-true}
+use Rattle.std.proofs.Common.{sym, ap, ap₂, ◌∙◌, subst, add-one, length-append, length-take, drop-cons, get_or-append-add, get_or-take, leb-true}
 use mathlib.Core.List.{List, [], ◌∷◌, ◌++◌, append_assoc, append-nil}
 use Prim.Native.Nat.{ℕ, zero, suc, ◌+◌, ◌-◌, ◌*◌, ◌≤◌, ◌<◌}
 use native.Mathlib.Omega.{arith}
 use Rattle.std.proofs.Math.ListN.{length, get_or-append}
-use Rattle.std.proofs.Math.Seq.{slice}
 use Rattle.paper.specs.Reader.{when◌then◌else◌, Out, got, no, and_then, hold, must, ◌or_no◌, give, bytes, times}
 use Rattle.paper.specs.Numbers.{v64, fixed, number}
-use Rattle.paper.specs.Lists.{same, last_or}
+use Rattle.paper.specs.Lists.{last_or}
 use Rattle.paper.specs.Ledger.{State}
 use Rattle.paper.specs.Rules.{strings_rules, end_rules}
 use Rattle.paper.specs.Keeps.{hold?}
@@ -51,9 +50,6 @@ pub record PartOf (f : List ℕ) (base a b : ℕ) (r : Span) : Type 0 where
 
 pub nowhere : (f : List ℕ) → Within f (record { start = 0; end = 0 })
 nowhere f = record { rises = omega arith; inside = omega arith }
-
-pub part-not : {f : List ℕ} {base a b : ℕ} → ((a ≤ b) → base + b ≤ length f → ⊥) → PartOf f base a b (record { start = 0; end = 0 })
-part-not {f} never = record { within = nowhere f; is = λ x y. absurd (never x y) }
 
 pub part-got : {f : List ℕ} {base a b : ℕ} → a ≤ b → base + b ≤ length f → PartOf f base a b (record { start = base + a; end = base + b })
 unfolding piece
@@ -292,30 +288,7 @@ pub record Sought (f : List ℕ) (ps : List ℕ) (strs : List (List ℕ)) (n k :
 pub record Seeking (f starts : List ℕ) (blocks n i k : ℕ) : Type 0 where
   pub left : (strs : List (List ℕ)) → Blocks f (take blocks starts) strs → 0 < n → n ≤ length strs → Sought f (drop i (take blocks starts)) strs n k
 
-pub seek-start : (f starts : List ℕ) (blocks n : ℕ) → Seeking f starts blocks n 0 (n - 1)
-seek-start f starts blocks n = record { left = λ strs B lo hi. record { rest = strs; blocks = B; is = refl; short = omega arith } }
-
-pub text-zero : {f starts : List ℕ} {blocks n : ℕ} → n ≡ 0 → Text f starts blocks n (record { start = 0; end = 0 })
-text-zero {f} z = record { within = nowhere f; is = λ strs B lo hi. absurd (omega arith) }
-
 module _ {f starts : List ℕ} {blocks n i k : ℕ} (g : Seeking f starts blocks n i k) where
-  seek-none : length (take blocks starts) ≤ i → Text f starts blocks n (record { start = 0; end = 0 })
-  seek-none over =
-      record {
-        within = nowhere f;
-        is = λ strs B lo hi.
-            let S = g.left strs B lo hi in
-            let none : drop i (take blocks starts) ≡ [] = drop_of_length-le (take blocks starts) over in
-            let empty : S.rest ≡ [] = rw none at S.blocks in
-            absurd (omega (arith, S.short, ap length empty));
-      }
-
-  pub seek-end : blocks ≤ i → Text f starts blocks n (record { start = 0; end = 0 })
-  seek-end le = seek-none (omega (arith, length-take blocks starts))
-
-  pub seek-full : length starts ≡ 32 → 32 ≤ i → Text f starts blocks n (record { start = 0; end = 0 })
-  seek-full long le = seek-none (omega (arith, length-take blocks starts))
-
   module _ (long : length starts ≡ 32) (lt : i < 32) (due : i < blocks) {c : Behind} (T : Told v64 (λ x. x) f (get_or starts i 0) c) where
     next : drop i (take blocks starts) ≡ get_or starts i 0 ∷ drop (i + 1) (take blocks starts)
     next =
@@ -349,9 +322,3 @@ module _ {f starts : List ℕ} {blocks n i k : ℕ} (g : Seeking f starts blocks
               let m-is = T.place (length a) m one.counted in
               I.is (get_or starts i 0) a (subst (λ (x : ℕ). Block f (get_or starts i 0) x a) (sym m-is) one) n-is less ∙ sym (S.is ∙ ap (λ (l : List (List ℕ)). get_or l k []) is ∙ get_or-append a b [] k (omega arith));
         }
-
--- ── the same bytes ──
-
--- the names' laws are stated for a part of the source, and all of b is one
-whole : (b : List ℕ) → slice 0 (length b) b ≡ b
-whole b = take_all (length b) b (omega arith)

@@ -246,9 +246,6 @@ module _ {f : List ℕ} {at : ℕ} {b₁ : Behind} (P : Told v64 same f at b₁)
               };
         }
 
-pub new-past : {f : List ℕ} {at : ℕ} {r : NewField} → NewTold f at r → (t : ℕ) (u : Upto) → Told (new_field any_type t u) (λ g. g.1) f at (record { value = r.end; at = r.at })
-new-past N t u = record { value = λ g q h. (N.told t u g q h).end; place = λ g q h. (N.told t u g q h).place }
-
 pub end-past : {f : List ℕ} {at : ℕ} {b : Behind} → Told v64 same f at b → (s : ℕ) → Told (end_offset s) (λ e. after s e) f at b
 unfolding end_offset
 end-past P s = ruled P (end_rules s)

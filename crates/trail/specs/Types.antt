@@ -22,12 +22,6 @@ pub record Stands (f : List ℕ) (from to : ℕ) (w : List ℕ) : Type 0 where
 pub record IsAt (f w : List ℕ) (from to : ℕ) (r : Bool) : Type 0 where
   pub is : (v : List ℕ) → Stands f from to v → r ≡ same w v
 
-pub not_at : {f w : List ℕ} {from to : ℕ} {r : Bool} → (from ≤ to → to ≤ length f → ⊥) → IsAt f w from to r
-not_at never = record { is = λ v S. absurd (never S.rises S.inside) }
-
-pub at_same : {f w : List ℕ} {from to : ℕ} {r : Bool} → r ≡ same w (take (to - from) (drop from f)) → IsAt f w from to r
-at_same {f} {w} q = record { is = λ v S. q ∙ ap (same w) S.is }
-
 -- where the name itself stands
 pub at_place : {f : List ℕ} {a b from to : ℕ} → a ≡ from → b ≡ to → IsAt f (take (b - a) (drop a f)) from to true
 at_place {f} {a} {b} {from} {to} p q =
@@ -53,10 +47,6 @@ pub find-start : (f : List ℕ) (n : ℕ) (froms tos : List ℕ) (w : List ℕ) 
 find-start f n froms tos w = record { most = omega arith; left = λ names N. refl }
 
 module _ {f : List ℕ} {n : ℕ} {froms tos : List ℕ} {w : List ℕ} {i : ℕ} (g : Finding f n froms tos w i) where
-  -- there are no more types than 32
-  pub find-over : 32 ≤ i → i < n → Found f n froms tos w n
-  find-over ge lt = record { most = omega arith; is = λ names N. absurd (omega (arith, N.few)) }
-
   pub find-end : n ≤ i → Found f n froms tos w n
   unfolding place or
   find-end le =
@@ -96,12 +86,6 @@ module _ {f : List ℕ} {n : ℕ} {froms tos : List ℕ} {w : List ℕ} {i : ℕ
 
 pub record StandsAt (n : ℕ) (froms tos : List ℕ) (name : Span) (r : ℕ) : Type 0 where
   pub is : r < n → (get_or froms r 0 ≡ name.start) × (get_or tos r 0 ≡ name.end)
-
-pub stands-nowhere : {n : ℕ} {froms tos : List ℕ} {name : Span} → StandsAt n froms tos name n
-stands-nowhere = record { is = λ lt. absurd (omega arith) }
-
-pub stands-there : {n : ℕ} {froms tos : List ℕ} {name : Span} {i : ℕ} → get_or froms i 0 ≡ name.start → get_or tos i 0 ≡ name.end → StandsAt n froms tos name i
-stands-there a b = record { is = λ lt. (a, b) }
 
 -- no name occurs twice, so no other type has it
 pub find-there : {f : List ℕ} {n : ℕ} {froms tos : List ℕ} {name : Span} {r : ℕ} → StandsAt n froms tos name r → r < n → Found f n froms tos (bytes_of f name) r

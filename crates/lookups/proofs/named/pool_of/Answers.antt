@@ -1,19 +1,10 @@
 -- `lookups::named::pool_of` meets its contract. Assumes nothing.
-use Rattle.std.proofs.Common.{arith, sym, ◌∙◌}
+use Rattle.std.proofs.Common.{arith}
 use Rattle.lookups.specs.Named.{pool-none, pool-some}
 use Rattle.lookups.proofs.named.pool_of.Goals as goal
 
-pub shape_of-work-then-memo-lt33 : goal.shape_of-work-then-memo-lt33
-shape_of-work-then-memo-lt33 c = c.recall_type-memo.ensures.now.holds.ok.long ∙ sym c.requires.0.ok.long
-
 pub returns-then-memo-lt33 : goal.returns-then-memo-lt33
 returns-then-memo-lt33 c = pool-none c.recall_type-memo.ensures c.if-memo-lt33.true
-
-pub base_pool-requires : goal.base_pool-requires
-base_pool-requires c = c.recall_type-memo.ensures.now.holds.ok
-
-pub shape_of-work : goal.shape_of-work
-shape_of-work c = c.recall_type-memo.ensures.now.holds.ok.long ∙ sym c.requires.0.ok.long
 
 pub returns : goal.returns
 returns c = pool-some c.recall_type-memo.ensures (omega (arith, c.if-memo-lt33.false)) c.base_pool.ensures

@@ -1,7 +1,7 @@
 -- The invariant: the ranges from the i-th on were gathered. Assumes nothing.
 use Rattle.std.proofs.Common.{arith, ◌-◌}
 use Rattle.table.specs.View.{log_of}
-use Rattle.lookups.specs.Gather.{gathering-start, gathering-passed, gathering-taken, gather-room, gathered, end_fits}
+use Rattle.lookups.specs.Gather.{gathering-start, gathering-passed, gathering-taken, gather-room, end_fits}
 use Rattle.lookups.proofs.ranges.gather_each.Goals as goal
 
 pub loop-i-init : goal.loop-i-init
@@ -18,12 +18,3 @@ loop-i-preserved-then-r-t c = (omega arith, gathering-taken (c.loop-i.i - 1) c.l
 
 pub loop-i-preserved : goal.loop-i-preserved
 loop-i-preserved c = (omega arith, gathering-passed (c.loop-i.i - 1) c.loop-i.invariant.1 (omega arith) (omega arith) c.range_at-r.ensures.result_value c.if-r-t.false)
-
-pub shape_of-first : goal.shape_of-first
-shape_of-first c = c.loop-i.invariant.1.first-long
-
-pub shape_of-last : goal.shape_of-last
-shape_of-last c = c.loop-i.invariant.1.last-long
-
-pub returns : goal.returns
-returns c = gathered (omega arith) c.requires.ok.1 c.loop-i.invariant.1

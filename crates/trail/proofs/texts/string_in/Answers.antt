@@ -1,15 +1,5 @@
-use Rattle.std.proofs.Common.{arith}
-use Rattle.trail.specs.Texts.{in-none, in-first, in-later}
+use Rattle.trail.specs.Texts.{in-first, in-later}
 use Rattle.trail.proofs.texts.string_in.Goals as goal
-
-pub returns-then-file-from : goal.returns-then-file-from
-returns-then-file-from c = in-none (λ x y z. omega arith)
-
-pub returns-then-n-gt1024 : goal.returns-then-n-gt1024
-returns-then-n-gt1024 c = in-none (λ x y z. omega arith)
-
-pub returns-then-n-k : goal.returns-then-n-k
-returns-then-n-k c = in-none (λ x y z. omega arith)
 
 pub returns-then-k-eq0 : goal.returns-then-k-eq0
 returns-then-k-eq0 c = in-first c.four-to.ensures c.if-k-eq0.true c.part.ensures

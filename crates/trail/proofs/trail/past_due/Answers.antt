@@ -4,8 +4,5 @@ use Rattle.trail.proofs.trail.past_due.Goals as goal
 pub returns-then-not-due : goal.returns-then-not-due
 returns-then-not-due c = due-not c.if-not-due.true-raw
 
-pub past-requires : goal.past-requires
-past-requires c = tt
-
 pub returns : goal.returns
 returns c = due-past c.if-not-due.false-raw c.past.ensures

@@ -2,9 +2,6 @@ use Rattle.std.proofs.Common.{arith}
 use Rattle.trail.specs.Stages.{strings-not, strings-none, strings-over, strings-past}
 use Rattle.trail.proofs.trail.past_strings.Goals as goal
 
-pub past-n-requires : goal.past-n-requires
-past-n-requires c = tt
-
 pub returns-then-n-gt1024 : goal.returns-then-n-gt1024
 returns-then-n-gt1024 c = strings-not c.past-n.ensures (λ a b. omega arith)
 
@@ -13,9 +10,6 @@ returns-then-file-n c = strings-not c.past-n.ensures (λ a b. omega arith)
 
 pub returns-then-n-eq0 : goal.returns-then-n-eq0
 returns-then-n-eq0 c = strings-none c.past-n.ensures c.if-n-eq0.true
-
-pub four-last-requires : goal.four-last-requires
-four-last-requires c = tt
 
 pub returns-then-file-base : goal.returns-then-file-base
 returns-then-file-base c = strings-over c.past-n.ensures c.if-n-eq0.false c.four-last.ensures (λ a. omega arith)
