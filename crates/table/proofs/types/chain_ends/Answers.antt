@@ -1,12 +1,9 @@
 -- `table::types::chain_ends` meets its contract. Assumes nothing.
-use Rattle.std.proofs.Common.{◌≡◌, ℕ, ◌+◌, ◌-◌, length, sym, ap, ◌∙◌, arith}
+use Rattle.std.proofs.Common.{◌≡◌, ℕ, ◌+◌, ◌-◌, sym, ap, ◌∙◌, arith}
 use Rattle.paper.specs.Rules.{chain_ends?}
 use Rattle.table.specs.View.{maybe, types_of}
 use Rattle.table.specs.Below.{chain-none, chain-meets, chain-on, chain-over}
 use Rattle.table.proofs.types.chain_ends.Goals as goal
-
-pub loop-init : goal.loop-init
-loop-init c = let z : length (types_of c.args.work.now) ≡ c.types-end.result - 0 = omega arith in ap (λ (k : ℕ). chain_ends? k (types_of c.args.work.now) c.args.t (maybe c.args.up)) z
 
 pub returns-then-above-eq0 : goal.returns-then-above-eq0
 returns-then-above-eq0 c = sym (c.loop.invariant ∙ chain-none (types_of c.args.work.now) c.args.t (c.types-end.result - c.loop.counter) c.loop.above (omega arith) c.if-above-eq0.true)
