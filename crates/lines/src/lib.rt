@@ -11,7 +11,6 @@ ghost use Rattle.table.specs.View.{kind_from};
 ghost use Rattle.words.specs.Answers.{option};
 
 use values::constants::constant_of;
-use words::read::Maybe;
 use words::write::{put_decimal, put_hex_bytes, put_signed};
 
 // A number and the byte that ends it.
@@ -39,12 +38,12 @@ pub fn put_string(out: &mut [u8], at: usize, s: &[u8]) -> usize
 }
 
 // A number or a dash, and a tab.
-fn put_or_dash(out: &mut [u8], at: usize, x: Maybe) -> usize
+fn put_or_dash(out: &mut [u8], at: usize, x: Option<u64>) -> usize
     ensures { Laid out.old at (or_dash (option x) ++ tab ∷ []) out.new result }
 {
     match x {
-        Maybe::Dash => lay::put_bytes(out, at, b"-\t"),
-        Maybe::Some(n) => put_ended(out, at, n, b'\t'),
+        None => lay::put_bytes(out, at, b"-\t"),
+        Some(n) => put_ended(out, at, n, b'\t'),
     }
 }
 
@@ -52,8 +51,8 @@ pub fn put_type(
     out: &mut [u8],
     at: usize,
     name: u64,
-    sup: Maybe,
-    start: Maybe,
+    sup: Option<u64>,
+    start: Option<u64>,
     count: u64,
     fields: u64,
 ) -> usize

@@ -1,4 +1,5 @@
 -- One chunk that is due: the lines of its values, by what the table says of its field. Assumes nothing.
+use Rattle.std.specs.Prelude as prelude
 use Rattle.std.specs.Prelude.{◌≡◌, refl, false, List, ℕ, ◌≤◌, ◌<◌, get_or}
 use Rattle.std.proofs.Common.{sym, ap, ◌∙◌, subst, arith, lt_of_not-le, le-leb}
 use Rattle.std.proofs.Math.Path.{fun_ext}
@@ -26,26 +27,26 @@ use Rattle.walk.specs.Steps.{NotedKind}
 use Rattle.texts.specs.Told.{Told}
 use Rattle.texts.specs.Chunks.{ChunkTaken}
 use Rattle.texts.specs.MapLines.{MapsTaken}
-use Rattle.texts.specs.declared.TextRead.{TextRead}
+use Rattle.texts.specs.declared.Taken.{Taken}
 
 -- the answer is that of n values of the kind, in the state that the table l says of the text t
-abbrev pub KindTaken : ℕ → FieldRow → List ℕ → List ℕ → ℕ → List ℕ → ℕ → List ℕ → TextRead → Type 0
+abbrev pub KindTaken : ℕ → FieldRow → List ℕ → List ℕ → ℕ → List ℕ → ℕ → List ℕ → prelude.Option Taken → Type 0
 KindTaken n row l t from out at m r =
     Told (repeat n (value_text (view t l) (kind_from row.kind row.a row.e))) (flat (put_value (kind_from row.kind row.a row.e))) t from out at m r
 
 pub kind-taken :
-    {n : ℕ} (row : FieldRow) (l : List ℕ) {strings : ℕ} {pools first last t : List ℕ} {from : ℕ} {out : List ℕ} {at : ℕ} {m : List ℕ} {r : TextRead}
+    {n : ℕ} (row : FieldRow) (l : List ℕ) {strings : ℕ} {pools first last t : List ℕ} {from : ℕ} {out : List ℕ} {at : ℕ} {m : List ℕ} {r : prelude.Option Taken}
     → Known (view t l) row.e strings pools first last → ChunkTaken n row.kind row.a row.e strings pools first last t from out at m r → KindTaken n row l t from out at m r
 kind-taken row l {t = t} K C = C.told (view t l) K
 
 -- the same, in every state whose objects of the kind lie in these ranges, whatever stands where the pools would
-pub record RangedTaken (n : ℕ) (row : FieldRow) (strings : ℕ) (first last t : List ℕ) (from : ℕ) (out : List ℕ) (at : ℕ) (m : List ℕ) (r : TextRead) : Type 0 where
+pub record RangedTaken (n : ℕ) (row : FieldRow) (strings : ℕ) (first last t : List ℕ) (from : ℕ) (out : List ℕ) (at : ℕ) (m : List ℕ) (r : prelude.Option Taken) : Type 0 where
   pub told :
       (s : State) → ((pools : List ℕ) → Known s row.e strings pools first last)
       → Told (repeat n (value_text s (kind_from row.kind row.a row.e))) (flat (put_value (kind_from row.kind row.a row.e))) t from out at m r
 
 pub ranged-taken :
-    {n : ℕ} (row : FieldRow) {strings : ℕ} {pools first last t : List ℕ} {from : ℕ} {out : List ℕ} {at : ℕ} {m : List ℕ} {r : TextRead}
+    {n : ℕ} (row : FieldRow) {strings : ℕ} {pools first last t : List ℕ} {from : ℕ} {out : List ℕ} {at : ℕ} {m : List ℕ} {r : prelude.Option Taken}
     → ChunkTaken n row.kind row.a row.e strings pools first last t from out at m r → RangedTaken n row strings first last t from out at m r
 ranged-taken row {pools = pools} C = record { told = λ s K. C.told s (K pools) }
 
@@ -66,7 +67,7 @@ constant-kinds k a e h =
     record { element = λ l. absurd (omega arith); length = λ is. absurd (omega arith); types = λ is. absurd (omega arith); kinds = λ is. absurd (omega arith) }
 
 pub constant-taken :
-    {n : ℕ} (row : FieldRow) (l : List ℕ) {strings : ℕ} {pools first last t : List ℕ} {from : ℕ} {out : List ℕ} {at : ℕ} {m : List ℕ} {r : TextRead} → Holds t l → strings ≡ strings_in l
+    {n : ℕ} (row : FieldRow) (l : List ℕ) {strings : ℕ} {pools first last t : List ℕ} {from : ℕ} {out : List ℕ} {at : ℕ} {m : List ℕ} {r : prelude.Option Taken} → Holds t l → strings ≡ strings_in l
     → row.kind ≤ 4 → ChunkTaken n row.kind row.a 0 strings pools first last t from out at m r → KindTaken n row l t from out at m r
 constant-taken {n} row l {t = t} {from} {out} {at} {m} {r} H count h C =
     subst (λ (k : Kind). Told (repeat n (value_text (view t l) k)) (flat (put_value k)) t from out at m r) (constant-same row.kind row.a row.e 0 h)
@@ -75,7 +76,7 @@ constant-taken {n} row l {t = t} {from} {out} {at} {m} {r} H count h C =
 -- ── values of one kind of element, which refers to no object unless it is an annotation ──
 
 pub plain-taken :
-    {n : ℕ} (row : FieldRow) (l : List ℕ) {strings : ℕ} {pools first last t : List ℕ} {from : ℕ} {out : List ℕ} {at : ℕ} {m : List ℕ} {r : TextRead} → Holds t l → strings ≡ strings_in l
+    {n : ℕ} (row : FieldRow) (l : List ℕ) {strings : ℕ} {pools first last t : List ℕ} {from : ℕ} {out : List ℕ} {at : ℕ} {m : List ℕ} {r : prelude.Option Taken} → Holds t l → strings ≡ strings_in l
     → NotedKind pools row.kind row.a row.e (view t l) → 4 < row.kind → (row.kind ≡ 20 → ⊥) → row.e < 32
     → ChunkTaken n row.kind row.a row.e strings pools first last t from out at m r → KindTaken n row l t from out at m r
 plain-taken row l {strings} {pools} {first} {last} {t} H count N some single low C = kind-taken row l (known (ℕᴺ_discrete row.e 5)) C
@@ -91,11 +92,11 @@ abbrev pub PoolsSay : List ℕ → List ℕ → State → Type 0
 PoolsSay kinds pools s = unnamed? kinds ≡ false → (m n : ℕ) → placed? pools m n ≡ annotation? s m n
 
 -- the answer is that of n maps of these kinds
-abbrev pub MapsTold : ℕ → List ℕ → List ℕ → List ℕ → ℕ → List ℕ → ℕ → List ℕ → TextRead → Type 0
+abbrev pub MapsTold : ℕ → List ℕ → List ℕ → List ℕ → ℕ → List ℕ → ℕ → List ℕ → prelude.Option Taken → Type 0
 MapsTold n kinds l t from out at m r = Told (repeat n (value_text (view t l) (mapping kinds))) (flat (put_value (mapping kinds))) t from out at m r
 
 pub maps-told :
-    {n strings : ℕ} {pools starts first last kinds l t : List ℕ} {from : ℕ} {out : List ℕ} {at : ℕ} {m : List ℕ} {r : TextRead} → Holds t l → strings ≡ strings_in l
+    {n strings : ℕ} {pools starts first last kinds l t : List ℕ} {from : ℕ} {out : List ℕ} {at : ℕ} {m : List ℕ} {r : prelude.Option Taken} → Holds t l → strings ≡ strings_in l
     → AllGrouped kinds l starts first last → PoolsSay kinds pools (view t l) → MapsTaken n strings pools starts first last kinds t from out at m r → MapsTold n kinds l t from out at m r
 maps-told {pools = pools} {kinds = kinds} {l = l} {t = t} H count A say C = C.told (view t l) (map-known H count pools kinds A say)
 
@@ -104,7 +105,7 @@ pub row-say : (row : FieldRow) {kinds pools : List ℕ} {s : State} → row.kind
 row-say row is these N h = N.say (sym (unnamed-map row.kind row.a row.e is refl) ∙ ap unnamed? (sym these) ∙ h)
 
 pub row_told :
-    (n : ℕ) (row : FieldRow) (l : List ℕ) {kinds t : List ℕ} {from : ℕ} {out : List ℕ} {at : ℕ} {m : List ℕ} {r : TextRead} → row.kind ≡ 20 → kinds ≡ put_fixed row.a row.e
+    (n : ℕ) (row : FieldRow) (l : List ℕ) {kinds t : List ℕ} {from : ℕ} {out : List ℕ} {at : ℕ} {m : List ℕ} {r : prelude.Option Taken} → row.kind ≡ 20 → kinds ≡ put_fixed row.a row.e
     → MapsTold n kinds l t from out at m r → KindTaken n row l t from out at m r
 unfolding kind_from when◌then◌else◌
 row_told n row l is these T = rw is (rw these at T)
@@ -113,7 +114,7 @@ row_told n row l is these T = rw is (rw these at T)
 
 -- the field's row has the chunk's kind
 pub chunk-told :
-    (d : DueRow) (row : FieldRow) (l : List ℕ) {t : List ℕ} {from : ℕ} {out : List ℕ} {at : ℕ} {m : List ℕ} {r : TextRead} → field_in row ≡ get_or (flds_of l) d.field no_field
+    (d : DueRow) (row : FieldRow) (l : List ℕ) {t : List ℕ} {from : ℕ} {out : List ℕ} {at : ℕ} {m : List ℕ} {r : prelude.Option Taken} → field_in row ≡ get_or (flds_of l) d.field no_field
     → KindTaken d.values row l t from out at m r → Told (chunk_text (view t l) (due_in d).0) (put_chunk (view t l) (due_in d).0) t from out at m r
 unfolding chunk_text field_at
 chunk-told d row l {t} {from} {out} {at} {m} {r} is T =

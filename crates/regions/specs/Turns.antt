@@ -1,5 +1,6 @@
 -- The chunks that are due in code: a turn for each, which puts down its size. Assumes nothing.
-use Rattle.std.specs.Prelude.{◌≡◌, refl, List, [], ◌∷◌, ◌++◌, map, ℕ, zero, suc, ◌+◌, ◌≤◌, ◌<◌, min, length, get_or}
+use Rattle.std.specs.Prelude as prelude
+use Rattle.std.specs.Prelude.{None, Some, ◌≡◌, refl, List, [], ◌∷◌, ◌++◌, map, ℕ, zero, suc, ◌+◌, ◌≤◌, ◌<◌, min, length, get_or}
 use Rattle.std.proofs.Common.{sym, ap, ◌∙◌, subst, arith}
 use Rattle.std.proofs.Math.ListN.{get_or-map}
 use Rattle.std.proofs.lemmas.List.{length-map}
@@ -17,16 +18,12 @@ use Rattle.table.specs.Answers.{due_in, no_due}
 use Rattle.table.specs.Sizes.{resized, DueSized}
 use Rattle.table.specs.declared.rows.DueRow.{DueRow}
 use Rattle.words.specs.declared.read.Place.{Place}
-use Rattle.words.specs.declared.read.Step.{Step}
-use Rattle.words.specs.declared.read.Step.TheVariants as step
 use Rattle.reader.specs.Sound.{Sound, Every, Declared}
 use Rattle.lookups.specs.Low.{Bounded}
 use Rattle.lookups.specs.Named.{Noted}
 use Rattle.walk.specs.Listed.{Listed}
 use Rattle.texts.specs.Told.{Told, was-got, was-bad}
 use Rattle.texts.specs.declared.Taken.{Taken}
-use Rattle.texts.specs.declared.TextRead.{TextRead}
-use Rattle.texts.specs.declared.TextRead.TheVariants.{Got, Bad}
 use Rattle.regions.specs.Chunks.{chunks_text, Left, left-start, left-done, left-bad, left-next}
 use Rattle.regions.specs.Sizes.{counted, sized_by, sized-none, sized-at, sized_same, sized-more, sized-all}
 
@@ -76,11 +73,11 @@ pub field-declared : {t l pools : List ℕ} {i : ℕ} → DueReady t l pools i �
 field-declared D d is = omega (arith, ap (λ (x : Due × ℕ). x.0.field) is, D.declared)
 
 -- its reading and its bytes
-abbrev pub DueTold : List ℕ → List ℕ → ℕ → ℕ → List ℕ → ℕ → List ℕ → TextRead → Type 0
+abbrev pub DueTold : List ℕ → List ℕ → ℕ → ℕ → List ℕ → ℕ → List ℕ → prelude.Option Taken → Type 0
 DueTold t l i from out at m r = Told (chunk_text (view t l) (due_at l i)) (put_chunk (view t l) (due_at l i)) t from out at m r
 
 pub due-told :
-    {t : List ℕ} (l : List ℕ) (i : ℕ) {from : ℕ} {out : List ℕ} {at : ℕ} {m : List ℕ} {r : TextRead} (d : DueRow) → due_in d ≡ get_or (dues_of l) i no_due
+    {t : List ℕ} (l : List ℕ) (i : ℕ) {from : ℕ} {out : List ℕ} {at : ℕ} {m : List ℕ} {r : prelude.Option Taken} (d : DueRow) → due_in d ≡ get_or (dues_of l) i no_due
     → Told (chunk_text (view t l) (due_in d).0) (put_chunk (view t l) (due_in d).0) t from out at m r → DueTold t l i from out at m r
 due-told {t} l i {from} {out} {at} {m} {r} d is T =
     subst (λ (u : Due). Told (chunk_text (view t l) u) (put_chunk (view t l) u) t from out at m r) (ap (λ (x : Due × ℕ). x.0) is) T
@@ -93,13 +90,13 @@ pub record OneSized (t l : List ℕ) (from i e : ℕ) (l' : List ℕ) : Type 0 w
   pub reads : chunk_text (view t l) (due_at l i) t from ≡ got chunk e
   pub now : Now t l' (record { state = view t l; due = resized i (counted (put_chunk (view t l) (due_at l i) chunk)) (dues_of l); chunks = chunks_of l })
 
-pub record ChunkSized (t l : List ℕ) (from i : ℕ) (r : Step) (l' : List ℕ) : Type 0 where
+pub record ChunkSized (t l : List ℕ) (from i : ℕ) (r : prelude.Option Place) (l' : List ℕ) : Type 0 where
   pub holds : Holds t l'
-  pub sized : (next : Place) → r ≡ step.To next → OneSized t l from i next.at l'
-  pub refused : r ≡ step.Bad → chunk_text (view t l) (due_at l i) t from ≡ no 20 0
+  pub sized : (next : Place) → r ≡ Some next → OneSized t l from i next.at l'
+  pub refused : r ≡ None → chunk_text (view t l) (due_at l i) t from ≡ no 20 0
 
-module _ {t l pools : List ℕ} {i : ℕ} (D : DueReady t l pools i) {from : ℕ} {out : List ℕ} {at : ℕ} {m : List ℕ} {a : TextRead} (T : DueTold t l i from out at m a) where
-  pub sized-bad : a ≡ Bad → ChunkSized t l from i step.Bad l
+module _ {t l pools : List ℕ} {i : ℕ} (D : DueReady t l pools i) {from : ℕ} {out : List ℕ} {at : ℕ} {m : List ℕ} {a : prelude.Option Taken} (T : DueTold t l i from out at m a) where
+  pub sized-bad : a ≡ None → ChunkSized t l from i None l
   sized-bad is =
       record {
         holds = D.holds;
@@ -108,7 +105,7 @@ module _ {t l pools : List ℕ} {i : ℕ} (D : DueReady t l pools i) {from : ℕ
       }
 
   -- it was counted from 0
-  pub sized-got : {k : Taken} {l' : List ℕ} → at ≡ 0 → a ≡ Got k → DueSized i k.at l l' → ChunkSized t l from i (step.To k.next) l'
+  pub sized-got : {k : Taken} {l' : List ℕ} → at ≡ 0 → a ≡ Some k → DueSized i k.at l l' → ChunkSized t l from i (Some k.next) l'
   sized-got {k} {l'} start is S =
       let L = was-got T is in
       let size : k.at ≡ counted (put_chunk (view t l) (due_at l i) L.value) = L.laid.next ∙ ap (λ (n : ℕ). min n most) (omega arith) in
@@ -130,11 +127,11 @@ pub record Sized (t l : List ℕ) (from e : ℕ) (l' : List ℕ) : Type 0 where
   pub reads : chunks_text (view t l) (what_due l) t from ≡ got chunks e
   pub now : Now t l' (record { state = view t l; due = zip (what_due l) (map counted (put_chunks (view t l) (what_due l) chunks)); chunks = chunks_of l })
 
-pub record RegionSized (t l : List ℕ) (from : ℕ) (r : Step) (l' : List ℕ) : Type 0 where
+pub record RegionSized (t l : List ℕ) (from : ℕ) (r : prelude.Option Place) (l' : List ℕ) : Type 0 where
   pub holds : Holds t l'
   pub long : length l' ≡ length l
-  pub sized : (next : Place) → r ≡ step.To next → Sized t l from next.at l'
-  pub refused : r ≡ step.Bad → chunks_text (view t l) (what_due l) t from ≡ no 20 0
+  pub sized : (next : Place) → r ≡ Some next → Sized t l from next.at l'
+  pub refused : r ≡ None → chunks_text (view t l) (what_due l) t from ≡ no 20 0
 
 -- i of them have their sizes
 pub record Sizing (t l₀ : List ℕ) (from : ℕ) (l : List ℕ) (at i : ℕ) : Type 0 where
@@ -157,7 +154,7 @@ pub what-long : {t l : List ℕ} → Holds t l → length (what_due l) ≡ dues_
 what-long {t} {l} h = length-map (dues_of l) what ∙ h.ok.dues-count
 
 module _ {t l₀ : List ℕ} {from : ℕ} (R : RegionReady t l₀) {l : List ℕ} {at i : ℕ} (G : Sizing t l₀ from l at i) where
-  unfoldable pub sizing-done : dues_in l₀ ≤ i → i ≤ dues_in l₀ → RegionSized t l₀ from (step.To (record { at = at })) l
+  unfoldable pub sizing-done : dues_in l₀ ≤ i → i ≤ dues_in l₀ → RegionSized t l₀ from (Some (record { at = at })) l
   sizing-done le ge =
       let all : length G.done ≡ length (dues_of l₀) = omega (arith, G.left.count, R.holds.ok.dues-count) in
       let whole = G.due ∙ sized-all (view t l₀) (dues_of l₀) G.done all in
@@ -210,8 +207,8 @@ module _ {t l₀ : List ℕ} {from : ℕ} (R : RegionReady t l₀) {l : List ℕ
         ap (λ (d : Due). f (view t l₀) d) (what-at l₀ i ∙ ap (λ (d : Due × ℕ). d.0) (sym row_same))
         ∙ ap (λ (s : State). f s (due_at l i)) (sym G.state)
 
-    module _ {r : Step} {l' : List ℕ} (C : ChunkSized t l at i r l') where
-      pub sizing-bad : r ≡ step.Bad → RegionSized t l₀ from step.Bad l'
+    module _ {r : prelude.Option Place} {l' : List ℕ} (C : ChunkSized t l at i r l') where
+      pub sizing-bad : r ≡ None → RegionSized t l₀ from None l'
       sizing-bad is =
           let all = left-bad G.left (what no_due) there (as_first (λ s d. chunk_text s d t at) ∙ C.refused is) in
           record {
@@ -221,7 +218,7 @@ module _ {t l₀ : List ℕ} {from : ℕ} (R : RegionReady t l₀) {l : List ℕ
             refused = λ q. all;
           }
 
-      unfoldable pub sizing-next : {next : Place} → r ≡ step.To next → Sizing t l₀ from l' next.at (i + 1)
+      unfoldable pub sizing-next : {next : Place} → r ≡ Some next → Sizing t l₀ from l' next.at (i + 1)
       sizing-next {next} is =
           let O = C.sized next is in
           let c = O.chunk in
@@ -273,7 +270,7 @@ module _ {t : List ℕ} (l : List ℕ) {l₁ : List ℕ} (N : Now t l₁ (said t
         now = subst (λ (g : Said). Now t l₂ (record { state = g.state; due = zip (map what g.due) (map counted (put_chunks g.state (map what g.due) S.chunks)); chunks = g.chunks })) says S.now;
       }
 
-  pub region-sized-same : Holds t l → {from : ℕ} {r : Step} {l₂ : List ℕ} → RegionSized t l₁ from r l₂ → RegionSized t l from r l₂
+  pub region-sized-same : Holds t l → {from : ℕ} {r : prelude.Option Place} {l₂ : List ℕ} → RegionSized t l₁ from r l₂ → RegionSized t l from r l₂
   region-sized-same H {from} C =
       record {
         holds = C.holds;

@@ -28,10 +28,10 @@ use paper::Ledger;
 use table::pushes::size_due;
 use table::rows::{DueRow, FieldRow, due_at, dues, field_at, strings};
 use texts::maps::maps_text;
-use texts::{Taken, TextRead, chunk_text};
+use texts::{Taken, chunk_text};
 use values::guides::make_guide;
 use values::maps::map_kinds;
-use words::read::{Place, Step};
+use words::read::Place;
 
 // 2 ^ 64 - 1
 const MOST: u64 = 18446744073709551615;
@@ -47,7 +47,7 @@ fn guided_bytes(
     last: &[u32],
     out: &mut [u8],
     at: usize,
-) -> TextRead
+) -> Option<Taken>
     requires { Kinds kind.kind kind.a kind.e × (kind.kind ≡ 20 → ⊥) × (length first.now ≡ length last.now) }
     ensures { RangedTaken n kind strings first.now last.now text.now p.at out.old at out.new result }
 {
@@ -80,7 +80,7 @@ fn ranged_bytes(
     last: &[u32],
     out: &mut [u8],
     at: usize,
-) -> TextRead
+) -> Option<Taken>
     requires { Kinds kind.kind kind.a kind.e × (kind.kind ≡ 20 → ⊥) × (length first.now ≡ length last.now) }
     ensures { RangedTaken n kind strings first.now last.now text.now p.at out.old at out.new result }
 {
@@ -115,7 +115,7 @@ fn linked_bytes(
     work: &[u32],
     out: &mut [u8],
     at: usize,
-) -> TextRead
+) -> Option<Taken>
     requires holds { Holds text.now work.now × Bounded (log_of work.now) }
     requires kinds { Kinds kind.kind kind.a kind.e × (kind.kind ≡ 20 → ⊥) × (32 ≤ kind.e) }
     ensures { KindTaken n kind work.now text.now p.at out.old at out.new result }
@@ -145,7 +145,7 @@ fn constant_bytes(
     work: &[u32],
     out: &mut [u8],
     at: usize,
-) -> TextRead
+) -> Option<Taken>
     requires { Holds text.now work.now × (kind.kind ≤ 4) }
     ensures { KindTaken n kind work.now text.now p.at out.old at out.new result }
 {
@@ -176,7 +176,7 @@ fn grouped_bytes(
     work: &[u32],
     out: &mut [u8],
     at: usize,
-) -> TextRead
+) -> Option<Taken>
     requires holds { Holds text.now work.now × Bounded (log_of work.now) × PoolsSay kinds.now pools.now (view text.now work.now) }
     requires in_bounds { (1 ≤ length kinds.now) × (all element_kind? kinds.now ≡ true) × (length kinds.now ≤ 8) }
     ensures { MapsTold n kinds.now work.now text.now p.at out.old at out.new result }
@@ -210,7 +210,7 @@ fn mapped_bytes(
     work: &[u32],
     out: &mut [u8],
     at: usize,
-) -> TextRead
+) -> Option<Taken>
     requires holds { Holds text.now work.now × Bounded (log_of work.now) × PoolsSay kinds.now pools.now (view text.now work.now) }
     requires in_bounds { (1 ≤ length kinds.now) × (all element_kind? kinds.now ≡ true) × (length kinds.now ≤ 8) }
     ensures { MapsTold n kinds.now work.now text.now p.at out.old at out.new result }
@@ -243,7 +243,7 @@ fn map_bytes(
     work: &[u32],
     out: &mut [u8],
     at: usize,
-) -> TextRead
+) -> Option<Taken>
     requires holds { Holds text.now work.now × Bounded (log_of work.now) × NotedKind pools.now kind.kind kind.a kind.e (view text.now work.now) }
     requires kinds { Kinds kind.kind kind.a kind.e × (kind.kind ≡ 20) }
     ensures { KindTaken n kind work.now text.now p.at out.old at out.new result }
@@ -263,7 +263,7 @@ fn kind_bytes(
     work: &[u32],
     out: &mut [u8],
     at: usize,
-) -> TextRead
+) -> Option<Taken>
     requires holds { Holds text.now work.now × Bounded (log_of work.now) × NotedKind pools.now kind.kind kind.a kind.e (view text.now work.now) }
     requires kinds { Kinds kind.kind kind.a kind.e }
     ensures { KindTaken n kind work.now text.now p.at out.old at out.new result }
@@ -303,7 +303,7 @@ fn chunk_bytes(
     work: &[u32],
     out: &mut [u8],
     at: usize,
-) -> TextRead
+) -> Option<Taken>
     requires holds { Holds text.now work.now × Bounded (log_of work.now) × Noted pools.now (view text.now work.now) × Listed (flds_of work.now) }
     requires field_bound { d.field < fields_in work.now }
     ensures { Told (chunk_text (view text.now work.now) (due_in d).0) (put_chunk (view text.now work.now) (due_in d).0) text.now p.at out.old at out.new result }
@@ -321,7 +321,7 @@ fn due_bytes(
     work: &[u32],
     out: &mut [u8],
     at: usize,
-) -> TextRead
+) -> Option<Taken>
     requires { DueReady text.now work.now pools.now i }
     ensures { DueTold text.now work.now i p.at out.old at out.new result }
 {
@@ -330,22 +330,19 @@ fn due_bytes(
 }
 
 // The size of the i-th chunk that is due: lent no room, its bytes are only counted.
-fn size_chunk(text: &[u8], p: Place, i: u32, pools: &[u32], work: &mut [u32]) -> Step
+fn size_chunk(text: &[u8], p: Place, i: u32, pools: &[u32], work: &mut [u32]) -> Option<Place>
     requires { DueReady text.now work.old pools.now i }
     ensures { ChunkSized text.now work.old p.at i result work.new }
 {
     let mut none = [0u8; 1];
-    let a = due_bytes(text, p, i, pools, work, &mut none[..0], 0);
-    let TextRead::Got(k) = a else {
-        return Step::Bad;
-    };
+    let k = due_bytes(text, p, i, pools, work, &mut none[..0], 0)?;
     size_due(work, i, k.at as u64);
     let next = k.next;
-    Step::To(next)
+    Some(next)
 }
 
 // The chunks that are due, judged one after the other, where it is known what strings name.
-fn size_each(text: &[u8], p: Place, pools: &[u32], work: &mut [u32]) -> Step
+fn size_each(text: &[u8], p: Place, pools: &[u32], work: &mut [u32]) -> Option<Place>
     requires { RegionReady text.now work.old × Noted pools.now (view text.now work.old) }
     ensures { RegionSized text.now work.old p.at result work.new }
 {
@@ -353,19 +350,16 @@ fn size_each(text: &[u8], p: Place, pools: &[u32], work: &mut [u32]) -> Step
     let mut here = p.at;
     let mut i = 0;
     while i < n {
-        let a = size_chunk(text, Place { at: here }, i, pools, work);
-        let Step::To(next) = a else {
-            return Step::Bad;
-        };
+        let next = size_chunk(text, Place { at: here }, i, pools, work)?;
         here = next.at;
         i += 1;
     }
-    Step::To(Place { at: here })
+    Some(Place { at: here })
 }
 
 // The lines of all chunks that are due, judged: the place behind them, and each chunk's size in the table. What strings name is
 // looked up once for all.
-pub fn size_chunks(text: &[u8], p: Place, work: &mut [u32]) -> Step
+pub fn size_chunks(text: &[u8], p: Place, work: &mut [u32]) -> Option<Place>
     requires { RegionReady text.now work.old }
     ensures { RegionSized text.now work.old p.at result work.new }
 {
@@ -409,20 +403,17 @@ fn lay_due(
     pools: &[u32],
     work: &mut [u32],
     out: &mut [u8],
-) -> TextRead
+) -> Option<Taken>
     requires { DueReady text.now work.old pools.now i }
     ensures { DueLaid text.now work.old here.next.at i out.old here.at out.new result work.new }
 {
-    let a = due_bytes(text, here.next, i, pools, work, out, here.at);
-    let TextRead::Got(k) = a else {
-        return TextRead::Bad;
-    };
+    let k = due_bytes(text, here.next, i, pools, work, out, here.at)?;
     if MOST <= k.at as u64 {
-        return TextRead::Bad;
+        return None;
     }
     let size = k.at - here.at;
     size_due(work, i, size as u64);
-    TextRead::Got(k)
+    Some(k)
 }
 
 // The chunks that are due, laid one after the other, where it is known what strings name.
@@ -433,7 +424,7 @@ fn lay_each(
     work: &mut [u32],
     out: &mut [u8],
     at: usize,
-) -> TextRead
+) -> Option<Taken>
     requires { RegionReady text.now work.old × Noted pools.now (view text.now work.old) }
     ensures { LaidSized text.now work.old p.at out.old at out.new result work.new }
 {
@@ -441,19 +432,16 @@ fn lay_each(
     let mut here = Taken { next: p, at };
     let mut i = 0;
     while i < n {
-        let a = lay_due(text, here, i, pools, work, out);
-        let TextRead::Got(k) = a else {
-            return TextRead::Bad;
-        };
+        let k = lay_due(text, here, i, pools, work, out)?;
         here = k;
         i += 1;
     }
-    TextRead::Got(here)
+    Some(here)
 }
 
 // The lines of all chunks that are due, laid as their bytes, and each chunk's size in the table. What strings name is looked up
 // once for all.
-pub fn lay_sized(text: &[u8], p: Place, work: &mut [u32], out: &mut [u8], at: usize) -> TextRead
+pub fn lay_sized(text: &[u8], p: Place, work: &mut [u32], out: &mut [u8], at: usize) -> Option<Taken>
     requires { RegionReady text.now work.old }
     ensures { LaidSized text.now work.old p.at out.old at out.new result work.new }
 {

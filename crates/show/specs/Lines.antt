@@ -1,5 +1,5 @@
 -- Elements, values and chunks as text. Assumes nothing.
-use Rattle.std.specs.Prelude.{◌≡◌, Bool, List, [], ◌∷◌, ◌++◌, ℕ, ◌+◌, ◌*◌, ◌^◌, ◌≤◌, ◌<◌, min, eqb, ℤ, length}
+use Rattle.std.specs.Prelude.{Err, Ok, ◌≡◌, Bool, List, [], ◌∷◌, ◌++◌, ℕ, ◌+◌, ◌*◌, ◌^◌, ◌≤◌, ◌<◌, min, eqb, ℤ, length}
 use Rattle.std.proofs.Math.Path.{refl, sym, ap}
 use Rattle.std.proofs.Common.{◌∙◌, append-nil, arith}
 use Rattle.std.proofs.Math.Bool.{true, false}
@@ -19,11 +19,9 @@ use Rattle.laws.specs.Laws.{not-got, bind_inv}
 use Rattle.laws.specs.Bools.{not_so}
 use Rattle.laws.specs.Lines.{tabs, line-tabs}
 use Rattle.table.specs.View.{kind_from}
-use Rattle.numbers.specs.Cursors.{Read, was-got, was-refused}
+use Rattle.numbers.specs.Cursors.{Outcome, Read, was-got, was-refused}
 use Rattle.numbers.specs.declared.Cursor.{Cursor}
 use Rattle.numbers.specs.declared.Refusal.{Refusal}
-use Rattle.numbers.specs.declared.Number.{Number}
-use Rattle.numbers.specs.declared.Number.TheVariants as number
 use Rattle.values.specs.Pass.{forget}
 use Rattle.values.specs.Held.{fixed-there, fixed-cut}
 use Rattle.values.specs.Bare.{bare, bound_of, made, Linkable, element-stands}
@@ -73,7 +71,7 @@ module _ {v : Value} where
 -- ── the next element ──
 
 -- kinds of a fixed width, and the text t that is made of the word
-module _ {e : ℕ} (K : Fixed e) {w : ℕ} (W : Width e w) {f : List ℕ} {from : ℕ} {a : Number} (R : Read (fixed w) (256 ^ w) f from a) (t : List ℕ → List ℕ) where
+module _ {e : ℕ} (K : Fixed e) {w : ℕ} (W : Width e w) {f : List ℕ} {from : ℕ} {a : Outcome ℕ} (R : Read (fixed w) (256 ^ w) f from a) (t : List ℕ → List ℕ) where
   linkable-low : (s : State) → Linkable s e
   linkable-low s = record { below = λ h. absurd (omega (arith, K.high)) }
 
@@ -83,16 +81,16 @@ module _ {e : ℕ} (K : Fixed e) {w : ℕ} (W : Width e w) {f : List ℕ} {from 
   one_number : eqb e 5 ≡ false
   one_number = single-5 e (single-low K)
 
-  pub fixed-none : {u : Refusal} → a ≡ number.No u → {l : List ℕ} {at : ℕ} {m : List ℕ} {o : Behind} → Shows (λ s. element s e) (λ x. t (element_word x)) f from l at m o
+  pub fixed-none : {u : Refusal} → a ≡ Err u → {l : List ℕ} {at : ℕ} {m : List ℕ} {o : Behind} → Shows (λ s. element s e) (λ x. t (element_word x)) f from l at m o
   unfolding valued
   fixed-none is =
-      let cut = value-cut one_number as-bare is refl in
+      let cut = value-cut one_number as-bare is in
       shows-none (λ s x q h. not-got (cut.reads s x q (linkable-low s) h))
 
-  pub fixed-nothing : {u : Refusal} → a ≡ number.No u → {l : List ℕ} {at : ℕ} {m : List ℕ} {p : ℕ} → Shown (λ s. element s e) (λ x. t (element_word x)) f from l at m p
+  pub fixed-nothing : {u : Refusal} → a ≡ Err u → {l : List ℕ} {at : ℕ} {m : List ℕ} {p : ℕ} → Shown (λ s. element s e) (λ x. t (element_word x)) f from l at m p
   fixed-nothing is {l} {at} {m} {p} = let o : Behind = record { next = record { at = 0 }; at = p } in (fixed-none is {l = l} {at = at} {m = m} {o = o}).text
 
-  module _ {n : ℕ} {c : Cursor} (is : a ≡ number.Got n c) where
+  module _ {n : ℕ} {c : Cursor} (is : a ≡ Ok (n, c)) where
     pub fixed-below : n < bound_of e
     fixed-below = (was-got as-bare is).below
 
@@ -132,12 +130,12 @@ fixed-steps {e} {w} K W {f} {from} {next = next} short is S =
     }
 
 -- a number as it stands there, and the text that is made of it
-module _ {f : List ℕ} {from : ℕ} {a : Number} (R : Read v64 (2 ^ 64) f from a) (w : ℕ → List ℕ) where
-  pub number-none : {u : Refusal} → a ≡ number.No u → {l : List ℕ} {at : ℕ} {m : List ℕ} {o : Behind} → Shows (λ s. v64) w f from l at m o
+module _ {f : List ℕ} {from : ℕ} {a : Outcome ℕ} (R : Read v64 (2 ^ 64) f from a) (w : ℕ → List ℕ) where
+  pub number-none : {u : Refusal} → a ≡ Err u → {l : List ℕ} {at : ℕ} {m : List ℕ} {o : Behind} → Shows (λ s. v64) w f from l at m o
   number-none is = shows-none (λ s x q h. not-got (sym (was-refused R is).says ∙ h))
 
   pub number-shows :
-      {n : ℕ} {c : Cursor} → a ≡ number.Got n c → {l m : List ℕ} {at r : ℕ} → Laid l at (w n) m r
+      {n : ℕ} {c : Cursor} → a ≡ Ok (n, c) → {l m : List ℕ} {at r : ℕ} → Laid l at (w n) m r
       → Shows (λ s. v64) w f from l at m (record { next = c; at = r })
   number-shows {n} {c} is L =
       record {
@@ -236,11 +234,11 @@ pub two-laid : {l k o p : List ℕ} {at a b r : ℕ} (m n : ℕ) → Laid l at (
 unfolding two_words
 two-laid m n x y z = laid_then x (laid_then y z)
 
-module _ {f : List ℕ} {from : ℕ} {a : Number} (R : Read v64 (2 ^ 64) f from a) where
-  pub two_none : {u : Refusal} → a ≡ number.No u → {l : List ℕ} {at : ℕ} {k : List ℕ} {o : Behind} → Shows (λ s. element s 5) (λ x. line_of (element_word x)) f from l at k o
+module _ {f : List ℕ} {from : ℕ} {a : Outcome ℕ} (R : Read v64 (2 ^ 64) f from a) where
+  pub two_none : {u : Refusal} → a ≡ Err u → {l : List ℕ} {at : ℕ} {k : List ℕ} {o : Behind} → Shows (λ s. element s 5) (λ x. line_of (element_word x)) f from l at k o
   two_none is = shows-none (λ s x q h. not-got (sym (was-refused R is).says ∙ (annotation-parts s x f from q h).one))
 
-  module _ {m : ℕ} {c : Cursor} (is : a ≡ number.Got m c) {b : Number} (S : Read v64 (2 ^ 64) f c.at b) where
+  module _ {m : ℕ} {c : Cursor} (is : a ≡ Ok (m, c)) {b : Outcome ℕ} (S : Read v64 (2 ^ 64) f c.at b) where
     first-is : (s : State) (x : Element) (q : ℕ) (h : element s 5 f from ≡ got x q) → got m c.at ≡ got (annotation-parts s x f from q h).first (annotation-parts s x f from q h).place
     first-is s x q h = sym (was-got R is).says ∙ (annotation-parts s x f from q h).one
 
@@ -250,10 +248,10 @@ module _ {f : List ℕ} {from : ℕ} {a : Number} (R : Read v64 (2 ^ 64) f from 
         let z : c.at ≡ P.place = cc (first-is s x q h) in
         ap (λ (p : ℕ). v64 f p) z ∙ P.two
 
-    pub two-cut : {u : Refusal} → b ≡ number.No u → {l : List ℕ} {at : ℕ} {k : List ℕ} {o : Behind} → Shows (λ s. element s 5) (λ x. line_of (element_word x)) f from l at k o
+    pub two-cut : {u : Refusal} → b ≡ Err u → {l : List ℕ} {at : ℕ} {k : List ℕ} {o : Behind} → Shows (λ s. element s 5) (λ x. line_of (element_word x)) f from l at k o
     two-cut is₂ = shows-none (λ s x q h. not-got (sym (was-refused S is₂).says ∙ second_is s x q h))
 
-    module _ {n : ℕ} {d : Cursor} (is₂ : b ≡ number.Got n d) where
+    module _ {n : ℕ} {d : Cursor} (is₂ : b ≡ Ok (n, d)) where
       there : (s : State) (x : Element) (q : ℕ) (h : element s 5 f from ≡ got x q) → got n d.at ≡ got (annotation-parts s x f from q h).second q
       there s x q h = sym (was-got S is₂).says ∙ second_is s x q h
 
@@ -323,12 +321,12 @@ module _ {r : State → Reader Element} {f : List ℕ} {from : ℕ} {l : List �
       let (x, a, is) = one-read (r s) f from es q h in
       (x, a, word_line x ∙ ap value_line is))
 
-module _ (e : ℕ) {f : List ℕ} {from : ℕ} {a : Number} (R : Read small 65536 f from a) {l : List ℕ} {at : ℕ} {m : List ℕ} {o : Behind} where
-  pub list-none : {u : Refusal} → a ≡ number.No u → Shows (list e) value_line f from l at m o
+module _ (e : ℕ) {f : List ℕ} {from : ℕ} {a : Outcome ℕ} (R : Read small 65536 f from a) {l : List ℕ} {at : ℕ} {m : List ℕ} {o : Behind} where
+  pub list-none : {u : Refusal} → a ≡ Err u → Shows (list e) value_line f from l at m o
   unfolding list ◌>>=◌
   list-none {u} is = shows-none (λ s es q h. not-got (rw (was-refused R is).says at h))
 
-  pub list-shows : {n : ℕ} {c : Cursor} → a ≡ number.Got n c → Shows (λ s. repeat n (element s e)) value_line f c.at l at m o → Shows (list e) value_line f from l at m o
+  pub list-shows : {n : ℕ} {c : Cursor} → a ≡ Ok (n, c) → Shows (λ s. repeat n (element s e)) value_line f c.at l at m o → Shows (list e) value_line f from l at m o
   unfolding list ◌>>=◌
   list-shows is = shows-as (λ s. rw (was-got R is).says)
 

@@ -1,5 +1,5 @@
 -- Maps as text: their words stand in the order in which the elements are read. Once over the number of types. Assumes nothing.
-use Rattle.std.specs.Prelude.{◌≡◌, refl, true, List, [], ◌∷◌, ◌++◌, map, ℕ, ◌+◌, ◌-◌, ◌*◌, ◌≤◌, ◌<◌, length, get_or, take, drop}
+use Rattle.std.specs.Prelude.{Err, Ok, ◌≡◌, refl, true, List, [], ◌∷◌, ◌++◌, map, ℕ, ◌+◌, ◌-◌, ◌*◌, ◌≤◌, ◌<◌, length, get_or, take, drop}
 use Rattle.std.proofs.Common.{sym, ap, ◌∙◌, subst, append_assoc, arith, length-drop, take_at}
 use Rattle.paper.specs.Reader.{when◌then◌else◌, Reader, got, ◌>>=◌, give, refuse, repeat}
 use Rattle.paper.specs.Numbers.{put_fixed}
@@ -15,11 +15,9 @@ use Rattle.laws.specs.Laws.{not-got, bind_inv}
 use Rattle.laws.specs.Bools.{and_split}
 use Rattle.laws.specs.Codes.{fixed-length}
 use Rattle.laws.specs.Lines.{tabs}
-use Rattle.numbers.specs.Cursors.{Read, was-got, was-refused}
+use Rattle.numbers.specs.Cursors.{Outcome, Read, was-got, was-refused}
 use Rattle.numbers.specs.declared.Cursor.{Cursor}
 use Rattle.numbers.specs.declared.Refusal.{Refusal}
-use Rattle.numbers.specs.declared.Number.{Number}
-use Rattle.numbers.specs.declared.Number.TheVariants as number
 use Rattle.table.specs.View.{kind_from}
 use Rattle.values.specs.Maps.{rest_part}
 use Rattle.values.specs.Chunks.{Kinds}
@@ -140,15 +138,15 @@ module _ (ks : List ℕ) {f : List ℕ} {from : ℕ} {l : List ℕ} {at : ℕ} w
       → Shows (map_in ks) (tabs element_word) f from l at m o
   map-element one S = shows-as (λ s. ap (λ (r : Reader (List Element)). r f from) (map-one ks s one)) (one-shows S)
 
-  module _ (two : 2 ≤ length ks) {a : Number} (R : Read small 65536 f from a) where
-    pub map-none : {u : Refusal} {m : List ℕ} {o : Behind} → a ≡ number.No u → Shows (map_in ks) (tabs element_word) f from l at m o
+  module _ (two : 2 ≤ length ks) {a : Outcome ℕ} (R : Read small 65536 f from a) where
+    pub map-none : {u : Refusal} {m : List ℕ} {o : Behind} → a ≡ Err u → Shows (map_in ks) (tabs element_word) f from l at m o
     map-none is =
         shows-none (λ s v q h.
         let P = sized-parts ks s f from v q two h in
         not-got (sym (was-refused R is).says ∙ P.size-read))
 
     pub map-shows :
-        {n : ℕ} {c : Cursor} {m k m₂ : List ℕ} {p r : ℕ} {o : Behind} → a ≡ number.Got n c → Laid l at (tab ∷ []) m p → Laid m p (decimal n) k r
+        {n : ℕ} {c : Cursor} {m k m₂ : List ℕ} {p r : ℕ} {o : Behind} → a ≡ Ok (n, c) → Laid l at (tab ∷ []) m p → Laid m p (decimal n) k r
         → Shows (λ s. repeat n (key_in ks s)) (flat (tabs element_word)) f c.at k r m₂ o → Shows (map_in ks) (tabs element_word) f from l at m₂ o
     map-shows {n} {c} {m} {k} {m₂} {p} {r} {o} is one word S =
         record {

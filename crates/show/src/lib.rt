@@ -20,7 +20,7 @@ ghost use Rattle.show.specs.Lines.{two_words, list, ChunkShown};
 ghost use Rattle.show.specs.Maps.{Keyed, map_in, key_in};
 
 use lay::{behind, put, put_bytes};
-use numbers::{Cursor, Number};
+use numbers::{Cursor, Outcome};
 use values::columns::{Value, value_of};
 use values::maps::map_kinds;
 use words::write::{
@@ -159,7 +159,7 @@ fn put_v64(part: &[u8], c: Cursor, out: &mut [u8], at: usize) -> Behind
     ensures { Shows (λ s. element s 11) (λ x. tab ∷ element_word x) part.now c.at out.old at out.new result }
 {
     let a = c.v64(part);
-    let Number::Got(n, next) = a else {
+    let Ok((n, next)) = a else {
         return Behind { next: c, at };
     };
     let word = put(out, at, b'\t');
@@ -172,7 +172,7 @@ fn put_number(part: &[u8], c: Cursor, out: &mut [u8], at: usize) -> Behind
     ensures { Shows (λ s. v64) (λ n. tab ∷ decimal n) part.now c.at out.old at out.new result }
 {
     let a = c.v64(part);
-    let Number::Got(n, next) = a else {
+    let Ok((n, next)) = a else {
         return Behind { next: c, at };
     };
     let word = put(out, at, b'\t');
@@ -208,7 +208,7 @@ fn put_other(part: &[u8], c: Cursor, e: u64, out: &mut [u8], at: usize) -> usize
     ensures { Shown (λ s. element s e) (λ x. tab ∷ element_word x) part.now c.at out.old at out.new result }
 {
     let a = c.fixed(part, width_of(e));
-    let Number::Got(n, _) = a else {
+    let Ok((n, _)) = a else {
         return at;
     };
     let word = put(out, at, b'\t');
@@ -312,7 +312,7 @@ fn put_list(part: &[u8], c: Cursor, e: u64, out: &mut [u8], at: usize) -> Behind
     ensures { Shows (list e) value_line part.now c.at out.old at out.new result }
 {
     let a = c.small(part);
-    let Number::Got(m, next) = a else {
+    let Ok((m, next)) = a else {
         return Behind { next: c, at };
     };
     put_value(part, next, m, e, out, at)
@@ -323,7 +323,7 @@ fn put_v64_line(part: &[u8], c: Cursor, out: &mut [u8], at: usize) -> Behind
     ensures { Shows (λ s. repeat 1 (element s 11)) value_line part.now c.at out.old at out.new result }
 {
     let a = c.v64(part);
-    let Number::Got(n, next) = a else {
+    let Ok((n, next)) = a else {
         return Behind { next: c, at };
     };
     let end = put_integer_line(out, at, n);
@@ -369,11 +369,11 @@ fn put_annotation_line(part: &[u8], c: Cursor, out: &mut [u8], at: usize) -> Beh
     ensures { Shows (λ s. repeat 1 (element s 5)) value_line part.now c.at out.old at out.new result }
 {
     let a = c.v64(part);
-    let Number::Got(m, second) = a else {
+    let Ok((m, second)) = a else {
         return Behind { next: c, at };
     };
     let b = second.v64(part);
-    let Number::Got(n, next) = b else {
+    let Ok((n, next)) = b else {
         return Behind { next: c, at };
     };
     let end = put_two_line(out, at, m, n);
@@ -402,7 +402,7 @@ fn put_link_line(part: &[u8], c: Cursor, e: u64, out: &mut [u8], at: usize) -> B
     ensures { Shows (λ s. repeat 1 (element s e)) value_line part.now c.at out.old at out.new result }
 {
     let a = c.v64(part);
-    let Number::Got(n, next) = a else {
+    let Ok((n, next)) = a else {
         return Behind { next: c, at };
     };
     let end = put_decimal_line(out, at, n);
@@ -432,7 +432,7 @@ fn put_other_line(part: &[u8], c: Cursor, e: u64, out: &mut [u8], at: usize) -> 
     ensures { Shows (λ s. repeat 1 (element s e)) value_line part.now c.at out.old at out.new result }
 {
     let a = c.fixed(part, width_of(e));
-    let Number::Got(n, next) = a else {
+    let Ok((n, next)) = a else {
         return Behind { next: c, at };
     };
     let end = put_element_line(out, at, value_of(n, e));
@@ -518,7 +518,7 @@ fn put_map(part: &[u8], c: Cursor, kinds: &[u64], out: &mut [u8], at: usize) -> 
         return put_next(part, c, kinds[0], out, at);
     }
     let a = c.small(part);
-    let Number::Got(n, keys) = a else {
+    let Ok((n, keys)) = a else {
         return Behind { next: c, at };
     };
     let word = put(out, at, b'\t');

@@ -1,5 +1,6 @@
 -- Elements, values and chunks of a listing as bytes. Assumes nothing.
-use Rattle.std.specs.Prelude.{◌≡◌, Bool, ◌&&◌, not, List, [], ◌∷◌, ◌++◌, ℤ, length}
+use Rattle.std.specs.Prelude as prelude
+use Rattle.std.specs.Prelude.{None, Some, ◌≡◌, Bool, ◌&&◌, not, List, [], ◌∷◌, ◌++◌, ℤ, length}
 use Rattle.std.proofs.Math.Path.{refl, sym, ap}
 use Rattle.std.proofs.Common.{◌∙◌, arith, lt_of_not-le}
 use Rattle.std.proofs.Math.Bool.{true, false}
@@ -29,15 +30,13 @@ use Rattle.texts.specs.Exact.{judged, behind_tab, exactly, tested, listed, line-
 use Rattle.texts.specs.Elements.{and_yes, kept, kept-known, noted, number_of, in_bytes, bound_in, reckoned, Writes}
 use Rattle.texts.specs.Told.{Lays, Told, takes, refuses, was-got, was-bad}
 use Rattle.texts.specs.declared.Taken.{Taken}
-use Rattle.texts.specs.declared.TextRead.{TextRead}
-use Rattle.texts.specs.declared.TextRead.TheVariants.{Got, Bad}
 
 -- an array that gives its own length
 unfoldable pub put_list : ℕ → List Element → List ℕ
 put_list e es = put (length es) ++ flat (put_element e) es
 
 -- the answer is that of n values of the kind, for every state that has these numbers
-pub record ChunkTaken (n k a e strings : ℕ) (pools first last t : List ℕ) (from : ℕ) (l : List ℕ) (at : ℕ) (m : List ℕ) (o : TextRead) : Type 0 where
+pub record ChunkTaken (n k a e strings : ℕ) (pools first last t : List ℕ) (from : ℕ) (l : List ℕ) (at : ℕ) (m : List ℕ) (o : prelude.Option Taken) : Type 0 where
   pub told :
       (s : State) → Known s e strings pools first last
       → Told (repeat n (value_text s (kind_from k a e))) (flat (put_value (kind_from k a e))) t from l at m o
@@ -109,7 +108,7 @@ module _ (ok : Element → Bool) (e : ℕ) (t : List ℕ) (from : ℕ) where
 
 -- the same reading in other words
 pub told-as :
-    {A : Type 0} {r q : Reader A} {w : A → List ℕ} {t : List ℕ} {from to : ℕ} {l : List ℕ} {at : ℕ} {m : List ℕ} {o : TextRead}
+    {A : Type 0} {r q : Reader A} {w : A → List ℕ} {t : List ℕ} {from to : ℕ} {l : List ℕ} {at : ℕ} {m : List ℕ} {o : prelude.Option Taken}
     → r t from ≡ q t to → Told q w t to l at m o → Told r w t from l at m o
 told-as same (takes k L) = takes k (record { value = L.value; reads = same ∙ L.reads; laid = L.laid })
 told-as same (refuses h) = refuses (same ∙ h)
@@ -153,18 +152,18 @@ module _ (strings : ℕ) (pools first last t : List ℕ) where
       ∙ same_then _ _ (natural-word t p) (λ b q w. rw (lt-ltb a (256 ^ 8) s.below, lt-ltb b (256 ^ 8) w.holds.below)))
 
   pub next-noted :
-      {e from : ℕ} {u : Unit {0}} {p : ℕ} {l : List ℕ} {at : ℕ} {m : List ℕ} {o : TextRead} → e ≡ 5 → got u p ≡ byte_is tab t from
+      {e from : ℕ} {u : Unit {0}} {p : ℕ} {l : List ℕ} {at : ℕ} {m : List ℕ} {o : prelude.Option Taken} → e ≡ 5 → got u p ≡ byte_is tab t from
       → Told (noted pools) (put_element 5) t p l at m o → Told (behind_tab (kept strings pools first last e) e) (put_element e) t from l at m o
   unfolding behind_tab ◌>>◌
   next-noted {e} {from} {u} {p} is tabbed T = rw is (told-as {r = behind_tab (kept strings pools first last 5) 5} {from = from} (rw (← tabbed) (noted-as p)) T)
 
 -- ── a line ──
 
-module _ {r : Reader (List Element)} {w : List Element → List ℕ} {t : List ℕ} {from : ℕ} {l : List ℕ} {at : ℕ} {m : List ℕ} {o : TextRead} (T : Told r w t from l at m o) where
-  pub rest-bad : o ≡ Bad → ended newline r t from ≡ bad 20 0
+module _ {r : Reader (List Element)} {w : List Element → List ℕ} {t : List ℕ} {from : ℕ} {l : List ℕ} {at : ℕ} {m : List ℕ} {o : prelude.Option Taken} (T : Told r w t from l at m o) where
+  pub rest-bad : o ≡ None → ended newline r t from ≡ bad 20 0
   rest-bad is = sym (ended-not newline r t from (sym (was-bad T is)))
 
-  module _ {k : Taken} (is : o ≡ Got k) where
+  module _ {k : Taken} (is : o ≡ Some k) where
     pub rest-open : bad 20 0 ≡ byte_is newline t k.next.at → ended newline r t from ≡ bad 20 0
     rest-open h = sym (ended-open newline r t from (sym (was-got T is).reads) h)
 
@@ -214,7 +213,7 @@ module _ (ok : Element → Bool) (e : ℕ) (t : List ℕ) (from : ℕ) where
     list-long h = listed-many ok e t from (sym word) (omega (arith, count))
 
     pub list-told :
-        {l₁ l₂ l₃ : List ℕ} {at p : ℕ} {o : TextRead} → m ≤ 65535 → Laid l₁ at (put m) l₂ p
+        {l₁ l₂ l₃ : List ℕ} {at p : ℕ} {o : prelude.Option Taken} → m ≤ 65535 → Laid l₁ at (put m) l₂ p
         → Told (ended newline (repeat m (behind_tab ok e))) (flat (put_element e)) t q l₂ p l₃ o → Told (listed ok e) (put_list e) t from l₁ at l₃ o
     unfolding ascii put_list
     list-told h L (takes k M) =
@@ -248,7 +247,7 @@ module _ {A : Type 0} (r q : Reader A) (t : List ℕ) (same : (p : ℕ) → r t 
         rw (F.is, alike p F.value F.next F.first, flat-same n F.next F.more d F.rest)
 
     pub told-all :
-        (n : ℕ) {from : ℕ} {l : List ℕ} {at : ℕ} {m : List ℕ} {o : TextRead} → Told (repeat n q) (flat w) t from l at m o → Told (repeat n r) (flat v) t from l at m o
+        (n : ℕ) {from : ℕ} {l : List ℕ} {at : ℕ} {m : List ℕ} {o : prelude.Option Taken} → Told (repeat n q) (flat w) t from l at m o → Told (repeat n r) (flat v) t from l at m o
     told-all n {from} (takes k L) =
         takes k (record {
           value = L.value;
@@ -325,7 +324,7 @@ module _ {s : State} {e strings : ℕ} {pools first last : List ℕ} (K : Known 
     unfolding listed
     text-listed = tested-same _ _ (λ v. rw (all-kept v)) e t p
 
-module _ (n k a e strings : ℕ) (pools first last t : List ℕ) {from : ℕ} {l : List ℕ} {at : ℕ} {m : List ℕ} {o : TextRead} where
+module _ (n k a e strings : ℕ) (pools first last t : List ℕ) {from : ℕ} {l : List ℕ} {at : ℕ} {m : List ℕ} {o : prelude.Option Taken} where
   -- what is written where nothing is read is nothing
   pub chunk-constant : k ≤ 4 → Told (repeat n (exactly 0 (kept strings pools first last e) e)) (flat (flat (put_element e))) t from l at m o → ChunkTaken n k a e strings pools first last t from l at m o
   unfolding put_value flat

@@ -1,4 +1,5 @@
 -- The lines of a chunk of maps. Assumes nothing.
+use Rattle.std.specs.Prelude as prelude
 use Rattle.std.specs.Prelude.{◌≡◌, refl, Bool, true, false, ℕ}
 use Rattle.std.proofs.Math.Path.{sym}
 use Rattle.std.proofs.Common.{◌∙◌}
@@ -21,10 +22,10 @@ use Rattle.texts.specs.Told.{Told}
 use Rattle.texts.specs.Chunks.{told-all}
 use Rattle.texts.specs.Maps.{put_map, held_to, Held, held-as, AllHeld, word_held, map-held}
 use Rattle.texts.specs.MapWays.{kept_in, word_in, map_in, line_in}
-use Rattle.texts.specs.declared.TextRead.{TextRead}
+use Rattle.texts.specs.declared.Taken.{Taken}
 
 -- the answer is that of n maps of these kinds, for every state that has these numbers
-pub record MapsTaken (n strings : ℕ) (pools starts first last kinds t : List ℕ) (from : ℕ) (l : List ℕ) (at : ℕ) (m : List ℕ) (o : TextRead) : Type 0 where
+pub record MapsTaken (n strings : ℕ) (pools starts first last kinds t : List ℕ) (from : ℕ) (l : List ℕ) (at : ℕ) (m : List ℕ) (o : prelude.Option Taken) : Type 0 where
   pub told :
       (s : State) → AllKnown s strings pools starts first last kinds
       → Told (repeat n (value_text s (mapping kinds))) (flat (put_value (mapping kinds))) t from l at m o
@@ -88,7 +89,7 @@ module _ (s : State) (strings : ℕ) (pools starts first last t : List ℕ) wher
   text-map ks K L at = line-held (map-held (element? s) t (word_in strings pools starts first last) ks (all_held ks K L)) at
 
 pub maps-taken :
-    {n strings : ℕ} {pools starts first last kinds t : List ℕ} {from : ℕ} {l : List ℕ} {at : ℕ} {m : List ℕ} {o : TextRead} → all element_kind? kinds ≡ true
+    {n strings : ℕ} {pools starts first last kinds t : List ℕ} {from : ℕ} {l : List ℕ} {at : ℕ} {m : List ℕ} {o : prelude.Option Taken} → all element_kind? kinds ≡ true
     → Told (repeat n (line_in strings pools starts first last kinds)) (flat (put_map kinds)) t from l at m o → MapsTaken n strings pools starts first last kinds t from l at m o
 unfolding put_value put_map
 maps-taken {n} {strings} {pools} {starts} {first} {last} {kinds} {t} L T =

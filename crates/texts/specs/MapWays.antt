@@ -1,5 +1,6 @@
 -- The ways out of a map's words and of a key's with those of what it leads to, as code takes them. Assumes nothing.
-use Rattle.std.specs.Prelude.{◌≡◌, Bool, ◌&&◌, ℕ, ◌-◌, ◌^◌, ◌≤◌, ◌<◌, ltb, length, get_or, take, drop}
+use Rattle.std.specs.Prelude as prelude
+use Rattle.std.specs.Prelude.{None, Some, ◌≡◌, Bool, ◌&&◌, ℕ, ◌-◌, ◌^◌, ◌≤◌, ◌<◌, ltb, length, get_or, take, drop}
 use Rattle.std.proofs.Math.Path.{refl}
 use Rattle.std.proofs.Common.{sym, ap, ◌∙◌, arith}
 use Rattle.std.proofs.Math.Bool.{true, false}
@@ -23,8 +24,6 @@ use Rattle.texts.specs.Elements.{kept}
 use Rattle.texts.specs.Told.{Lays, Told, takes, refuses, was-got, was-bad}
 use Rattle.texts.specs.Maps.{size_word, put_map, put_key, held-read, Apart, keys-held, AllHeld, key-held, word_held, map-held}
 use Rattle.texts.specs.declared.Taken.{Taken}
-use Rattle.texts.specs.declared.TextRead.{TextRead}
-use Rattle.texts.specs.declared.TextRead.TheVariants.{Got, Bad}
 
 -- what an element of kind k is held to, and such an element behind a tab
 unfoldable pub kept_in : ℕ → List ℕ → List ℕ → List ℕ → List ℕ → ℕ → Element → Bool
@@ -45,7 +44,7 @@ line_in strings pools starts first last kinds = literal (ascii "val") >> ended n
 
 -- an element held to the lent part of the ranges
 pub word-lent :
-    (strings : ℕ) (pools starts first last : List ℕ) {k from to : ℕ} {t : List ℕ} {p : ℕ} {l : List ℕ} {at : ℕ} {m : List ℕ} {o : TextRead} → Spanned starts k from to
+    (strings : ℕ) (pools starts first last : List ℕ) {k from to : ℕ} {t : List ℕ} {p : ℕ} {l : List ℕ} {at : ℕ} {m : List ℕ} {o : prelude.Option Taken} → Spanned starts k from to
     → Told (behind_tab (kept strings pools (take (to - from) (drop from first)) (take (to - from) (drop from last)) k) k) (put_element k) t p l at m o
     → Told (word_in strings pools starts first last k) (put_element k) t p l at m o
 unfolding word_in kept_in ranges
@@ -86,7 +85,7 @@ module _ (strings : ℕ) (pools starts first last : List ℕ) where
 
   module _ {t : List ℕ} {from : ℕ} where
     one-taken :
-        (k : ℕ) {l : List ℕ} {at : ℕ} {m : List ℕ} {o : TextRead} → Told (word_in strings pools starts first last k) (put_element k) t from l at m o
+        (k : ℕ) {l : List ℕ} {at : ℕ} {m : List ℕ} {o : prelude.Option Taken} → Told (word_in strings pools starts first last k) (put_element k) t from l at m o
         → Told (map_in strings pools starts first last (k ∷ [])) (put_map (k ∷ [])) t from l at m o
     unfolding map_in map_of put_map through_maps at_first opened
     one-taken k (takes j L) =
@@ -115,7 +114,7 @@ module _ (strings : ℕ) (pools starts first last : List ℕ) where
       (map-held (kept_in strings pools starts first last) t (word_in strings pools starts first last) (l ∷ ks) (all_words t (l ∷ ks)))) n) h
 
   keys-taken :
-      (k l : ℕ) (ks : List ℕ) {t : List ℕ} {from n p : ℕ} {l₁ l₂ l₃ : List ℕ} {at q : ℕ} {o : TextRead} → got n p ≡ size_word t from → Laid l₁ at (put n) l₂ q
+      (k l : ℕ) (ks : List ℕ) {t : List ℕ} {from n p : ℕ} {l₁ l₂ l₃ : List ℕ} {at q : ℕ} {o : prelude.Option Taken} → got n p ≡ size_word t from → Laid l₁ at (put n) l₂ q
       → Told (repeat n (key_in strings pools starts first last (k ∷ l ∷ ks))) (flat (put_key (k ∷ l ∷ ks))) t p l₂ q l₃ o
       → Told (map_in strings pools starts first last (k ∷ l ∷ ks)) (put_map (k ∷ l ∷ ks)) t from l₁ at l₃ o
   unfolding put_map through_maps at_first opened put_size size_of
@@ -129,7 +128,7 @@ module _ (strings : ℕ) (pools starts first last : List ℕ) where
   keys-taken k l ks {t} {from} size L (refuses h) = refuses (many_read k l ks t from ∙ rw (← size, h))
 
   pub way-word :
-      (l : List ℕ) {t : List ℕ} {from : ℕ} {l₁ : List ℕ} {at : ℕ} {m : List ℕ} {o : TextRead} → length l ≡ 1
+      (l : List ℕ) {t : List ℕ} {from : ℕ} {l₁ : List ℕ} {at : ℕ} {m : List ℕ} {o : prelude.Option Taken} → length l ≡ 1
       → Told (word_in strings pools starts first last (get_or l 0 0)) (put_element (get_or l 0 0)) t from l₁ at m o → Told (map_in strings pools starts first last l) (put_map l) t from l₁ at m o
   way-word [] h T = absurd (omega arith)
   way-word (k ∷ []) h T = one-taken k T
@@ -141,7 +140,7 @@ module _ (strings : ℕ) (pools starts first last : List ℕ) where
   way-no-size (k ∷ l ∷ ks) t from h more z = many_read k l ks t from ∙ rw (← z)
 
   pub way-keys :
-      (l : List ℕ) {t : List ℕ} {from n p : ℕ} {l₁ l₂ l₃ : List ℕ} {at q : ℕ} {o : TextRead} → 1 ≤ length l → (length l ≡ 1 → ⊥) → got n p ≡ size_word t from → Laid l₁ at (put n) l₂ q
+      (l : List ℕ) {t : List ℕ} {from n p : ℕ} {l₁ l₂ l₃ : List ℕ} {at q : ℕ} {o : prelude.Option Taken} → 1 ≤ length l → (length l ≡ 1 → ⊥) → got n p ≡ size_word t from → Laid l₁ at (put n) l₂ q
       → Told (repeat n (key_in strings pools starts first last l)) (flat (put_key l)) t p l₂ q l₃ o → Told (map_in strings pools starts first last l) (put_map l) t from l₁ at l₃ o
   way-keys [] h more = absurd (omega arith)
   way-keys (k ∷ []) h more = absurd (more refl)
@@ -158,13 +157,13 @@ module _ (strings : ℕ) (pools starts first last : List ℕ) where
 
   module _ {t : List ℕ} {from : ℕ} {l₁ : List ℕ} {at : ℕ} {m : List ℕ} where
     pub way-no-key :
-        (l : List ℕ) {o : TextRead} → 2 ≤ length l → Told (word_in strings pools starts first last (get_or l 0 0)) (put_element (get_or l 0 0)) t from l₁ at m o → o ≡ Bad
+        (l : List ℕ) {o : prelude.Option Taken} → 2 ≤ length l → Told (word_in strings pools starts first last (get_or l 0 0)) (put_element (get_or l 0 0)) t from l₁ at m o → o ≡ None
         → key_in strings pools starts first last l t from ≡ bad 20 0
     way-no-key [] h T is = absurd (omega arith)
     way-no-key (k ∷ ks) h T is = key-read k ks t from ∙ rw (was-bad T is)
 
     rest-taken :
-        (k : ℕ) (ks : List ℕ) {j : Taken} {l₃ : List ℕ} {x : TextRead} → Lays (word_in strings pools starts first last k) (put_element k) t from l₁ at m j
+        (k : ℕ) (ks : List ℕ) {j : Taken} {l₃ : List ℕ} {x : prelude.Option Taken} → Lays (word_in strings pools starts first last k) (put_element k) t from l₁ at m j
         → Told (map_in strings pools starts first last ks) (put_map ks) t j.next.at m j.at l₃ x → Told (key_in strings pools starts first last (k ∷ ks)) (put_key (k ∷ ks)) t from l₁ at l₃ x
     unfolding put_key put_map through_maps at_first opened
     rest-taken k ks L (takes i M) =
@@ -177,8 +176,8 @@ module _ (strings : ℕ) (pools starts first last : List ℕ) where
 
     -- what it leads to is read by the rest of the kinds, lent as a part
     pub way-rest :
-        (l : List ℕ) {o : TextRead} {j : Taken} {l₃ : List ℕ} {x : TextRead} → 2 ≤ length l → Told (word_in strings pools starts first last (get_or l 0 0)) (put_element (get_or l 0 0)) t from l₁ at m o
-        → o ≡ Got j → Told (map_in strings pools starts first last (take (length l - 1) (drop 1 l))) (put_map (take (length l - 1) (drop 1 l))) t j.next.at m j.at l₃ x
+        (l : List ℕ) {o : prelude.Option Taken} {j : Taken} {l₃ : List ℕ} {x : prelude.Option Taken} → 2 ≤ length l → Told (word_in strings pools starts first last (get_or l 0 0)) (put_element (get_or l 0 0)) t from l₁ at m o
+        → o ≡ Some j → Told (map_in strings pools starts first last (take (length l - 1) (drop 1 l))) (put_map (take (length l - 1) (drop 1 l))) t j.next.at m j.at l₃ x
         → Told (key_in strings pools starts first last l) (put_key l) t from l₁ at l₃ x
     way-rest [] h T is M = absurd (omega arith)
     way-rest (k ∷ ks) h T is M = rest-taken k ks (was-got T is) (rw (rest_part (k ∷ ks)) at M)

@@ -1,5 +1,6 @@
 -- What a reading of text gives, laid down as bytes: one reading, and so many of them. Assumes nothing.
-use Rattle.std.specs.Prelude.{◌≡◌, refl, List, [], ◌∷◌, ◌++◌, ℕ, ◌-◌, ◌≤◌, ◌<◌, length}
+use Rattle.std.specs.Prelude as prelude
+use Rattle.std.specs.Prelude.{None, Some, ◌≡◌, refl, List, [], ◌∷◌, ◌++◌, ℕ, ◌-◌, ◌≤◌, ◌<◌, length}
 use Rattle.std.proofs.Common.{sym, ap, ◌∙◌, append_assoc, append-nil, arith}
 use Rattle.paper.specs.Reader.{Reader, got, no as bad, and_then, repeat}
 use Rattle.paper.specs.Lists.{flat}
@@ -7,8 +8,6 @@ use Rattle.lay.specs.Laid.{most, Laid, laid_none, laid_then, laid-long, laid_as}
 use Rattle.laws.specs.Loops.{alone, one_on}
 use Rattle.texts.specs.Exact.{repeat-some, repeat-over}
 use Rattle.texts.specs.declared.Taken.{Taken}
-use Rattle.texts.specs.declared.TextRead.{TextRead}
-use Rattle.texts.specs.declared.TextRead.TheVariants.{Got, Bad}
 
 -- what r reads from place `from` of t stands as the bytes w in m, which is l besides, and k is behind both
 pub record Lays {A : Type 0} (r : Reader A) (w : A → List ℕ) (t : List ℕ) (from : ℕ) (l : List ℕ) (at : ℕ) (m : List ℕ) (k : Taken) : Type 0 where
@@ -17,19 +16,19 @@ pub record Lays {A : Type 0} (r : Reader A) (w : A → List ℕ) (t : List ℕ) 
   pub laid : Laid l at (w value) m k.at
 
 -- an answer: that, or that r refuses
-pub data Told {A : Type 0} (r : Reader A) (w : A → List ℕ) (t : List ℕ) (from : ℕ) (l : List ℕ) (at : ℕ) (m : List ℕ) : TextRead → Type 0 where
-  takes : (k : Taken) → Lays r w t from l at m k → Told r w t from l at m (Got k)
-  refuses : r t from ≡ bad 20 0 → Told r w t from l at m Bad
+pub data Told {A : Type 0} (r : Reader A) (w : A → List ℕ) (t : List ℕ) (from : ℕ) (l : List ℕ) (at : ℕ) (m : List ℕ) : prelude.Option Taken → Type 0 where
+  takes : (k : Taken) → Lays r w t from l at m k → Told r w t from l at m (Some k)
+  refuses : r t from ≡ bad 20 0 → Told r w t from l at m None
 
 pub was-got :
-    {A : Type 0} {r : Reader A} {w : A → List ℕ} {t : List ℕ} {from : ℕ} {l : List ℕ} {at : ℕ} {m : List ℕ} {o : TextRead} {k : Taken}
-    → Told r w t from l at m o → o ≡ Got k → Lays r w t from l at m k
+    {A : Type 0} {r : Reader A} {w : A → List ℕ} {t : List ℕ} {from : ℕ} {l : List ℕ} {at : ℕ} {m : List ℕ} {o : prelude.Option Taken} {k : Taken}
+    → Told r w t from l at m o → o ≡ Some k → Lays r w t from l at m k
 was-got {k = j} (takes k L) is = let same : k ≡ j = cc is in rw same at L
 was-got (refuses h) is = let z : ◌≡◌ {A = ℕ} 0 1 = cc is in absurd (omega arith)
 
 pub was-bad :
-    {A : Type 0} {r : Reader A} {w : A → List ℕ} {t : List ℕ} {from : ℕ} {l : List ℕ} {at : ℕ} {m : List ℕ} {o : TextRead}
-    → Told r w t from l at m o → o ≡ Bad → r t from ≡ bad 20 0
+    {A : Type 0} {r : Reader A} {w : A → List ℕ} {t : List ℕ} {from : ℕ} {l : List ℕ} {at : ℕ} {m : List ℕ} {o : prelude.Option Taken}
+    → Told r w t from l at m o → o ≡ None → r t from ≡ bad 20 0
 was-bad (takes k L) is = let z : ◌≡◌ {A = ℕ} 0 1 = cc is in absurd (omega arith)
 was-bad (refuses h) is = h
 
@@ -62,8 +61,8 @@ taking-behind r w t n o {l₀} {v} {l} {at₀} {at} L is =
 
 module _ {A : Type 0} {r : Reader A} {w : A → List ℕ} {t : List ℕ} {n from : ℕ} {l : List ℕ} {at rest : ℕ} {m : List ℕ} {o : Taken} (g : Taking r w t n from l at rest m o) where
   module _ (due : 0 < rest) where
-    module _ {m₂ : List ℕ} {x : TextRead} (one : Told r w t o.next.at m o.at m₂ x) where
-      pub taking-next : {k : Taken} → x ≡ Got k → length m₂ ≡ length m → Taking r w t n from l at (rest - 1) m₂ k
+    module _ {m₂ : List ℕ} {x : prelude.Option Taken} (one : Told r w t o.next.at m o.at m₂ x) where
+      pub taking-next : {k : Taken} → x ≡ Some k → length m₂ ≡ length m → Taking r w t n from l at (rest - 1) m₂ k
       taking-next {k} is kept =
           let L = was-got one is in
           record {
@@ -74,10 +73,10 @@ module _ {A : Type 0} {r : Reader A} {w : A → List ℕ} {t : List ℕ} {n from
             laid = laid_as (laid_then g.laid L.laid) (flat-more w g.done L.value);
           }
 
-      pub taking-bad : x ≡ Bad → {m₃ : List ℕ} → Told (repeat n r) (flat w) t from l at m₃ Bad
+      pub taking-bad : x ≡ None → {m₃ : List ℕ} → Told (repeat n r) (flat w) t from l at m₃ None
       taking-bad is = refuses (g.reads ∙ rw (repeat-some r t o.next.at rest due, was-bad one is))
 
-  pub taking-done : rest ≤ 0 → Told (repeat n r) (flat w) t from l at m (Got o)
+  pub taking-done : rest ≤ 0 → Told (repeat n r) (flat w) t from l at m (Some o)
   taking-done z =
       let over : rest ≡ 0 = omega arith in
       takes o (record { value = g.done; reads = g.reads ∙ rw (over, repeat-over r t o.next.at, append-nil g.done); laid = g.laid })

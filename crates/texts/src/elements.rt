@@ -8,26 +8,26 @@ ghost use Rattle.values.specs.Items.{at_most, some_object};
 ghost use Rattle.texts.specs.Signs.{Sign, bits_of};
 ghost use Rattle.texts.specs.Elements.{flag_number, whole_width, whole_number, link_number, kept, reckoned, bound_in, in_bytes};
 
-use numbers::write::{put_be1, put_be2, put_be4, put_be8, put_v64};
+use numbers::write::{put_be, put_v64};
 use values::references::range_by;
-use words::read::{Number, Place, peek};
+use words::read::{Place, Scanned, peek};
 
 const MINUS: u64 = 45;
 
 // A bool, 0 or 1: a file has 00 or FF.
-fn flag(t: &[u8], p: Place) -> Number
+fn flag(t: &[u8], p: Place) -> Scanned<u64>
     ensures { out_number result ≡ flag_number t.now p.at }
 {
     let at = p.at;
     let b = peek(t, at);
     if b < 48 {
-        return Number::Bad;
+        return None;
     }
     if 49 < b {
-        return Number::Bad;
+        return None;
     }
     let next = at + 1;
-    Number::Got(255 * (b - 48), Place { at: next })
+    Some((255 * (b - 48), Place { at: next }))
 }
 
 // Half of the range of i8, i16, i32, i64 and v64.
@@ -63,52 +63,46 @@ fn signed_bits(n: u64, s: usize, half: u64) -> u64
 
 // A signed number within the range that has this half: its bits at that width. The sign is reckoned with and not asked, since
 // nothing foretells it: below 0 there is one number more, and no 0.
-fn whole(t: &[u8], p: Place, half: u64) -> Number
+fn whole(t: &[u8], p: Place, half: u64) -> Scanned<u64>
     requires { half ≤ 2 ^ 63 }
     ensures { (w : ℕ) → 256 ^ w ≡ half + half → out_number result ≡ whole_number w t.now p.at }
 {
     let s = sign(t, p.at);
     let digits = Place { at: p.at + s };
-    let Number::Got(n, next) = digits.natural(t) else {
-        return Number::Bad;
-    };
+    let (n, next) = digits.natural(t)?;
     if half + (s as u64) <= n {
-        return Number::Bad;
+        return None;
     }
     if n < s as u64 {
-        return Number::Bad;
+        return None;
     }
-    Number::Got(signed_bits(n, s, half), next)
+    Some((signed_bits(n, s, half), next))
 }
 
 // The number of a string, or 0.
-fn string_number(t: &[u8], p: Place, strings: u64) -> Number
+fn string_number(t: &[u8], p: Place, strings: u64) -> Scanned<u64>
     ensures { out_number result ≡ link_number (at_most strings) t.now p.at }
 {
-    let Number::Got(n, next) = p.natural(t) else {
-        return Number::Bad;
-    };
+    let (n, next) = p.natural(t)?;
     if strings < n {
-        return Number::Bad;
+        return None;
     }
-    Number::Got(n, next)
+    Some((n, next))
 }
 
 // The number of an object in the ranges, or 0. The guide says which range to look at first.
-fn object_number(t: &[u8], p: Place, guide: &[u32], first: &[u32], last: &[u32]) -> Number
+fn object_number(t: &[u8], p: Place, guide: &[u32], first: &[u32], last: &[u32]) -> Scanned<u64>
     requires { length first.now ≡ length last.now }
     ensures { out_number result ≡ link_number (some_object first.now last.now) t.now p.at }
 {
-    let Number::Got(n, next) = p.natural(t) else {
-        return Number::Bad;
-    };
+    let (n, next) = p.natural(t)?;
     if n == 0 {
-        return Number::Got(n, next);
+        return Some((n, next));
     }
     if first.len() <= range_by(guide, first, last, n) {
-        return Number::Bad;
+        return None;
     }
-    Number::Got(n, next)
+    Some((n, next))
 }
 
 // The number of an element of kind e that keeps the rules; an annotation has two. Of strings there are so many, and the objects of a type are those
@@ -121,7 +115,7 @@ pub fn element_text(
     guide: &[u32],
     first: &[u32],
     last: &[u32],
-) -> Number
+) -> Scanned<u64>
     requires { (single_kind? e ≡ true) × (length first.now ≡ length last.now) }
     ensures { (pools : List ℕ) → out_number result ≡ reckoned (kept strings pools first.now last.now e) e t.now p.at }
 {
@@ -141,10 +135,10 @@ pub fn put_bits(out: &mut [u8], at: usize, e: u64, n: u64) -> usize
     ensures { Laid out.old at (in_bytes e n) out.new result }
 {
     match e {
-        6..=7 => put_be1(out, at, n),
-        8 => put_be2(out, at, n),
-        9 | 12 => put_be4(out, at, n),
-        10 | 13 => put_be8(out, at, n),
+        6..=7 => put_be::<1>(out, at, n),
+        8 => put_be::<2>(out, at, n),
+        9 | 12 => put_be::<4>(out, at, n),
+        10 | 13 => put_be::<8>(out, at, n),
         _ => put_v64(out, at, n),
     }
 }

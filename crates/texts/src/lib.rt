@@ -23,7 +23,7 @@ use elements::{element_text, put_bits};
 use numbers::write::put_v64;
 use paper::Ledger;
 use values::annotations::placed;
-use words::read::{Number, Place, Step, peek};
+use words::read::{Place, Scanned, peek};
 
 const TAB: u64 = 9;
 
@@ -36,29 +36,18 @@ pub struct Taken {
     pub at: usize,
 }
 
-// What was taken, or that no accepted file has this text.
-#[derive(Clone, Copy)]
-pub enum TextRead {
-    Got(Taken),
-    Bad,
-}
-
 // An annotation: the number of a base type's name, and behind a tab that of an object of this type.
-fn annotation_text(t: &[u8], p: Place, pools: &[u32], out: &mut [u8], at: usize) -> TextRead
+fn annotation_text(t: &[u8], p: Place, pools: &[u32], out: &mut [u8], at: usize) -> Option<Taken>
     ensures { Told (noted pools.now) (put_element 5) t.now p.at out.old at out.new result }
 {
-    let Number::Got(m, object) = p.natural_ended(t, TAB) else {
-        return TextRead::Bad;
-    };
-    let Number::Got(n, next) = object.natural(t) else {
-        return TextRead::Bad;
-    };
+    let (m, object) = p.natural_ended(t, TAB)?;
+    let (n, next) = object.natural(t)?;
     if !placed(pools, m, n) {
-        return TextRead::Bad;
+        return None;
     }
     let behind = put_v64(out, at, m);
     let end = put_v64(out, behind, n);
-    TextRead::Got(Taken { next, at: end })
+    Some(Taken { next, at: end })
 }
 
 // A tab and the element of kind e behind it. Where it refers to an object, a guide to the ranges may stand where the pools would.
@@ -72,21 +61,17 @@ pub fn next_element(
     last: &[u32],
     out: &mut [u8],
     at: usize,
-) -> TextRead
+) -> Option<Taken>
     requires { (element_kind? e ≡ true) × (length first.now ≡ length last.now) }
     ensures { Told (behind_tab (kept strings pools.now first.now last.now e) e) (put_element e) t.now p.at out.old at out.new result }
 {
-    let Step::To(word) = p.byte(t, TAB) else {
-        return TextRead::Bad;
-    };
+    let word = p.byte(t, TAB)?;
     if e == 5 {
         return annotation_text(t, word, pools, out, at);
     }
-    let Number::Got(n, next) = element_text(t, word, e, strings, pools, first, last) else {
-        return TextRead::Bad;
-    };
+    let (n, next) = element_text(t, word, e, strings, pools, first, last)?;
     let end = put_bits(out, at, e, n);
-    TextRead::Got(Taken { next, at: end })
+    Some(Taken { next, at: end })
 }
 
 // m such elements. Where there are none, e need not be the kind of an element: a constant has no other.
@@ -101,21 +86,18 @@ fn next_elements(
     last: &[u32],
     out: &mut [u8],
     at: usize,
-) -> TextRead
+) -> Option<Taken>
     requires { (0 < m → element_kind? e ≡ true) × (length first.now ≡ length last.now) }
     ensures { Told (repeat m (behind_tab (kept strings pools.now first.now last.now e) e)) (flat (put_element e)) t.now p.at out.old at out.new result }
 {
     let mut here = Taken { next: p, at };
     let mut rest = m;
     while 0 < rest {
-        let a = next_element(t, here.next, e, strings, pools, first, last, out, here.at);
-        let TextRead::Got(k) = a else {
-            return TextRead::Bad;
-        };
+        let k = next_element(t, here.next, e, strings, pools, first, last, out, here.at)?;
         here = k;
         rest -= 1;
     }
-    TextRead::Got(here)
+    Some(here)
 }
 
 // What stands behind the word of a value with m elements: these, and the end of the line.
@@ -130,18 +112,13 @@ fn rest_of_line(
     last: &[u32],
     out: &mut [u8],
     at: usize,
-) -> TextRead
+) -> Option<Taken>
     requires { (0 < m → element_kind? e ≡ true) × (length first.now ≡ length last.now) }
     ensures { Told (ended newline (repeat m (behind_tab (kept strings pools.now first.now last.now e) e))) (flat (put_element e)) t.now p.at out.old at out.new result }
 {
-    let a = next_elements(t, p, m, e, strings, pools, first, last, out, at);
-    let TextRead::Got(k) = a else {
-        return TextRead::Bad;
-    };
-    let Step::To(next) = k.next.byte(t, NEWLINE) else {
-        return TextRead::Bad;
-    };
-    TextRead::Got(Taken { next, at: k.at })
+    let k = next_elements(t, p, m, e, strings, pools, first, last, out, at)?;
+    let next = k.next.byte(t, NEWLINE)?;
+    Some(Taken { next, at: k.at })
 }
 
 // The line of a value with m elements.
@@ -156,13 +133,11 @@ fn value_text(
     last: &[u32],
     out: &mut [u8],
     at: usize,
-) -> TextRead
+) -> Option<Taken>
     requires { (0 < m → element_kind? e ≡ true) × (length first.now ≡ length last.now) }
     ensures { Told (exactly m (kept strings pools.now first.now last.now e) e) (flat (put_element e)) t.now p.at out.old at out.new result }
 {
-    let Step::To(elements) = p.literal(t, b"val") else {
-        return TextRead::Bad;
-    };
+    let elements = p.literal(t, b"val")?;
     rest_of_line(t, elements, m, e, strings, pools, first, last, out, at)
 }
 
@@ -207,16 +182,14 @@ fn list_text(
     last: &[u32],
     out: &mut [u8],
     at: usize,
-) -> TextRead
+) -> Option<Taken>
     requires { (element_kind? e ≡ true) × (length first.now ≡ length last.now) }
     ensures { Told (listed (kept strings pools.now first.now last.now e) e) (put_list e) t.now p.at out.old at out.new result }
 {
-    let Step::To(elements) = p.literal(t, b"val") else {
-        return TextRead::Bad;
-    };
+    let elements = p.literal(t, b"val")?;
     let m = elements_in(tabs_left(t, elements), e);
     if !Ledger::is_small(m) {
-        return TextRead::Bad;
+        return None;
     }
     let behind = put_v64(out, at, m);
     rest_of_line(t, elements, m, e, strings, pools, first, last, out, behind)
@@ -235,23 +208,20 @@ fn values_text(
     last: &[u32],
     out: &mut [u8],
     at: usize,
-) -> TextRead
+) -> Option<Taken>
     requires { (0 < m → element_kind? e ≡ true) × (length first.now ≡ length last.now) }
     ensures { Told (repeat n (exactly m (kept strings pools.now first.now last.now e) e)) (flat (flat (put_element e))) t.now p.at out.old at out.new result }
 {
     let mut here = Taken { next: p, at };
     let mut rest = n;
     while 0 < rest {
-        let a = value_text(
+        let k = value_text(
             t, here.next, m, e, strings, pools, first, last, out, here.at,
-        );
-        let TextRead::Got(k) = a else {
-            return TextRead::Bad;
-        };
+        )?;
         here = k;
         rest -= 1;
     }
-    TextRead::Got(here)
+    Some(here)
 }
 
 // The lines of n arrays that give their own lengths.
@@ -266,21 +236,18 @@ fn lists_text(
     last: &[u32],
     out: &mut [u8],
     at: usize,
-) -> TextRead
+) -> Option<Taken>
     requires { (element_kind? e ≡ true) × (length first.now ≡ length last.now) }
     ensures { Told (repeat n (listed (kept strings pools.now first.now last.now e) e)) (flat (put_list e)) t.now p.at out.old at out.new result }
 {
     let mut here = Taken { next: p, at };
     let mut rest = n;
     while 0 < rest {
-        let a = list_text(t, here.next, e, strings, pools, first, last, out, here.at);
-        let TextRead::Got(k) = a else {
-            return TextRead::Bad;
-        };
+        let k = list_text(t, here.next, e, strings, pools, first, last, out, here.at)?;
         here = k;
         rest -= 1;
     }
-    TextRead::Got(here)
+    Some(here)
 }
 
 // The lines of a chunk's n values, whose kind has the first number k, a constant's bits or an array's length a, and the last
@@ -300,7 +267,7 @@ pub fn chunk_text(
     last: &[u32],
     out: &mut [u8],
     at: usize,
-) -> TextRead
+) -> Option<Taken>
     requires { Kinds k a e × (k ≡ 20 → ⊥) × (length first.now ≡ length last.now) }
     ensures { ChunkTaken n k a e strings pools.now first.now last.now t.now p.at out.old at out.new result }
 {

@@ -11,11 +11,11 @@ ghost use Rattle.texts.specs.Maps.{size_word, put_map, put_key};
 ghost use Rattle.texts.specs.MapWays.{word_in, map_in, key_in, line_in};
 ghost use Rattle.texts.specs.MapLines.{MapsTaken};
 
-use crate::{NEWLINE, TAB, Taken, TextRead, next_element};
+use crate::{NEWLINE, TAB, Taken, next_element};
 use numbers::write::put_v64;
 use paper::Ledger;
 use values::maps::span_of;
-use words::read::{Number, Place, Step};
+use words::read::{Place, Scanned};
 
 // An element of kind k in a map. The ranges of type t stand in first and last from starts[t] up to starts[t + 1].
 fn word_text(
@@ -29,7 +29,7 @@ fn word_text(
     last: &[u32],
     out: &mut [u8],
     at: usize,
-) -> TextRead
+) -> Option<Taken>
     requires { (element_kind? k ≡ true) × Grouped starts.now first.now last.now }
     ensures { Told (word_in strings pools.now starts.now first.now last.now k) (put_element k) t.now p.at out.old at out.new result }
 {
@@ -50,19 +50,15 @@ fn word_text(
 }
 
 // A size: a number that a file can have there.
-fn size_text(t: &[u8], p: Place) -> Number
+fn size_text(t: &[u8], p: Place) -> Scanned<u64>
     ensures { out_number result ≡ size_word t.now p.at }
 {
-    let Step::To(word) = p.byte(t, TAB) else {
-        return Number::Bad;
-    };
-    let Number::Got(n, next) = word.natural(t) else {
-        return Number::Bad;
-    };
+    let word = p.byte(t, TAB)?;
+    let (n, next) = word.natural(t)?;
     if !Ledger::is_small(n) {
-        return Number::Bad;
+        return None;
     }
-    Number::Got(n, next)
+    Some((n, next))
 }
 
 // A map of the types whose kinds are given. Of one type it is an element; of more it is a size, and then for each key the key
@@ -79,16 +75,14 @@ fn map_text(
     last: &[u32],
     out: &mut [u8],
     at: usize,
-) -> TextRead
+) -> Option<Taken>
     requires { (1 ≤ length kinds.now) × (all element_kind? kinds.now ≡ true) × Grouped starts.now first.now last.now }
     ensures { Told (map_in strings pools.now starts.now first.now last.now kinds.now) (put_map kinds.now) t.now p.at out.old at out.new result }
 {
     if kinds.len() == 1 {
         return word_text(t, p, kinds[0], strings, pools, starts, first, last, out, at);
     }
-    let Number::Got(n, begin) = size_text(t, p) else {
-        return TextRead::Bad;
-    };
+    let (n, begin) = size_text(t, p)?;
     let behind = put_v64(out, at, n);
     let mut here = Taken {
         next: begin,
@@ -96,16 +90,13 @@ fn map_text(
     };
     let mut rest = n;
     while 0 < rest {
-        let a = key_and_rest_text(
+        let k = key_and_rest_text(
             t, here.next, kinds, strings, pools, starts, first, last, out, here.at,
-        );
-        let TextRead::Got(k) = a else {
-            return TextRead::Bad;
-        };
+        )?;
         here = k;
         rest -= 1;
     }
-    TextRead::Got(here)
+    Some(here)
 }
 
 // A key of the first kind, and what it leads to: a map of the other types.
@@ -121,14 +112,11 @@ fn key_and_rest_text(
     last: &[u32],
     out: &mut [u8],
     at: usize,
-) -> TextRead
+) -> Option<Taken>
     requires { (2 ≤ length kinds.now) × (all element_kind? kinds.now ≡ true) × Grouped starts.now first.now last.now }
     ensures { Told (key_in strings pools.now starts.now first.now last.now kinds.now) (put_key kinds.now) t.now p.at out.old at out.new result }
 {
-    let a = word_text(t, p, kinds[0], strings, pools, starts, first, last, out, at);
-    let TextRead::Got(k) = a else {
-        return TextRead::Bad;
-    };
+    let k = word_text(t, p, kinds[0], strings, pools, starts, first, last, out, at)?;
     map_text(
         t,
         k.next,
@@ -155,23 +143,16 @@ fn line_text(
     last: &[u32],
     out: &mut [u8],
     at: usize,
-) -> TextRead
+) -> Option<Taken>
     requires { (1 ≤ length kinds.now) × (all element_kind? kinds.now ≡ true) × Grouped starts.now first.now last.now }
     ensures { Told (line_in strings pools.now starts.now first.now last.now kinds.now) (put_map kinds.now) t.now p.at out.old at out.new result }
 {
-    let Step::To(words) = p.literal(t, b"val") else {
-        return TextRead::Bad;
-    };
-    let a = map_text(
+    let words = p.literal(t, b"val")?;
+    let k = map_text(
         t, words, kinds, strings, pools, starts, first, last, out, at,
-    );
-    let TextRead::Got(k) = a else {
-        return TextRead::Bad;
-    };
-    let Step::To(next) = k.next.byte(t, NEWLINE) else {
-        return TextRead::Bad;
-    };
-    TextRead::Got(Taken { next, at: k.at })
+    )?;
+    let next = k.next.byte(t, NEWLINE)?;
+    Some(Taken { next, at: k.at })
 }
 
 // The lines of n maps, laid as the bytes of a chunk.
@@ -187,21 +168,18 @@ pub fn maps_text(
     last: &[u32],
     out: &mut [u8],
     at: usize,
-) -> TextRead
+) -> Option<Taken>
     requires { (1 ≤ length kinds.now) × (all element_kind? kinds.now ≡ true) × Grouped starts.now first.now last.now }
     ensures { MapsTaken n strings pools.now starts.now first.now last.now kinds.now t.now p.at out.old at out.new result }
 {
     let mut here = Taken { next: p, at };
     let mut rest = n;
     while 0 < rest {
-        let a = line_text(
+        let k = line_text(
             t, here.next, kinds, strings, pools, starts, first, last, out, here.at,
-        );
-        let TextRead::Got(k) = a else {
-            return TextRead::Bad;
-        };
+        )?;
         here = k;
         rest -= 1;
     }
-    TextRead::Got(here)
+    Some(here)
 }

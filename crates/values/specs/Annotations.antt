@@ -1,5 +1,5 @@
 -- An annotation by numbers alone: for each string, how many objects the base type of that name has. Assumes nothing.
-use Rattle.std.specs.Prelude.{◌≡◌, ℕ, ◌-◌, ◌^◌, ◌<◌, ◌≤◌, Bool, true, false, ◌&&◌, List, [], ◌∷◌, length, ◌==◌, ◌≢◌, nat_le, slice_index}
+use Rattle.std.specs.Prelude.{Ok, Err, ◌≡◌, ℕ, ◌-◌, ◌^◌, ◌<◌, ◌≤◌, Bool, true, false, ◌&&◌, List, [], ◌∷◌, length, ◌==◌, ◌≢◌, nat_le, slice_index}
 use Rattle.std.proofs.Math.Path.{sym}
 use native.Mathlib.Omega.{arith}
 use Rattle.std.proofs.Math.ListN.{get_or-eq_default}
@@ -7,12 +7,11 @@ use borrow.Author.Tests.{ne_eqb, le-leb, lt-leb}
 use Rattle.paper.specs.Reader.{when◌then◌else◌, Reader, ◌>>=◌, give, must, ◌or_no◌}
 use Rattle.paper.specs.Numbers.{v64}
 use Rattle.paper.specs.File.{two_numbers}
-use Rattle.numbers.specs.Cursors.{Read, was-got, was-refused}
+use Rattle.numbers.specs.Cursors.{Outcome, Read, was-got, was-refused}
 use Rattle.numbers.specs.declared.Cursor.{Cursor}
 use Rattle.numbers.specs.declared.Refusal.{Refusal}
-use Rattle.numbers.specs.declared.Number.{Number}
-use Rattle.numbers.specs.declared.Number.TheVariants.{Got, No}
 use Rattle.values.specs.Pass.{forget, Passed}
+use Rattle.numbers.specs.declared.Fault.TheVariants as fault
 
 -- object n of the base type that string m names, or 0 and 0
 unfoldable pub placed? : List ℕ → ℕ → ℕ → Bool
@@ -45,28 +44,28 @@ module _ (pools : List ℕ) (m n : ℕ) where
 
 -- ── the two numbers, as code reads them ──
 
-module _ (ok : ℕ → ℕ → Bool) {f : List ℕ} {at : ℕ} {a : Number} (R : Read v64 (2 ^ 64) f at a) where
-  pub first-no : {u : Refusal} → a ≡ No u → Passed (annotated ok) f at a
+module _ (ok : ℕ → ℕ → Bool) {f : List ℕ} {at : ℕ} {a : Outcome ℕ} (R : Read v64 (2 ^ 64) f at a) where
+  pub first-no : {u : Refusal} → a ≡ Err u → Passed (annotated ok) f at (Err u)
   unfolding annotated must two_numbers ◌>>=◌ give forget
-  first-no is = let W = was-refused R is in rw is (record { says = sym (rw W.says); inside = W.inside })
+  first-no is = let W = was-refused R is in record { says = sym (rw W.says); inside = W.inside }
 
-  module _ {m : ℕ} {c : Cursor} (is : a ≡ Got m c) {b : Number} (S : Read v64 (2 ^ 64) f c.at b) where
-    pub second-no : {u : Refusal} → b ≡ No u → Passed (annotated ok) f at b
+  module _ {m : ℕ} {c : Cursor} (is : a ≡ Ok (m, c)) {b : Outcome ℕ} (S : Read v64 (2 ^ 64) f c.at b) where
+    pub second-no : {u : Refusal} → b ≡ Err u → Passed (annotated ok) f at (Err u)
     unfolding annotated must two_numbers ◌>>=◌ give forget
     second-no is₂ =
         let W = was-got R is in
         let U = was-refused S is₂ in
-        rw is₂ (record { says = sym (rw (W.says, U.says)); inside = λ h. U.inside (W.inside h) })
+        record { says = sym (rw (W.says, U.says)); inside = λ h. U.inside (W.inside h) }
 
-    module _ {n : ℕ} {d : Cursor} (is₂ : b ≡ Got n d) where
-      pub both-taken : (x : ℕ) → ok m n ≡ true → Passed (annotated ok) f at (Got x d)
+    module _ {n : ℕ} {d : Cursor} (is₂ : b ≡ Ok (n, d)) where
+      pub both-taken : (x : ℕ) → ok m n ≡ true → Passed (annotated ok) f at (Ok (x, d))
       unfolding annotated must two_numbers ◌>>=◌ give forget
       both-taken x t =
           let W = was-got R is in
           let U = was-got S is₂ in
           record { says = sym (rw (W.says, U.says, t)); inside = λ h. U.inside (W.inside h) }
 
-      pub both-refused : ok m n ≡ false → Passed (annotated ok) f at (No (record { number = 14; place = at }))
+      pub both-refused : ok m n ≡ false → Passed (annotated ok) f at (Err (record { fault = fault.Reference; place = at }))
       unfolding annotated must two_numbers ◌>>=◌ give forget
       both-refused t =
           let W = was-got R is in

@@ -1,5 +1,5 @@
 -- The values of a chunk, by the numbers of their kind. Assumes nothing.
-use Rattle.std.specs.Prelude.{◌≡◌, ℕ, ◌*◌, ◌<◌, ◌≤◌, true, List, [], length, ◌≢◌}
+use Rattle.std.specs.Prelude.{Ok, Err, ◌≡◌, ℕ, ◌*◌, ◌<◌, ◌≤◌, true, List, [], length, ◌≢◌}
 use Rattle.std.proofs.Math.Path.{sym}
 use Rattle.std.proofs.Common.{◌∙◌, arith}
 use Rattle.std.proofs.Math.Nat.{mul-one, lt_of_not-le}
@@ -12,11 +12,9 @@ use Rattle.paper.specs.Ledger.{plain, array, many, State}
 use Rattle.paper.specs.Rules.{element_kind?}
 use Rattle.paper.specs.File.{small, element, value}
 use Rattle.table.specs.View.{kind_from}
-use Rattle.numbers.specs.Cursors.{out_of, place_of, Read, was-got, was-refused}
+use Rattle.numbers.specs.Cursors.{Outcome, out_of, place_of, Read, was-got, was-refused}
 use Rattle.numbers.specs.declared.Cursor.{Cursor}
 use Rattle.numbers.specs.declared.Refusal.{Refusal}
-use Rattle.numbers.specs.declared.Number.{Number}
-use Rattle.numbers.specs.declared.Number.TheVariants.{Got, No}
 use Rattle.values.specs.Pass.{forget, Passed, Alike, alike_then, alike-repeat, alike-bind, alike-flat, alike-nothing}
 use Rattle.values.specs.Items.{item, Known, alike-item, Checked}
 
@@ -36,7 +34,7 @@ pub record Kinds (k a e : ℕ) : Type 0 where
   pub kinds : k ≡ 20 → all element_kind? (put_fixed a e) ≡ true
 
 -- the answer is that of n values of the kind, for every state that has these numbers
-pub record ChunkChecked (n k a e strings : ℕ) (pools first last f : List ℕ) (r : Number) : Type 0 where
+pub record ChunkChecked (n k a e strings : ℕ) (pools first last f : List ℕ) (r : Outcome ℕ) : Type 0 where
   pub says : (s : State) → Known s e strings pools first last → forget (out_of r) ≡ forget (repeat n (value s (kind_from k a e)) f 0)
   pub inside : place_of r ≤ length f
 
@@ -77,7 +75,7 @@ alike-run :
     → Alike (repeat n (repeat m (element s e))) (repeat (n * m) (item strings pools first last e)) f
 alike-run n m {s} {e} f K listed = alike_then (alike-flat (element s e) n m) (alike-repeat (alike-item K listed) (n * m))
 
-module _ {n k a e strings : ℕ} {pools first last f : List ℕ} {r : Number} where
+module _ {n k a e strings : ℕ} {pools first last f : List ℕ} {r : Outcome ℕ} where
   chunk-by :
       {B : Type 0} (q : Reader B) → Passed q f 0 r
       → ((s : State) → Known s e strings pools first last → Alike (repeat n (value s (kind_from k a e))) q f)
@@ -109,19 +107,19 @@ constants-read n k a e s f h = rw (value-constant k a e s h) ((alike-nothing [] 
 
 -- ── an array that gives its own length ──
 
-module _ (q : Reader ℕ) {f : List ℕ} {at : ℕ} {a : Number} (R : Read small 65536 f at a) where
-  pub counted-cut : {u : Refusal} → a ≡ No u → Passed (counted q) f at a
+module _ (q : Reader ℕ) {f : List ℕ} {at : ℕ} {a : Outcome ℕ} (R : Read small 65536 f at a) where
+  pub counted-cut : {u : Refusal} → a ≡ Err u → Passed (counted q) f at (Err u)
   unfolding counted ◌>>=◌ forget
   counted-cut {u} is =
       let W = was-refused R is in
-      rw is (record { says = sym (rw W.says); inside = W.inside })
+      record { says = sym (rw W.says); inside = W.inside }
 
-  pub counted-then : {n : ℕ} {c : Cursor} {b : Number} → a ≡ Got n c → Passed (repeat n q) f c.at b → Passed (counted q) f at b
+  pub counted-then : {n : ℕ} {c : Cursor} {b : Outcome ℕ} → a ≡ Ok (n, c) → Passed (repeat n q) f c.at b → Passed (counted q) f at b
   unfolding counted ◌>>=◌
   counted-then is P =
       let W = was-got R is in
       record { says = P.says ∙ sym (rw W.says); inside = λ h. P.inside (W.inside h) }
 
 -- arrays of the kind that code chose a reader for
-pub lists-by : (n : ℕ) {q p : Reader ℕ} {f : List ℕ} {r : Number} → p ≡ q → Passed (repeat n (counted q)) f 0 r → Passed (repeat n (counted p)) f 0 r
+pub lists-by : (n : ℕ) {q p : Reader ℕ} {f : List ℕ} {r : Outcome ℕ} → p ≡ q → Passed (repeat n (counted q)) f 0 r → Passed (repeat n (counted p)) f 0 r
 lists-by n is P = rw is P

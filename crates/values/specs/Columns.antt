@@ -1,21 +1,18 @@
 -- What a value in code says: an element, which a column can store. Assumes nothing.
-use Rattle.std.specs.Prelude.{◌≡◌, ℕ, ◌^◌, ◌<◌, Bool, true, false, List, ℤ, pos, ◌≢◌, nat_eq}
+use Rattle.std.specs.Prelude.{Ok, Err, ◌≡◌, ℕ, ◌^◌, ◌<◌, Bool, true, false, List, ℤ, pos, ◌≢◌, nat_eq}
 use Rattle.std.proofs.Common.{sym, ◌∙◌}
 use Rattle.std.specs.Int.Signed.{mag}
 use Rattle.paper.specs.Reader.{Out, got, no, ◌>>=◌, give}
 use Rattle.paper.specs.Ledger.{Element, flag, whole, float, link, State}
 use Rattle.paper.specs.Calls.{stored}
 use Rattle.paper.specs.File.{element}
-use Rattle.numbers.specs.Cursors.{refusal_of, Read, was-got, its-refusal}
+use Rattle.numbers.specs.Cursors.{Outcome, Read, was-got, was-refused}
 use Rattle.numbers.specs.declared.Cursor.{Cursor}
+use Rattle.numbers.specs.Faults.{number_of}
 use Rattle.numbers.specs.declared.Refusal.{Refusal}
-use Rattle.numbers.specs.declared.Number.{Number}
-use Rattle.numbers.specs.declared.Number.TheVariants as number
 use Rattle.values.specs.Bare.{bare, bound_of, made, Linkable, element-stands}
 use Rattle.values.specs.declared.columns.Value.{Value}
 use Rattle.values.specs.declared.columns.Value.TheVariants.{Flag, Whole, Float, Object}
-use Rattle.values.specs.declared.columns.Valued.{Valued}
-use Rattle.values.specs.declared.columns.Valued.TheVariants.{Got, No}
 
 unfoldable pub element_of : Value → Element
 element_of (Flag b) = flag b
@@ -75,21 +72,21 @@ module _ {v : Value} where
 
 -- ── an answer ──
 
-unfoldable pub valued : Valued → Out Element
-valued (Got v c) = got (element_of v) c.at
-valued (No e) = no e.number e.place
+unfoldable pub valued : Outcome Value → Out Element
+valued (Ok (v, c)) = got (element_of v) c.at
+valued (Err e) = no (number_of e.fault) e.place
 
-unfoldable pub StorableIn : Valued → Type 0
-StorableIn (Got v c) = Storable v
-StorableIn (No e) = Unit {0}
+unfoldable pub StorableIn : Outcome Value → Type 0
+StorableIn (Ok (v, c)) = Storable v
+StorableIn (Err e) = Unit {0}
 
 -- the answer is the element that stands there, for every state whose numbers can be stored
-pub record ValueRead (k : ℕ) (f : List ℕ) (at : ℕ) (r : Valued) : Type 0 where
+pub record ValueRead (k : ℕ) (f : List ℕ) (at : ℕ) (r : Outcome Value) : Type 0 where
   pub stands : valued r ≡ (bare k >>= λ n. give (made k n)) f at
   pub storable : StorableIn r
   pub reads : (s : State) (e : Element) (p : ℕ) → Linkable s k → element s k f at ≡ got e p → valued r ≡ got e p
 
-module _ {k : ℕ} (one : nat_eq k 5 ≡ false) {f : List ℕ} {at : ℕ} {r : Valued} where
+module _ {k : ℕ} (one : nat_eq k 5 ≡ false) {f : List ℕ} {at : ℕ} {r : Outcome Value} where
   value_read : valued r ≡ (bare k >>= λ n. give (made k n)) f at → StorableIn r → ValueRead k f at r
   unfolding ◌>>=◌ give
   value_read h t =
@@ -101,12 +98,12 @@ module _ {k : ℕ} (one : nat_eq k 5 ≡ false) {f : List ℕ} {at : ℕ} {r : V
             h ∙ rw (S.reads, S.is);
       }
 
-module _ {k : ℕ} (one : nat_eq k 5 ≡ false) {f : List ℕ} {at : ℕ} {a : Number} (R : Read (bare k) (bound_of k) f at a) where
-  pub value-cut : {e u : Refusal} → a ≡ number.No e → u ≡ refusal_of a → ValueRead k f at (No u)
+module _ {k : ℕ} (one : nat_eq k 5 ≡ false) {f : List ℕ} {at : ℕ} {a : Outcome ℕ} (R : Read (bare k) (bound_of k) f at a) where
+  pub value-cut : {e : Refusal} → a ≡ Err e → ValueRead k f at (Err e)
   unfolding ◌>>=◌ give valued StorableIn
-  value-cut is same = let W = its-refusal R is same in value_read one (sym (rw W.says)) tt
+  value-cut is = let W = was-refused R is in value_read one (sym (rw W.says)) tt
 
   pub value-got :
-      {n : ℕ} {c : Cursor} {v : Value} → a ≡ number.Got n c → (element_of v ≡ made k n) × Storable v → ValueRead k f at (Got v c)
+      {n : ℕ} {c : Cursor} {v : Value} → a ≡ Ok (n, c) → (element_of v ≡ made k n) × Storable v → ValueRead k f at (Ok (v, c))
   unfolding ◌>>=◌ give valued StorableIn
   value-got is h = let W = was-got R is in value_read one (sym (rw (W.says, h.0))) h.1

@@ -1,5 +1,5 @@
 -- A column, filled value by value up to the end of a chunk. Assumes nothing.
-use Rattle.std.specs.Prelude.{◌≡◌, ℕ, zero, suc, ◌+◌, ◌-◌, ◌<◌, ◌≤◌, false, List, [], ◌∷◌, ◌++◌, length, replicate, ℤ, nat_eq, slice_set, refl}
+use Rattle.std.specs.Prelude.{Ok, Err, ◌≡◌, ℕ, zero, suc, ◌+◌, ◌-◌, ◌<◌, ◌≤◌, false, List, [], ◌∷◌, ◌++◌, length, replicate, ℤ, nat_eq, slice_set, refl}
 use Rattle.std.proofs.Math.Path.{sym, ap}
 use Rattle.std.proofs.Common.{◌∙◌, arith, add-one, add-zero, zero-add}
 use Rattle.std.proofs.Math.ListN.{length-set}
@@ -16,8 +16,7 @@ use Rattle.values.specs.Bare.{Linkable, element-stands}
 use Rattle.values.specs.Ends.{bare-end}
 use Rattle.values.specs.Columns.{element_of, valued, ValueRead}
 use Rattle.values.specs.declared.columns.Value.{Value}
-use Rattle.values.specs.declared.columns.Valued.{Valued}
-use Rattle.values.specs.declared.columns.Valued.TheVariants.{Got, No}
+use Rattle.numbers.specs.Cursors.{Outcome}
 
 -- ── the first of n values ──
 
@@ -169,35 +168,35 @@ module _ {k : ℕ} {f : List ℕ} {l : List ℤ} {at : ℕ} {m : List ℤ} {p fr
     fill-full le =
         never (λ s n vs h. let N = one_left (g.left s n vs h) before in omega (arith, N.count, h.room, g.long))
 
-    module _ {a : Valued} (R : ValueRead k f from a) where
-      pub fill-cut : {e : Refusal} → a ≡ No e → Filled k f l at m p
+    module _ {a : Outcome Value} (R : ValueRead k f from a) where
+      pub fill-cut : {e : Refusal} → a ≡ Err e → Filled k f l at m p
       unfolding valued
       fill-cut {e} is =
           never (λ s n vs h.
           let N = one_left (g.left s n vs h) before in
-          let q : valued (No e) ≡ got N.one N.next = ap valued (sym is) ∙ R.reads s N.one N.next h.linkable N.first in
+          let q : valued (Err e) ≡ got N.one N.next = ap valued (sym is) ∙ R.reads s N.one N.next h.linkable N.first in
           not-got q)
 
       -- there are no such values, so whatever is left of them gives the whole
-      pub fill-no : {e : Refusal} → a ≡ No e → {m' : List ℤ} {p' from' : ℕ} → length m' ≡ length l → Filling k f l at m' p' from'
+      pub fill-no : {e : Refusal} → a ≡ Err e → {m' : List ℤ} {p' from' : ℕ} → length m' ≡ length l → Filling k f l at m' p' from'
       unfolding valued
       fill-no {e} is long =
           record {
             long = long;
             left = λ s n vs h.
                 let N = one_left (g.left s n vs h) before in
-                let q : valued (No e) ≡ got N.one N.next = ap valued (sym is) ∙ R.reads s N.one N.next h.linkable N.first in
+                let q : valued (Err e) ≡ got N.one N.next = ap valued (sym is) ∙ R.reads s N.one N.next h.linkable N.first in
                 not-got q;
           }
 
-      pub fill-next : {v : Value} {c : Cursor} {z : ℤ} → a ≡ Got v c → z ≡ stored (element_of v) → Filling k f l at (slice_set m p z) (p + 1) c.at
+      pub fill-next : {v : Value} {c : Cursor} {z : ℤ} → a ≡ Ok (v, c) → z ≡ stored (element_of v) → Filling k f l at (slice_set m p z) (p + 1) c.at
       unfolding valued
       fill-next {v} {c} {z} is e =
           record {
             long = length-set m p z ∙ g.long;
             left = λ s n vs h.
                 let N = one_left (g.left s n vs h) before in
-                let q : valued (Got v c) ≡ got N.one N.next = ap valued (sym is) ∙ R.reads s N.one N.next h.linkable N.first in
+                let q : valued (Ok (v, c)) ≡ got N.one N.next = ap valued (sym is) ∙ R.reads s N.one N.next h.linkable N.first in
                 let same : element_of v ≡ N.one = cc q in
                 let next : N.next ≡ c.at = cc q in
                 let z-is : stored N.one ≡ z = sym (e ∙ ap stored same) in

@@ -1,5 +1,5 @@
 -- Single elements by cases, as code meets them: a v64 held to one rule, a bool, a number of a fixed width. Assumes nothing.
-use Rattle.std.specs.Prelude.{◌≡◌, ℕ, zero, suc, ◌+◌, ◌-◌, ◌*◌, ◌/◌, ◌^◌, ◌<◌, ◌≤◌, Bool, true, false, List, [], ◌∷◌, length, ◌≢◌, slice_index}
+use Rattle.std.specs.Prelude.{Ok, Err, ◌≡◌, ℕ, zero, suc, ◌+◌, ◌-◌, ◌*◌, ◌/◌, ◌^◌, ◌<◌, ◌≤◌, Bool, true, false, List, [], ◌∷◌, length, ◌≢◌, slice_index}
 use Rattle.std.proofs.Math.Path.{sym, ap}
 use Rattle.std.proofs.Common.{◌∙◌, arith, add-zero, div-mul-le_self, mul-le-mul_right, lt_of_not-le}
 use Rattle.std.proofs.Math.Nat.{zero-mul, suc-mul, div-add-mod', mod-lt}
@@ -9,32 +9,33 @@ use borrow.Author.Tests.{le-leb, lt-leb, eq-eqb, ne_eqb}
 use Rattle.paper.specs.Reader.{when◌then◌else◌, Reader, Out, got, ◌>>=◌, give, must, ◌or_no◌, bytes, repeat}
 use Rattle.paper.specs.Numbers.{fixed, v64, number}
 use Rattle.paper.specs.Rules.{bool_rules}
-use Rattle.numbers.specs.Cursors.{Read}
+use Rattle.numbers.specs.Cursors.{Outcome, Read}
 use Rattle.numbers.specs.Begun.{one_byte}
 use Rattle.numbers.specs.Ruled.{read_no, read-bad, read-got}
 use Rattle.numbers.specs.declared.Cursor.{Cursor}
+use Rattle.numbers.specs.Faults.{number_of}
 use Rattle.numbers.specs.declared.Refusal.{Refusal}
-use Rattle.numbers.specs.declared.Number.{Number}
-use Rattle.numbers.specs.declared.Number.TheVariants.{Got, No}
 use Rattle.values.specs.Pass.{forget, Passed, read-passed, pass-none, pass-more}
+use Rattle.numbers.specs.declared.Fault.{Fault}
+use Rattle.numbers.specs.declared.Fault.TheVariants as fault
 
 -- ── a v64 that is held to one rule ──
 
 abbrev pub ruled : (ℕ → Bool) → ℕ → Reader ℕ
 ruled ok why = number (λ n. (ok n or_no why) ∷ [])
 
-module _ (ok : ℕ → Bool) (why bound : ℕ) {f : List ℕ} {at : ℕ} {a : Number} (R : Read v64 (2 ^ 64) f at a) where
+module _ (ok : ℕ → Bool) (why : Fault) (bound : ℕ) {f : List ℕ} {at : ℕ} {a : Outcome ℕ} (R : Read v64 (2 ^ 64) f at a) where
   -- there is none
-  pub ruled-cut : {e : Refusal} → a ≡ No e → 0 < bound → Read (ruled ok why) bound f at a
+  pub ruled-cut : {e : Refusal} → a ≡ Err e → 0 < bound → Read (ruled ok (number_of why)) bound f at (Err e)
   unfolding number
   ruled-cut is h = read_no R _ h is
 
-  module _ {n : ℕ} {c : Cursor} (is : a ≡ Got n c) where
-    pub ruled-taken : ok n ≡ true → n < bound → Read (ruled ok why) bound f at (Got n c)
+  module _ {n : ℕ} {c : Cursor} (is : a ≡ Ok (n, c)) where
+    pub ruled-taken : ok n ≡ true → n < bound → Read (ruled ok (number_of why)) bound f at (Ok (n, c))
     unfolding number
     ruled-taken t h = read-got R _ h is (rw t)
 
-    pub ruled-refused : ok n ≡ false → 0 < bound → Read (ruled ok why) bound f at (No (record { number = why; place = at }))
+    pub ruled-refused : ok n ≡ false → 0 < bound → Read (ruled ok (number_of why)) bound f at (Err (record { fault = why; place = at }))
     unfolding number
     ruled-refused t h = read-bad R _ h is (rw t)
 
@@ -74,20 +75,20 @@ module _ (w : ℕ) (f : List ℕ) where
 
 -- ── a bool ──
 
-module _ {bound : ℕ} {f : List ℕ} {at : ℕ} {a : Number} (R : Read (fixed 1) bound f at a) where
-  pub bool-cut : {e : Refusal} → a ≡ No e → Passed (must (fixed 1) bool_rules) f at a
+module _ {bound : ℕ} {f : List ℕ} {at : ℕ} {a : Outcome ℕ} (R : Read (fixed 1) bound f at a) where
+  pub bool-cut : {e : Refusal} → a ≡ Err e → Passed (must (fixed 1) bool_rules) f at (Err e)
   bool-cut is = read-passed (read_no R bool_rules {d = 1} (omega arith) is)
 
-  module _ {b : ℕ} {c : Cursor} (is : a ≡ Got b c) where
-    pub bool_false : b ≡ 0 → Passed (must (fixed 1) bool_rules) f at (Got b c)
+  module _ {b : ℕ} {c : Cursor} (is : a ≡ Ok (b, c)) where
+    pub bool_false : b ≡ 0 → Passed (must (fixed 1) bool_rules) f at (Ok (b, c))
     unfolding bool_rules
     bool_false h = read-passed (read-got R bool_rules {d = suc b} (omega arith) is (rw (eq-eqb b 0 h)))
 
-    pub bool-true : b ≡ 255 → Passed (must (fixed 1) bool_rules) f at (Got b c)
+    pub bool-true : b ≡ 255 → Passed (must (fixed 1) bool_rules) f at (Ok (b, c))
     unfolding bool_rules
     bool-true h = read-passed (read-got R bool_rules {d = suc b} (omega arith) is (rw h))
 
-    pub bool-wrong : (b ≢ 0) → (b ≢ 255) → Passed (must (fixed 1) bool_rules) f at (No (record { number = 13; place = at }))
+    pub bool-wrong : (b ≢ 0) → (b ≢ 255) → Passed (must (fixed 1) bool_rules) f at (Err (record { fault = fault.Value; place = at }))
     unfolding bool_rules
     bool-wrong h k = read-passed (read-bad R bool_rules {d = 1} (omega arith) is (rw (ne_eqb b 0 h, ne_eqb b 255 k)))
 
@@ -141,7 +142,7 @@ module _ (f : List ℕ) where
 
 pub bools-all :
     {f : List ℕ} {at : ℕ} (m : ℕ) → at + m ≤ length f → Bools f at (at + m)
-    → Passed (repeat m (must (fixed 1) bool_rules)) f at (Got 0 (record { at = at + m }))
+    → Passed (repeat m (must (fixed 1) bool_rules)) f at (Ok (0, record { at = at + m }))
 unfolding forget
 bools-all {f} {at} m h B = record { says = sym (bools-there f m at h B); inside = λ i. h }
 
@@ -154,13 +155,13 @@ module _ (f : List ℕ) (at m w : ℕ) (wide : 0 < w) (within : at ≤ length f)
   pub places-fit : m ≤ (length f - at) / w → at + m * w ≤ length f
   places-fit h = omega (arith, whole-fits, mul-le-mul_right w h)
 
-  pub widths-there : m ≤ (length f - at) / w → Passed (repeat m (fixed w)) f at (Got 0 (record { at = at + m * w }))
+  pub widths-there : m ≤ (length f - at) / w → Passed (repeat m (fixed w)) f at (Ok (0, record { at = at + m * w }))
   unfolding forget
   widths-there h = record { says = sym (all_there w f m at (places-fit h)); inside = λ i. places-fit h }
 
   pub widths-cut :
       (length f - at) / w < m
-      → Passed (repeat m (fixed w)) f at (No (record { number = 1; place = at + (length f - at) / w * w }))
+      → Passed (repeat m (fixed w)) f at (Err (record { fault = fault.Short; place = at + (length f - at) / w * w }))
   unfolding forget
   widths-cut h =
       let left = mod-lt (length f - at) wide in

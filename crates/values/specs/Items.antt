@@ -11,8 +11,7 @@ use Rattle.paper.specs.Numbers.{signed, fixed, v64, number}
 use Rattle.paper.specs.Ledger.{flag, whole, float, link, annotation, State, object?}
 use Rattle.paper.specs.Rules.{element_kind?, bool_rules, link?, link_rules, annotation?, annotation_rules}
 use Rattle.paper.specs.File.{whole_of, two_numbers, element}
-use Rattle.numbers.specs.Cursors.{out_of}
-use Rattle.numbers.specs.declared.Number.{Number}
+use Rattle.numbers.specs.Cursors.{Outcome, out_of}
 use Rattle.values.specs.Listed.{listed-object, other-single, Fixed, width_of}
 use Rattle.values.specs.Pass.{forget, Passed, passed-as, Alike, alike_then, alike-back, alike_turned, alike-must, alike-repeat}
 use Rattle.values.specs.Annotations.{placed?, annotated}
@@ -164,13 +163,13 @@ module _ {s : State} {k strings : ℕ} {pools first last : List ℕ} (K : Known 
 -- ── a run of elements ──
 
 -- the answer is that of m elements of kind k, for every state that has these numbers
-pub record Checked (m k strings : ℕ) (pools first last f : List ℕ) (at : ℕ) (n : Number) : Type 0 where
+pub record Checked (m k strings : ℕ) (pools first last f : List ℕ) (at : ℕ) (n : Outcome ℕ) : Type 0 where
   pub passes : Passed (repeat m (item strings pools first last k)) f at n
   pub says : (s : State) → Known s k strings pools first last → forget (out_of n) ≡ forget (repeat m (element s k) f at)
 
 -- by the reader that code chose for the kind
 pub checked-by :
-    {m k strings : ℕ} {pools first last f : List ℕ} {at : ℕ} {n : Number} → element_kind? k ≡ true → (q : Reader ℕ)
+    {m k strings : ℕ} {pools first last f : List ℕ} {at : ℕ} {n : Outcome ℕ} → element_kind? k ≡ true → (q : Reader ℕ)
     → item strings pools first last k ≡ q → Passed (repeat m q) f at n → Checked m k strings pools first last f at n
 checked-by {m} {k} {strings} {pools} {first} {last} {f} {at} {n} listed q is P =
     let R : Passed (repeat m (item strings pools first last k)) f at n = rw is P in

@@ -1,16 +1,15 @@
 -- A map of several types as code goes over it, once over the number of types. Assumes nothing.
-use Rattle.std.specs.Prelude.{◌≡◌, ℕ, ◌-◌, ◌≤◌, List, [], ◌∷◌, map, length, take, drop, slice_index}
+use Rattle.std.specs.Prelude.{Ok, Err, ◌≡◌, ℕ, ◌-◌, ◌≤◌, List, [], ◌∷◌, map, length, take, drop, slice_index}
 use Rattle.std.proofs.Math.Path.{refl, sym}
 use Rattle.std.proofs.Common.{◌∙◌, arith, length-drop, take_all}
 use Rattle.paper.specs.Reader.{Reader, Out, got, no, and_then, ◌>>=◌, give, repeat}
 use Rattle.paper.specs.Lists.{flat}
 use Rattle.paper.specs.Maps.{key_and_rest, map_of}
 use Rattle.paper.specs.File.{small}
-use Rattle.numbers.specs.Cursors.{Read, was-got, was-refused}
+use Rattle.numbers.specs.Cursors.{Outcome, Read, was-got, was-refused}
 use Rattle.numbers.specs.declared.Cursor.{Cursor}
+use Rattle.numbers.specs.Faults.{number_of}
 use Rattle.numbers.specs.declared.Refusal.{Refusal}
-use Rattle.numbers.specs.declared.Number.{Number}
-use Rattle.numbers.specs.declared.Number.TheVariants.{Got, No}
 use Rattle.values.specs.Pass.{forget, Passed, Alike, alike_then, alike-back, alike-repeat, alike_turned, alike-bind, passed-as, pass-none, pass-more}
 
 -- a key of the first type, and what it leads to
@@ -28,7 +27,7 @@ alike-one {A} r {f} = record { at = λ p. pass-more r f 0 p ∙ go (r f p) }
     go (got a e) = pass-none r f e
     go (no n p) = refl
 
-pub passed-inside : {A : Type 0} {r : Reader A} {f : List ℕ} {at : ℕ} {a : Number} {n : ℕ} {c : Cursor} → Passed r f at a → a ≡ Got n c → at ≤ length f → c.at ≤ length f
+pub passed-inside : {A : Type 0} {r : Reader A} {f : List ℕ} {at : ℕ} {a : Outcome ℕ} {n : ℕ} {c : Cursor} → Passed r f at a → a ≡ Ok (n, c) → at ≤ length f → c.at ≤ length f
 passed-inside P is h = let Q = rw is at P in Q.inside h
 
 pub rest_part : (l : List ℕ) → take (length l - 1) (drop 1 l) ≡ drop 1 l
@@ -55,18 +54,18 @@ module _ {A : Type 0} (stop : Reader (List A)) (sized : ℕ → A) (g : ℕ → 
   module _ (l : List ℕ) {f : List ℕ} {at : ℕ} where
     -- ── a map ──
 
-    pub map-element : {a : Number} → length l ≡ 1 → Passed (g (slice_index l 0)) f at a → Passed (map_of stop small sized (map g l)) f at a
+    pub map-element : {a : Outcome ℕ} → length l ≡ 1 → Passed (g (slice_index l 0)) f at a → Passed (map_of stop small sized (map g l)) f at a
     map-element h P = rw (map-one l h) (passed-as P (alike-one (g (slice_index l 0))))
 
-    module _ (two : 2 ≤ length l) {a : Number} (R : Read small 65536 f at a) where
-      pub map-no : {u : Refusal} → a ≡ No u → Passed (map_of stop small sized (map g l)) f at a
+    module _ (two : 2 ≤ length l) {a : Outcome ℕ} (R : Read small 65536 f at a) where
+      pub map-no : {u : Refusal} → a ≡ Err u → Passed (map_of stop small sized (map g l)) f at (Err u)
       unfolding forget ◌>>=◌
       map-no {u} is =
           let W = was-refused R is in
-          let P : Passed (small >>= λ n. repeat n (key_of stop small sized (map g l))) f at (No u) = record { says = sym (rw W.says); inside = W.inside } in
-          rw is (passed-as P (map-many l two))
+          let P : Passed (small >>= λ n. repeat n (key_of stop small sized (map g l))) f at (Err u) = record { says = sym (rw W.says); inside = W.inside } in
+          passed-as P (map-many l two)
 
-      pub map_keys : {n : ℕ} {c : Cursor} {b : Number} → a ≡ Got n c → Passed (repeat n (key_of stop small sized (map g l))) f c.at b → Passed (map_of stop small sized (map g l)) f at b
+      pub map_keys : {n : ℕ} {c : Cursor} {b : Outcome ℕ} → a ≡ Ok (n, c) → Passed (repeat n (key_of stop small sized (map g l))) f c.at b → Passed (map_of stop small sized (map g l)) f at b
       unfolding ◌>>=◌
       map_keys {n} {c} {b} is Q =
           let W = was-got R is in
@@ -75,20 +74,20 @@ module _ {A : Type 0} (stop : Reader (List A)) (sized : ℕ → A) (g : ℕ → 
 
     -- ── a key and what it leads to ──
 
-    module _ (some : 1 ≤ length l) {a : Number} (P : Passed (g (slice_index l 0)) f at a) where
-      pub key-no : {u : Refusal} → a ≡ No u → Passed (key_of stop small sized (map g l)) f at a
+    module _ (some : 1 ≤ length l) {a : Outcome ℕ} (P : Passed (g (slice_index l 0)) f at a) where
+      pub key-no : {u : Refusal} → a ≡ Err u → Passed (key_of stop small sized (map g l)) f at (Err u)
       unfolding forget key_and_rest ◌>>=◌
       key-no {u} is =
           let Q = rw is at P in
-          rw (is, key-first l some) (record { says = go (g (slice_index l 0) f at) Q.says; inside = Q.inside })
+          rw (key-first l some) (record { says = go (g (slice_index l 0) f at) Q.says; inside = Q.inside })
         where
-          go : (o : Out A) → no u.number u.place ≡ forget o → no u.number u.place ≡ forget (and_then o (λ a e. and_then (map_of stop small sized (map g (drop 1 l)) f e) (λ v d. give (a ∷ v) f d)))
+          go : (o : Out A) → no (number_of u.fault) u.place ≡ forget o → no (number_of u.fault) u.place ≡ forget (and_then o (λ a e. and_then (map_of stop small sized (map g (drop 1 l)) f e) (λ v d. give (a ∷ v) f d)))
           go (got x e) q = let z : ◌≡◌ {A = ℕ} 0 1 = cc q in absurd (omega arith)
           go (no n p) q = q
 
       -- what it leads to is read by the rest of the kinds, lent as a part
       pub key-then :
-          {n : ℕ} {c : Cursor} {b : Number} → a ≡ Got n c → Passed (map_of stop small sized (map g (take (length l - 1) (drop 1 l)))) f c.at b
+          {n : ℕ} {c : Cursor} {b : Outcome ℕ} → a ≡ Ok (n, c) → Passed (map_of stop small sized (map g (take (length l - 1) (drop 1 l)))) f c.at b
           → Passed (key_of stop small sized (map g l)) f at b
       unfolding forget key_and_rest ◌>>=◌ give
       key-then {n} {c} {b} is T =

@@ -1,14 +1,13 @@
 -- Numbers of which nothing is asked, passed over many at a time. Assumes nothing.
-use Rattle.std.specs.Prelude.{◌≡◌, ℕ, suc, ◌+◌, ◌-◌, ◌*◌, ◌<◌, ◌≤◌, List}
+use Rattle.std.specs.Prelude.{Ok, ◌≡◌, ℕ, suc, ◌+◌, ◌-◌, ◌*◌, ◌<◌, ◌≤◌, List}
 use Rattle.std.proofs.Common.{sym, ◌∙◌, arith}
 use Rattle.paper.specs.Reader.{Reader, Out, got, no, and_then, repeat}
 use Rattle.paper.specs.Numbers.{v64}
 use Rattle.numbers.specs.Begun.{Ended}
 use Rattle.numbers.specs.Words.{Over, here, past, over-then, Ran}
 use Rattle.numbers.specs.declared.Run.{Run}
-use Rattle.numbers.specs.declared.Number.{Number}
-use Rattle.numbers.specs.declared.Number.TheVariants.{Got}
 use Rattle.values.specs.Pass.{forget, Passed, Running, running-start, running-on, running-done}
+use Rattle.numbers.specs.Cursors.{Outcome}
 
 -- r looks at nine bytes each from `at` on, of which each passes over eight numbers at most
 pub record Looks (size at rest r : ℕ) : Type 0 where
@@ -61,7 +60,7 @@ running-over {f} {m} {from} {at} {rest} R (past {k} {e = e} one others) h =
 
 -- what reads those that are left reads the whole
 pub running-rest :
-    {r : Reader ℕ} {f : List ℕ} {m from rest at : ℕ} {n : Number} → Running r f m from rest at → Passed (repeat rest r) f at n → Passed (repeat m r) f from n
+    {r : Reader ℕ} {f : List ℕ} {m from rest at : ℕ} {n : Outcome ℕ} → Running r f m from rest at → Passed (repeat rest r) f at n → Passed (repeat m r) f from n
 running-rest R P = record { says = P.says ∙ sym R.says; inside = λ h. P.inside (R.inside h) }
 
 -- ── one by one, where all of m are there: `rest` are left ──
@@ -83,5 +82,5 @@ module _ {m : ℕ} {f : List ℕ} {from at rest : ℕ} (E : Each m f from at res
   pub each-done : rest ≤ 0 → Over f m from at
   each-done h = let all : m - rest ≡ m = omega arith in rw all at E.over
 
-pub over-passed : {f : List ℕ} {m at e : ℕ} (x : ℕ) → Over f m at e → Passed (repeat m v64) f at (Got x (record { at = e }))
+pub over-passed : {f : List ℕ} {m at e : ℕ} (x : ℕ) → Over f m at e → Passed (repeat m v64) f at (Ok (x, record { at = e }))
 over-passed {f} {m} {at} x O = running-done (running-over (running-start v64 f m at) O (omega arith)) x (omega arith)

@@ -1,17 +1,14 @@
 -- Readings of which only the place behind them matters, or the refusal: what they have in common whatever they make of the
 -- bytes, and one reading after another as code runs them. Assumes nothing.
-use Rattle.std.specs.Prelude.{◌≡◌, ℕ, zero, suc, ◌+◌, ◌-◌, ◌*◌, ◌<◌, ◌≤◌, List, ◌∷◌, length}
+use Rattle.std.specs.Prelude.{Ok, Err, ◌≡◌, ℕ, zero, suc, ◌+◌, ◌-◌, ◌*◌, ◌<◌, ◌≤◌, List, ◌∷◌, length}
 use Rattle.std.proofs.Math.Path.{refl, sym, ap}
 use Rattle.std.proofs.Common.{◌∙◌, zero-add, suc-add, zero-mul, suc-mul, add_comm}
 use native.Mathlib.Omega.{arith}
 use Rattle.paper.specs.Reader.{Reader, Out, got, no, and_then, ◌>>=◌, give, hold, must, Rule, each, times, repeat}
-use Rattle.numbers.specs.Cursors.{out_of, place_of, Read, out_step, no_step, Past}
+use Rattle.numbers.specs.Cursors.{Outcome, Step, out_of, place_of, Read, out_step, Past}
 use Rattle.numbers.specs.declared.Cursor.{Cursor}
+use Rattle.numbers.specs.Faults.{number_of}
 use Rattle.numbers.specs.declared.Refusal.{Refusal}
-use Rattle.numbers.specs.declared.Number.{Number}
-use Rattle.numbers.specs.declared.Number.TheVariants.{Got, No}
-use Rattle.numbers.specs.declared.Step.{Step}
-use Rattle.numbers.specs.declared.Step.TheVariants as step
 
 -- an outcome without its value
 unfoldable pub forget : {A : Type 0} → Out A → Out (Unit {0})
@@ -19,15 +16,15 @@ forget (got a e) = got tt e
 forget (no n p) = no n p
 
 -- the answer goes where the reader goes, and refuses as it does; its number says nothing
-pub record Passed {A : Type 0} (r : Reader A) (f : List ℕ) (at : ℕ) (n : Number) : Type 0 where
+pub record Passed {A : Type 0} (r : Reader A) (f : List ℕ) (at : ℕ) (n : Outcome ℕ) : Type 0 where
   pub says : forget (out_of n) ≡ forget (r f at)
   pub inside : at ≤ length f → place_of n ≤ length f
 
-pub read-passed : {r : Reader ℕ} {b : ℕ} {f : List ℕ} {at : ℕ} {n : Number} → Read r b f at n → Passed r f at n
+pub read-passed : {r : Reader ℕ} {b : ℕ} {f : List ℕ} {at : ℕ} {n : Outcome ℕ} → Read r b f at n → Passed r f at n
 read-passed R = record { says = ap forget R.says; inside = R.inside }
 
 -- its number is any
-pub passed-with : {A : Type 0} {r : Reader A} {f : List ℕ} {at x : ℕ} {c : Cursor} (y : ℕ) → Passed r f at (Got x c) → Passed r f at (Got y c)
+pub passed-with : {A : Type 0} {r : Reader A} {f : List ℕ} {at x : ℕ} {c : Cursor} (y : ℕ) → Passed r f at (Ok (x, c)) → Passed r f at (Ok (y, c))
 unfolding forget
 passed-with y P = record { says = P.says; inside = P.inside }
 
@@ -129,7 +126,7 @@ module _ {f : List ℕ} where
       go zero p = pass-none (give a) f p
       go (suc n) p = pass-more (give a) f n p ∙ go n p
 
-  pub passed-as : {A B : Type 0} {r : Reader A} {q : Reader B} {at : ℕ} {n : Number} → Passed r f at n → Alike q r f → Passed q f at n
+  pub passed-as : {A B : Type 0} {r : Reader A} {q : Reader B} {at : ℕ} {n : Outcome ℕ} → Passed r f at n → Alike q r f → Passed q f at n
   passed-as {at = at} P x = record { says = P.says ∙ sym (x.at at); inside = P.inside }
 
 -- ── a loop: what is left to read from here gives the whole ──
@@ -142,7 +139,7 @@ pub running-start : {A : Type 0} (r : Reader A) (f : List ℕ) (m from : ℕ) �
 running-start r f m from = record { says = refl; inside = λ h. h }
 
 module _ {A : Type 0} {r : Reader A} {f : List ℕ} {m from rest at : ℕ} (R : Running r f m from rest at) where
-  pub running-done : (x : ℕ) → rest ≤ 0 → Passed (repeat m r) f from (Got x (record { at = at }))
+  pub running-done : (x : ℕ) → rest ≤ 0 → Passed (repeat m r) f from (Ok (x, record { at = at }))
   unfolding forget
   running-done x z =
       let none : rest ≡ 0 = omega arith in
@@ -159,18 +156,18 @@ module _ {A : Type 0} {r : Reader A} {f : List ℕ} {m from rest at : ℕ} (R : 
     pub running-on : (e : ℕ) → forget (r f at) ≡ got tt e → (at ≤ length f → e ≤ length f) → Running r f m from (rest - 1) e
     running-on e h i = record { says = one_more ∙ rw h; inside = λ l. i (R.inside l) }
 
-    pub running-out : (n p : ℕ) → forget (r f at) ≡ no n p → (at ≤ length f → p ≤ length f) → Passed (repeat m r) f from (No (record { number = n; place = p }))
+    pub running-out : (e : Refusal) → forget (r f at) ≡ no (number_of e.fault) e.place → (at ≤ length f → e.place ≤ length f) → Passed (repeat m r) f from (Err e)
     unfolding forget
-    running-out n p h i = record { says = sym (one_more ∙ rw h); inside = λ l. i (R.inside l) }
+    running-out e h i = record { says = sym (one_more ∙ rw h); inside = λ l. i (R.inside l) }
 
-    module _ {a : Number} (one : Passed r f at a) where
-      pub running-next : {x : ℕ} {c : Cursor} → a ≡ Got x c → Running r f m from (rest - 1) c.at
+    module _ {a : Outcome ℕ} (one : Passed r f at a) where
+      pub running-next : {x : ℕ} {c : Cursor} → a ≡ Ok (x, c) → Running r f m from (rest - 1) c.at
       unfolding forget
       running-next {x} {c} is = let P = rw is at one in running-on c.at (sym P.says) P.inside
 
-      pub running-no : {e : Refusal} → a ≡ No e → Passed (repeat m r) f from a
+      pub running-no : {e : Refusal} → a ≡ Err e → Passed (repeat m r) f from (Err e)
       unfolding forget
-      running-no {e} is = let P = rw is at one in rw is (running-out e.number e.place (sym P.says) P.inside)
+      running-no {e} is = let P = rw is at one in running-out e (sym P.says) P.inside
 
 -- the same, where only the cursor behind one is answered
 module _ {r : Reader ℕ} {f : List ℕ} {m from rest at : ℕ} (R : Running r f m from rest at) (due : 0 < rest) {a : Step} (one : Past r f at a) where
@@ -182,8 +179,8 @@ module _ {r : Reader ℕ} {f : List ℕ} {m from rest at : ℕ} (R : Running r f
       go (got n e) = refl
       go (no n p) = refl
 
-  pub running-past : {c : Cursor} → a ≡ step.Got c → Running r f m from (rest - 1) c.at
+  pub running-past : {c : Cursor} → a ≡ Ok c → Running r f m from (rest - 1) c.at
   running-past {c} is = running-on R due c.at (sym went ∙ ap (λ (s : Step). out_step s tt) is) (rw is at one).inside
 
-  pub running-stop : {e u : Refusal} → a ≡ step.No e → u ≡ no_step a → Passed (repeat m r) f from (No u)
-  running-stop {e} is same = rw (same, is) (running-out R due e.number e.place (sym went ∙ ap (λ (s : Step). out_step s tt) is) (rw is at one).inside)
+  pub running-stop : {e : Refusal} → a ≡ Err e → Passed (repeat m r) f from (Err e)
+  running-stop {e} is = running-out R due e (sym went ∙ ap (λ (s : Step). out_step s tt) is) (rw is at one).inside

@@ -1,17 +1,14 @@
 -- The quick way over elements: the place behind one is all that is answered, and bounds are all that it is held to. Assumes nothing.
-use Rattle.std.specs.Prelude.{◌≡◌, ℕ, ◌+◌, ◌-◌, ◌<◌, ◌≤◌, Bool, true, false, ◌||◌, List, length, take, drop, ◌==◌, ◌≢◌, slice_index, slice_index_or, slice_range, refl}
+use Rattle.std.specs.Prelude.{Ok, ◌≡◌, ℕ, ◌+◌, ◌-◌, ◌<◌, ◌≤◌, Bool, true, false, ◌||◌, List, length, take, drop, ◌==◌, ◌≢◌, slice_index, slice_index_or, slice_range, refl}
 use Rattle.std.proofs.Common.{sym, ap, ◌∙◌, arith, length-take, length-drop, drop-cons}
 use Rattle.std.proofs.Math.Nat.{lt_of_not-le}
 use Rattle.std.proofs.Math.Decide.{dec_le}
 use borrow.Author.Tests.{le-leb, lt-leb, eq-eqb}
 use Rattle.paper.specs.Reader.{Reader, Out, got, no, and_then, when◌then◌else◌, ◌>>=◌, give, started, must, repeat}
 use Rattle.paper.specs.Numbers.{fixed, coding, low_first, v64, number}
-use Rattle.numbers.specs.Cursors.{out_step, Past}
+use Rattle.numbers.specs.Cursors.{Step, out_step, Past}
 use Rattle.numbers.specs.Begun.{one_byte}
 use Rattle.numbers.specs.declared.Cursor.{Cursor}
-use Rattle.numbers.specs.declared.Number.TheVariants.{Got}
-use Rattle.numbers.specs.declared.Step.{Step}
-use Rattle.numbers.specs.declared.Step.TheVariants as step
 use Rattle.values.specs.Pass.{forget, Passed, Running, running-start, running-on, running-done}
 use Rattle.values.specs.Held.{fixed-there}
 use Rattle.values.specs.Items.{in_range, range-found, linked, at_most, some_object, item, item-object}
@@ -54,7 +51,7 @@ pub record Skips {A : Type 0} (q : Reader A) (f : List ℕ) (at end : ℕ) : Typ
 pub record Quick (q : Reader ℕ) (b : Bounds) : Type 0 where
   pub over : {f : List ℕ} {at end : ℕ} → Stands b.width b.low b.high f at end → Skips q f at end
 
-pub skips-passed : {A : Type 0} {q : Reader A} {f : List ℕ} {at end : ℕ} → Skips q f at end → Passed q f at (Got 0 (record { at = end }))
+pub skips-passed : {A : Type 0} {q : Reader A} {f : List ℕ} {at end : ℕ} → Skips q f at end → Passed q f at (Ok (0, record { at = end }))
 unfolding forget
 skips-passed S = record { says = sym S.says; inside = λ h. S.inside }
 
@@ -67,7 +64,7 @@ pub one_number : (f : List ℕ) (at b : ℕ) → at < length f → b ≡ slice_i
 unfolding v64 started coding ◌>>=◌ give when◌then◌else◌ low_first
 one_number f at b h is lt = let low : slice_index_or f at 0 < 128 = omega arith in rw (one_byte f at h, lt-leb 128 (slice_index f at) low) (ap (λ (n : ℕ). got n (at + 1)) (sym is))
 
-pub past-any : {f : List ℕ} {at : ℕ} {a : Step} {c : Cursor} → Past v64 f at a → a ≡ step.Got c → Any f at c.at
+pub past-any : {f : List ℕ} {at : ℕ} {a : Step} {c : Cursor} → Past v64 f at a → a ≡ Ok c → Any f at c.at
 past-any {f} {at} {a} {c} P is = go (v64 f at) refl (sym (ap (λ (s : Step). out_step s (tt {0})) is) ∙ P.says)
   where
     go : (o : Out ℕ) → v64 f at ≡ o → got (tt {0}) c.at ≡ and_then o (λ n e. got tt e) → Any f at c.at
@@ -197,7 +194,7 @@ module _ {key value : Bounds} {f : List ℕ} {n from : ℕ} where
   pub paired-done : {rest at : ℕ} → Paired key value f n from rest at → rest ≤ 0 → Paired key value f n from 0 at
   paired-done {rest} {at} P h = let z : rest ≡ 0 = omega arith in rw z at P
 
-  pub paired-passed : {at : ℕ} {p : Reader (List ℕ)} → Paired key value f n from 0 at → Steps key value f p → Passed (repeat n p) f from (Got 0 (record { at = at }))
+  pub paired-passed : {at : ℕ} {p : Reader (List ℕ)} → Paired key value f n from 0 at → Steps key value f p → Passed (repeat n p) f from (Ok (0, record { at = at }))
   paired-passed P S = running-done (P.runs S) 0 (omega arith)
 
 -- a key of the last two types, and what it leads to

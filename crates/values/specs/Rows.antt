@@ -1,5 +1,5 @@
 -- A column of values of a fixed width: their number is known before the first is stored. One law for every width. Assumes nothing.
-use Rattle.std.specs.Prelude.{◌≡◌, ℕ, suc, ◌+◌, ◌-◌, ◌*◌, ◌/◌, ◌%◌, ◌^◌, ◌<◌, ◌≤◌, false, List, length, ℤ, ◌==◌, ◌≢◌, nat_eq, slice_set}
+use Rattle.std.specs.Prelude.{Ok, Err, ◌≡◌, ℕ, suc, ◌+◌, ◌-◌, ◌*◌, ◌/◌, ◌%◌, ◌^◌, ◌<◌, ◌≤◌, false, List, length, ℤ, ◌==◌, ◌≢◌, nat_eq, slice_set}
 use Rattle.std.proofs.Math.Path.{refl, sym, ap}
 use Rattle.std.proofs.Common.{◌∙◌, arith, lt_of_not-le, mod-lt, lit<, length-set, lt-ltb, le-leb, ne_eqb}
 use Rattle.std.proofs.Math.Nat.{div-add-mod, one-le-pow, mod-eq_of_lt}
@@ -10,13 +10,11 @@ use Rattle.paper.specs.Reader.{when◌then◌else◌, Out, got}
 use Rattle.paper.specs.Numbers.{signed, fixed, v64}
 use Rattle.paper.specs.Ledger.{whole}
 use Rattle.paper.specs.Calls.{stored}
-use Rattle.numbers.specs.Cursors.{Read, was-got, answer-no}
+use Rattle.numbers.specs.Cursors.{Outcome, Read, was-got, answer-no}
 use Rattle.numbers.specs.Turned.{TakenAt, TakenV64}
 use Rattle.numbers.specs.declared.Taken.{Taken}
 use Rattle.numbers.specs.declared.Cursor.{Cursor}
 use Rattle.numbers.specs.declared.Refusal.{Refusal}
-use Rattle.numbers.specs.declared.Number.{Number}
-use Rattle.numbers.specs.declared.Number.TheVariants as number
 use Rattle.values.specs.Held.{fixed-cut, ruled-taken, ruled-refused}
 use Rattle.values.specs.Items.{linked, at_most}
 use Rattle.values.specs.Bare.{bare, bound_of, made, whole_made, made-whole, made-link, whole-8, bare-link, bound-link}
@@ -24,6 +22,7 @@ use Rattle.values.specs.Columns.{element_of, Storable, value-got, value-cut}
 use Rattle.values.specs.Filling.{Filled, Filling, fill_start, fill_done, fill-full, fill-cut, fill-no, fill-next}
 use Rattle.values.specs.declared.columns.Value.{Value}
 use Rattle.values.specs.declared.columns.Value.TheVariants.{Flag, Whole, Float, Object}
+use Rattle.numbers.specs.declared.Fault.TheVariants as fault
 
 -- the smaller of n and room
 pub record Fitting (n room r : ℕ) : Type 0 where
@@ -119,7 +118,7 @@ module _ {k w : ℕ} (W : Wide k w) {f : List ℕ} {l : List ℤ} {at : ℕ} {m 
   row_next due there {t} T S e =
       let end : t.next.at ≤ length f = omega (arith, T.place) in
       let reads : bare k f from ≡ got t.number t.next.at = rw W.reads T.says in
-      let N : Read (bare k) (bound_of k) f from (number.Got t.number t.next) = record { says = sym reads; inside = λ h. end; below = rw W.bound T.below } in
+      let N : Read (bare k) (bound_of k) f from (Ok (t.number, t.next)) = record { says = sym reads; inside = λ h. end; below = rw W.bound T.below } in
       record {
         filling = fill-next R.filling (omega (arith, W.some)) (value-got W.single N refl (S.is, S.fits)) refl e;
         place = omega (arith, R.place, T.place);
@@ -135,7 +134,7 @@ module _ {k w : ℕ} (W : Wide k w) {f : List ℕ} {l : List ℤ} {at : ℕ} {m 
         | no h ↦
             (elim (dec_le (length l) p) [
               | yes full ↦ fill-full R.filling (lt_of_not-le h) (rw R.filling.long full)
-              | no room ↦ fill-cut R.filling (lt_of_not-le h) (value-cut W.single (no_more (lt_of_not-le room)) refl refl) refl
+              | no room ↦ fill-cut R.filling (lt_of_not-le h) (value-cut W.single (no_more (lt_of_not-le room)) refl) refl
             ])
       ]
     where
@@ -153,14 +152,14 @@ module _ {k w : ℕ} (W : Wide k w) {f : List ℕ} {l : List ℤ} {at : ℕ} {m 
           let place : from + w * at ≡ w * (at + length f / w) = R.place ∙ ap (λ (i : ℕ). w * i) (here ∙ ap (λ (i : ℕ). at + i) count) in
           omega (arith, div-add-mod (length f) w, mod-lt (length f) W.some)
 
-      no_more : p < length l → Read (bare k) (bound_of k) f from (number.No (record { number = 1; place = from }))
+      no_more : p < length l → Read (bare k) (bound_of k) f from (Err (record { fault = fault.Short; place = from }))
       no_more room =
           let cut : bare k f from ≡ Out.no 1 from = rw W.reads (fixed-cut w f from (left room)) in
           answer-no cut (rw W.bound (one-le-pow w 256 (lit< tt)))
 
 -- ── numbers of several widths, read one after the other ──
 
-module _ {f : List ℕ} {at : ℕ} {a : Number} where
+module _ {f : List ℕ} {at : ℕ} {a : Outcome ℕ} where
   pub read-v64 : Read v64 (2 ^ 64) f at a → Read (bare 11) (bound_of 11) f at a
   unfolding bare bound_of when◌then◌else◌
   read-v64 R = R
@@ -168,12 +167,12 @@ module _ {f : List ℕ} {at : ℕ} {a : Number} where
   read-object : (k : ℕ) → 13 < k → Read (linked (at_most (2 ^ 63 - 1))) (2 ^ 63) f at a → Read (bare k) (bound_of k) f at a
   read-object k h R = rw (bare-link k h, bound-link k h) R
 
-module _ {k : ℕ} (single : nat_eq k 5 ≡ false) {f : List ℕ} {l : List ℤ} {at : ℕ} {m : List ℤ} {p from : ℕ} (g : Filling k f l at m p from) (before : from < length f) {a : Number} (R : Read (bare k) (bound_of k) f from a) where
-  pub number_cut : {e : Refusal} → a ≡ number.No e → Filled k f l at m p
-  number_cut is = fill-cut g before (value-cut single R is refl) refl
+module _ {k : ℕ} (single : nat_eq k 5 ≡ false) {f : List ℕ} {l : List ℤ} {at : ℕ} {m : List ℤ} {p from : ℕ} (g : Filling k f l at m p from) (before : from < length f) {a : Outcome ℕ} (R : Read (bare k) (bound_of k) f from a) where
+  pub number_cut : {e : Refusal} → a ≡ Err e → Filled k f l at m p
+  number_cut is = fill-cut g before (value-cut single R is) refl
 
   pub number-next :
-      {n : ℕ} {c : Cursor} → a ≡ number.Got n c → {v : Value} → Stood k n v → {z : ℤ} → z ≡ stored (element_of v)
+      {n : ℕ} {c : Cursor} → a ≡ Ok (n, c) → {v : Value} → Stood k n v → {z : ℤ} → z ≡ stored (element_of v)
       → Filling k f l at (slice_set m p z) (p + 1) c.at
   number-next is S e = fill-next g before (value-got single R is (S.is, S.fits)) refl e
 
@@ -196,14 +195,14 @@ module _ {f : List ℕ} {l : List ℤ} {at : ℕ} {m : List ℤ} {p from : ℕ} 
     pub links-full : length m ≤ p → (k : ℕ) → 13 < k → Filled k f l at m p
     links-full full k h = fill-full (g.each k h) before full
 
-    module _ {a : Number} (R : Read (linked (at_most (2 ^ 63 - 1))) (2 ^ 63) f from a) where
-      pub links-cut : {e : Refusal} → a ≡ number.No e → (k : ℕ) → 13 < k → Filled k f l at m p
+    module _ {a : Outcome ℕ} (R : Read (linked (at_most (2 ^ 63 - 1))) (2 ^ 63) f from a) where
+      pub links-cut : {e : Refusal} → a ≡ Err e → (k : ℕ) → 13 < k → Filled k f l at m p
       links-cut is k h = number_cut (not-annotation k h) (g.each k h) before (read-object k h R) is
 
-      pub link_fits : {n : ℕ} {c : Cursor} → a ≡ number.Got n c → Storable (Object n)
+      pub link_fits : {n : ℕ} {c : Cursor} → a ≡ Ok (n, c) → Storable (Object n)
       link_fits {n} is = (stood-object 14 n (omega arith) (was-got R is).below).fits
 
-      pub links-next : {n : ℕ} {c : Cursor} → a ≡ number.Got n c → {z : ℤ} → z ≡ stored (element_of (Object n)) → Links f l at (slice_set m p z) (p + 1) c.at
+      pub links-next : {n : ℕ} {c : Cursor} → a ≡ Ok (n, c) → {z : ℤ} → z ≡ stored (element_of (Object n)) → Links f l at (slice_set m p z) (p + 1) c.at
       links-next {n} is {z} e =
           record {
             long = length-set m p z ∙ g.long;
@@ -232,7 +231,7 @@ on-start K f from l p =
 pub on-done : {K : ℕ → Type 0} {f : List ℕ} {from : ℕ} {l : List ℤ} {p i : ℕ} {m : List ℤ} {r : ℕ} (n : ℕ) → On K f from l p i m r → i ≡ n → On K f from l p n m r
 on-done n O is = rw is at O
 
-taken-read : {f : List ℕ} {at : ℕ} {t : Taken} → TakenV64 f at t → at + 9 ≤ length f → Read v64 (2 ^ 64) f at (number.Got t.number t.next)
+taken-read : {f : List ℕ} {at : ℕ} {t : Taken} → TakenV64 f at t → at + 9 ≤ length f → Read v64 (2 ^ 64) f at (Ok (t.number, t.next))
 taken-read T h = record { says = sym T.says; inside = λ i. omega (arith, T.most); below = T.below }
 
 module _ {K : ℕ → Type 0} {f : List ℕ} {from : ℕ} {l : List ℤ} {p n : ℕ} {m : List ℤ} {r : ℕ} (O : On K f from l p n m r) {t : Taken} (T : TakenV64 f r t) (room : r + 9 ≤ length f) where
@@ -265,12 +264,12 @@ module _ {f : List ℕ} {from : ℕ} {l : List ℤ} {p n : ℕ} {m : List ℤ} {
       (λ k h l₀ at g.
       elim (dec_le t.number (2 ^ 63 - 1)) [
         | yes small ↦
-            (let R = ruled-taken _ 14 (2 ^ 63) (taken-read T room) refl (le-leb t.number (2 ^ 63 - 1) small) (omega arith) in
+            (let R = ruled-taken _ fault.Reference (2 ^ 63) (taken-read T room) refl (le-leb t.number (2 ^ 63 - 1) small) (omega arith) in
             let same : t.number % 2 ^ 63 ≡ t.number = mod-eq_of_lt (omega arith) in
             number-next (not-annotation k h) g (omega arith) (read-object k h R) refl (stood-object k t.number h (omega arith)) (rw same at e))
         | no large ↦
-            (let R = ruled-refused _ 14 (2 ^ 63) (taken-read T room) refl (lt-leb t.number (2 ^ 63 - 1) (lt_of_not-le large)) (omega arith) in
-            fill-no g (omega arith) (value-cut (not-annotation k h) (read-object k h R) refl refl) refl (length-set m (p + n) z ∙ g.long))
+            (let R = ruled-refused _ fault.Reference (2 ^ 63) (taken-read T room) refl (lt-leb t.number (2 ^ 63 - 1) (lt_of_not-le large)) (omega arith) in
+            fill-no g (omega arith) (value-cut (not-annotation k h) (read-object k h R) refl) refl (length-set m (p + n) z ∙ g.long))
       ])
 
 pub link-low : (n : ℕ) → Storable (Object (n % 2 ^ 63))

@@ -7,11 +7,11 @@ use native.Mathlib.Omega.{arith}
 use borrow.Author.Tests.{leb-true, ltb-true, le-leb, lt-leb, lt-ltb, le-ltb}
 use Rattle.paper.specs.Reader.{when◌then◌else◌, Reader, repeat}
 use Rattle.paper.specs.Numbers.{fixed}
-use Rattle.numbers.specs.declared.Number.{Number}
 use Rattle.values.specs.Pass.{Passed, passed-as, alike-back}
 use Rattle.values.specs.Maps.{alike-one}
 use Rattle.values.specs.Listed.{Fixed, width_of}
 use Rattle.values.specs.Items.{linked, some_object, item, item-object, item-fixed}
+use Rattle.numbers.specs.Cursors.{Outcome}
 
 -- kind k names a type whose ranges are there
 unfoldable pub there? : List ℕ → ℕ → Bool
@@ -92,18 +92,18 @@ parts-match {first} {last} {from} {to} L =
 
 -- the kind's own reader
 pub item-direct :
-    (strings : ℕ) (pools starts first last : List ℕ) (k : ℕ) (q : Reader ℕ) {f : List ℕ} {at : ℕ} {a : Number}
+    (strings : ℕ) (pools starts first last : List ℕ) (k : ℕ) (q : Reader ℕ) {f : List ℕ} {at : ℕ} {a : Outcome ℕ}
     → ((a b : List ℕ) → item strings pools a b k ≡ q) → Passed q f at a → Passed (item_in strings pools starts first last k) f at a
 unfolding item_in
 item-direct strings pools starts first last k q is P = rw (is (ranges starts k first) (ranges starts k last)) P
 
 -- a run of one
-pub one-passed : (q : Reader ℕ) {f : List ℕ} {at : ℕ} {a : Number} → Passed (repeat 1 q) f at a → Passed q f at a
+pub one-passed : (q : Reader ℕ) {f : List ℕ} {at : ℕ} {a : Outcome ℕ} → Passed (repeat 1 q) f at a → Passed q f at a
 one-passed q P = passed-as P (alike-back (alike-one q))
 
 -- that of a type is held to the lent part
 pub item-lent :
-    (strings : ℕ) (pools starts first last : List ℕ) {k from to : ℕ} {f : List ℕ} {at : ℕ} {a : Number} → 32 ≤ k → Spanned starts k from to
+    (strings : ℕ) (pools starts first last : List ℕ) {k from to : ℕ} {f : List ℕ} {at : ℕ} {a : Outcome ℕ} → 32 ≤ k → Spanned starts k from to
     → Passed (repeat 1 (linked (some_object (slice_range first from to) (slice_range last from to)))) f at a
     → Passed (item_in strings pools starts first last k) f at a
 unfolding item_in ranges

@@ -1,14 +1,12 @@
 -- The ways out of a map and of a key with what it leads to, as code takes them. Assumes nothing.
-use Rattle.std.specs.Prelude.{◌≡◌, ℕ, ◌+◌, ◌-◌, ◌*◌, ◌<◌, ◌≤◌, true, List, [], ◌∷◌, map, length, take, drop, slice_index, refl}
+use Rattle.std.specs.Prelude.{Ok, Err, ◌≡◌, ℕ, ◌+◌, ◌-◌, ◌*◌, ◌<◌, ◌≤◌, true, List, [], ◌∷◌, map, length, take, drop, slice_index, refl}
 use Rattle.std.proofs.Common.{arith, length-drop}
 use Rattle.paper.specs.Reader.{Reader, give, repeat}
 use Rattle.paper.specs.Maps.{map_of}
 use Rattle.paper.specs.File.{small}
-use Rattle.numbers.specs.Cursors.{Read}
+use Rattle.numbers.specs.Cursors.{Outcome, Read}
 use Rattle.numbers.specs.declared.Cursor.{Cursor}
 use Rattle.numbers.specs.declared.Refusal.{Refusal}
-use Rattle.numbers.specs.declared.Number.{Number}
-use Rattle.numbers.specs.declared.Number.TheVariants.{Got, No}
 use Rattle.values.specs.Pass.{Passed}
 use Rattle.values.specs.Maps.{rest_part, key_of, map-element, map-no, map_keys, key-no, key-then}
 use Rattle.paper.specs.Lists.{all}
@@ -28,30 +26,30 @@ map_in strings pools starts first last kinds = map_of (give []) small (λ n. n) 
 unfoldable pub key_in : ℕ → List ℕ → List ℕ → List ℕ → List ℕ → List ℕ → Reader (List ℕ)
 key_in strings pools starts first last kinds = key_of (give []) small (λ n. n) (map (item_in strings pools starts first last) kinds)
 
-module _ (strings : ℕ) (pools starts first last l : List ℕ) {f : List ℕ} {at : ℕ} {a : Number} where
+module _ (strings : ℕ) (pools starts first last l : List ℕ) {f : List ℕ} {at : ℕ} {a : Outcome ℕ} where
   module _ (two : 2 ≤ length l) (R : Read small 65536 f at a) where
-    pub way_no : {u : Refusal} → a ≡ No u → Passed (map_in strings pools starts first last l) f at a
+    pub way_no : {u : Refusal} → a ≡ Err u → Passed (map_in strings pools starts first last l) f at (Err u)
     unfolding map_in
     way_no = map-no (give []) (λ n. n) (item_in strings pools starts first last) l two R
 
-    pub way-keys : {n : ℕ} {c : Cursor} {b : Number} → a ≡ Got n c → Passed (repeat n (key_in strings pools starts first last l)) f c.at b → Passed (map_in strings pools starts first last l) f at b
+    pub way-keys : {n : ℕ} {c : Cursor} {b : Outcome ℕ} → a ≡ Ok (n, c) → Passed (repeat n (key_in strings pools starts first last l)) f c.at b → Passed (map_in strings pools starts first last l) f at b
     unfolding map_in key_in
     way-keys = map_keys (give []) (λ n. n) (item_in strings pools starts first last) l two R
 
   module _ (two : 2 ≤ length l) (P : Passed (item_in strings pools starts first last (slice_index l 0)) f at a) where
-    pub way-key-no : {u : Refusal} → a ≡ No u → Passed (key_in strings pools starts first last l) f at a
+    pub way-key-no : {u : Refusal} → a ≡ Err u → Passed (key_in strings pools starts first last l) f at (Err u)
     unfolding key_in
     way-key-no = key-no (give []) (λ n. n) (item_in strings pools starts first last) l (omega arith) P
 
     pub way-rest :
-        {n : ℕ} {c : Cursor} {b : Number} → a ≡ Got n c → Passed (map_in strings pools starts first last (take (length l - 1) (drop 1 l))) f c.at b
+        {n : ℕ} {c : Cursor} {b : Outcome ℕ} → a ≡ Ok (n, c) → Passed (map_in strings pools starts first last (take (length l - 1) (drop 1 l))) f c.at b
         → Passed (key_in strings pools starts first last l) f at b
     unfolding map_in key_in
     way-rest = key-then (give []) (λ n. n) (item_in strings pools starts first last) l (omega arith) P
 
     -- one type is left
     pub way-last :
-        {n : ℕ} {c : Cursor} {b : Number} → a ≡ Got n c → length l ≡ 2 → Passed (item_in strings pools starts first last (slice_index l 1)) f c.at b
+        {n : ℕ} {c : Cursor} {b : Outcome ℕ} → a ≡ Ok (n, c) → length l ≡ 2 → Passed (item_in strings pools starts first last (slice_index l 1)) f c.at b
         → Passed (key_in strings pools starts first last l) f at b
     unfolding map_in
     way-last is both E =

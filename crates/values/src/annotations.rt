@@ -4,7 +4,7 @@ ghost use Rattle.paper.specs.Reader.{repeat};
 ghost use Rattle.values.specs.Pass.{Passed};
 ghost use Rattle.values.specs.Annotations.{placed?, annotated};
 
-use numbers::{Cursor, Number, Refusal};
+use numbers::{Cursor, Fault, Outcome, Refusal};
 
 // Whether there is object n of the base type that string m names, or both are 0. Of that type there are pools[m - 1] objects, which
 // is 0 where the string names no base type.
@@ -26,39 +26,30 @@ pub fn placed(pools: &[u32], m: u64, n: u64) -> bool
 }
 
 // Both numbers are read before the rule is asked, and it is broken where the first began.
-fn annotation(part: &[u8], c: Cursor, pools: &[u32]) -> Number
+fn annotation(part: &[u8], c: Cursor, pools: &[u32]) -> Outcome<u64>
     ensures { Passed (annotated (placed? pools.now)) part.now c.at result }
 {
-    let a = c.v64(part);
-    let Number::Got(m, second) = a else {
-        return a;
-    };
-    let b = second.v64(part);
-    let Number::Got(n, next) = b else {
-        return b;
-    };
+    let (m, second) = c.v64(part)?;
+    let (n, next) = second.v64(part)?;
     if placed(pools, m, n) {
-        return Number::Got(n, next);
+        return Ok((n, next));
     }
-    Number::No(Refusal {
-        number: 14,
+    Err(Refusal {
+        fault: Fault::Reference,
         place: c.at,
     })
 }
 
 // m annotations.
-pub fn annotations(part: &[u8], c: Cursor, m: u64, pools: &[u32]) -> Number
+pub fn annotations(part: &[u8], c: Cursor, m: u64, pools: &[u32]) -> Outcome<u64>
     ensures { Passed (repeat m (annotated (placed? pools.now))) part.now c.at result }
 {
     let mut here = c;
     let mut rest = m;
     while 0 < rest {
-        let a = annotation(part, here, pools);
-        let Number::Got(_, next) = a else {
-            return a;
-        };
+        let (_, next) = annotation(part, here, pools)?;
         here = next;
         rest -= 1;
     }
-    Number::Got(0, here)
+    Ok((0, here))
 }

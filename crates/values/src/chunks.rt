@@ -11,7 +11,7 @@ ghost use Rattle.values.specs.Chunks.{counted, list_of, Kinds, ChunkChecked};
 use crate::annotations::annotations;
 use crate::references::guided_references;
 use crate::runs::{bools, fixed_widths, string_numbers, strings_in_turn, v64s};
-use numbers::{Cursor, Number};
+use numbers::{Cursor, Outcome};
 
 // The width in bytes of i8 to i64, f32 and f64.
 fn width(k: u64) -> u64
@@ -38,7 +38,7 @@ pub fn elements(
     pools: &[u32],
     first: &[u32],
     last: &[u32],
-) -> Number
+) -> Outcome<u64>
     requires { (element_kind? k ≡ true) × (c.at ≤ length part.now) × (length first.now ≡ length last.now) }
     ensures { Checked m k strings pools.now first.now last.now part.now c.at result }
 {
@@ -50,7 +50,7 @@ pub fn elements(
         14 => string_numbers(part, c, m, strings),
         32..=18446744073709551615 => guided_references(part, c, m, pools, first, last),
         // No element has such a kind.
-        0..=4 | 15..=31 => Number::Got(0, c),
+        0..=4 | 15..=31 => Ok((0, c)),
     }
 }
 
@@ -63,14 +63,11 @@ fn list(
     pools: &[u32],
     first: &[u32],
     last: &[u32],
-) -> Number
+) -> Outcome<u64>
     requires { (element_kind? e ≡ true) × (c.at ≤ length part.now) × (length first.now ≡ length last.now) }
     ensures { Passed (list_of strings pools.now first.now last.now e) part.now c.at result }
 {
-    let a = c.small(part);
-    let Number::Got(n, next) = a else {
-        return a;
-    };
+    let (n, next) = c.small(part)?;
     elements(part, next, n, e, strings, pools, first, last)
 }
 
@@ -83,128 +80,95 @@ fn lists(
     pools: &[u32],
     first: &[u32],
     last: &[u32],
-) -> Number
+) -> Outcome<u64>
     requires { (element_kind? e ≡ true) × (length first.now ≡ length last.now) }
     ensures { Passed (repeat n (list_of strings pools.now first.now last.now e)) part.now 0 result }
 {
     let mut here = Cursor { at: 0 };
     let mut rest = n;
     while 0 < rest {
-        let a = list(part, here, e, strings, pools, first, last);
-        let Number::Got(_, next) = a else {
-            return a;
-        };
+        let (_, next) = list(part, here, e, strings, pools, first, last)?;
         here = next;
         rest -= 1;
     }
-    Number::Got(0, here)
+    Ok((0, here))
 }
 
 // n arrays of numbers of a fixed width, from the chunk's start on: none of their elements needs a look.
-fn fixed_lists(part: &[u8], n: u64, width: u64) -> Number
+fn fixed_lists(part: &[u8], n: u64, width: u64) -> Outcome<u64>
     requires { 0 < width }
     ensures { Passed (repeat n (counted (fixed width))) part.now 0 result }
 {
     let mut here = Cursor { at: 0 };
     let mut rest = n;
     while 0 < rest {
-        let length = here.small(part);
-        let Number::Got(m, begin) = length else {
-            return length;
-        };
-        let a = fixed_widths(part, begin, m, width);
-        let Number::Got(_, next) = a else {
-            return a;
-        };
+        let (m, begin) = here.small(part)?;
+        let (_, next) = fixed_widths(part, begin, m, width)?;
         here = next;
         rest -= 1;
     }
-    Number::Got(0, here)
+    Ok((0, here))
 }
 
 // n arrays of bools.
-fn bool_lists(part: &[u8], n: u64) -> Number
+fn bool_lists(part: &[u8], n: u64) -> Outcome<u64>
     ensures { Passed (repeat n (counted (must (fixed 1) bool_rules))) part.now 0 result }
 {
     let mut here = Cursor { at: 0 };
     let mut rest = n;
     while 0 < rest {
-        let length = here.small(part);
-        let Number::Got(m, begin) = length else {
-            return length;
-        };
-        let a = bools(part, begin, m);
-        let Number::Got(_, next) = a else {
-            return a;
-        };
+        let (m, begin) = here.small(part)?;
+        let (_, next) = bools(part, begin, m)?;
         here = next;
         rest -= 1;
     }
-    Number::Got(0, here)
+    Ok((0, here))
 }
 
 // n arrays of v64 numbers.
-fn v64_lists(part: &[u8], n: u64) -> Number
+fn v64_lists(part: &[u8], n: u64) -> Outcome<u64>
     ensures { Passed (repeat n (counted v64)) part.now 0 result }
 {
     let mut here = Cursor { at: 0 };
     let mut rest = n;
     while 0 < rest {
-        let length = here.small(part);
-        let Number::Got(m, begin) = length else {
-            return length;
-        };
-        let a = v64s(part, begin, m);
-        let Number::Got(_, next) = a else {
-            return a;
-        };
+        let (m, begin) = here.small(part)?;
+        let (_, next) = v64s(part, begin, m)?;
         here = next;
         rest -= 1;
     }
-    Number::Got(0, here)
+    Ok((0, here))
 }
 
 // n arrays of numbers of strings.
-fn string_lists(part: &[u8], n: u64, strings: u64) -> Number
+fn string_lists(part: &[u8], n: u64, strings: u64) -> Outcome<u64>
     ensures { Passed (repeat n (counted (linked (at_most strings)))) part.now 0 result }
 {
     let mut here = Cursor { at: 0 };
     let mut rest = n;
     while 0 < rest {
-        let length = here.small(part);
-        let Number::Got(m, begin) = length else {
-            return length;
-        };
-        let a = strings_in_turn(part, begin, m, strings);
-        let Number::Got(_, next) = a else {
-            return a;
-        };
+        let (m, begin) = here.small(part)?;
+        let (_, next) = strings_in_turn(part, begin, m, strings)?;
         here = next;
         rest -= 1;
     }
-    Number::Got(0, here)
+    Ok((0, here))
 }
 
 // n arrays of references.
-fn reference_lists(part: &[u8], n: u64, guide: &[u32], first: &[u32], last: &[u32]) -> Number
+fn reference_lists(part: &[u8], n: u64, guide: &[u32], first: &[u32], last: &[u32]) -> Outcome<u64>
     requires { length first.now ≡ length last.now }
     ensures { Passed (repeat n (counted (linked (some_object first.now last.now)))) part.now 0 result }
 {
     let mut here = Cursor { at: 0 };
     let mut rest = n;
     while 0 < rest {
-        let length = here.small(part);
-        let Number::Got(m, begin) = length else {
-            return length;
-        };
-        let a = guided_references(part, begin, m, guide, first, last);
-        let Number::Got(_, next) = a else {
-            return a;
-        };
+        let (m, begin) = here.small(part)?;
+        let (_, next) = guided_references(part, begin, m, guide, first, last)?;
         here = next;
         rest -= 1;
     }
-    Number::Got(0, here)
+    Ok((0, here))
 }
 
 // n arrays that give their own lengths. The elements' kind is asked once, and not for each array: most have few elements.
@@ -216,7 +180,7 @@ fn lists_of(
     pools: &[u32],
     first: &[u32],
     last: &[u32],
-) -> Number
+) -> Outcome<u64>
     requires { (element_kind? e ≡ true) × (length first.now ≡ length last.now) }
     ensures { Passed (repeat n (list_of strings pools.now first.now last.now e)) part.now 0 result }
 {
@@ -242,7 +206,7 @@ pub fn chunk_values(
     pools: &[u32],
     first: &[u32],
     last: &[u32],
-) -> Number
+) -> Outcome<u64>
     requires { Kinds k a e × (4 < k) × (k ≢ 20) × (length first.now ≡ length last.now) }
     ensures { ChunkChecked n k a e strings pools.now first.now last.now part.now result }
 {

@@ -9,7 +9,7 @@ ghost use Rattle.values.specs.Filling.{Filled};
 ghost use Rattle.values.specs.Rows.{Fitting, On, IsV64, IsLink};
 
 use crate::runs::number_up_to;
-use numbers::{Cursor, Number, Refusal, refused, sign};
+use numbers::{Cursor, Outcome, sign};
 
 // A value of a plain kind.
 #[derive(Clone, Copy)]
@@ -20,13 +20,6 @@ pub enum Value {
     Float(u64, u64),
     // The number of a string or of an object, or 0.
     Object(u64),
-}
-
-// A value with the cursor behind it, or the refusal.
-#[derive(Clone, Copy)]
-pub enum Valued {
-    Got(Value, Cursor),
-    No(Refusal),
 }
 
 // The number that a column stores of a value.
@@ -49,15 +42,15 @@ pub fn store(v: Value) -> i64
 }
 
 // The number that stands for a value of kind k. A file has fewer strings and objects than 2^63, so a column can store theirs.
-fn number_of(part: &[u8], c: Cursor, k: u64) -> Number
+fn number_of(part: &[u8], c: Cursor, k: u64) -> Outcome<u64>
     requires { single_kind? k ≡ true }
     ensures { Read (bare k) (bound_of k) part.now c.at result }
 {
     match k {
-        6..=7 => c.be1(part),
-        8 => c.be2(part),
-        9 | 12 => c.be4(part),
-        10 | 13 => c.be8(part),
+        6..=7 => c.be::<1>(part),
+        8 => c.be::<2>(part),
+        9 | 12 => c.be::<4>(part),
+        10 | 13 => c.be::<8>(part),
         11 => c.v64(part),
         _ => number_up_to(part, c, 9223372036854775807),
     }
@@ -69,10 +62,10 @@ fn whole(n: u64, k: u64) -> i64
     ensures { result ≡ whole_made k n }
 {
     match k {
-        7 => sign::signed1(n),
-        8 => sign::signed2(n),
-        9 => sign::signed4(n),
-        _ => sign::signed8(n),
+        7 => sign::signed::<1>(n),
+        8 => sign::signed::<2>(n),
+        9 => sign::signed::<4>(n),
+        _ => sign::signed::<8>(n),
     }
 }
 
@@ -91,15 +84,12 @@ pub fn value_of(n: u64, k: u64) -> Value
 }
 
 // A value of kind k, of which it is known that it keeps the rules.
-pub fn read_value(part: &[u8], c: Cursor, k: u64) -> Valued
+pub fn read_value(part: &[u8], c: Cursor, k: u64) -> Outcome<Value>
     requires { single_kind? k ≡ true }
     ensures { ValueRead k part.now c.at result }
 {
-    let a = number_of(part, c, k);
-    let Number::Got(n, next) = a else {
-        return Valued::No(refused(a));
-    };
-    Valued::Got(value_of(n, k), next)
+    let (n, next) = number_of(part, c, k)?;
+    Ok((value_of(n, k), next))
 }
 
 // How many of n values there is room for.
@@ -123,7 +113,7 @@ fn fill_flags(part: &[u8], out: &mut [i64], at: usize) -> usize
     let mut p = at;
     let mut from = Cursor { at: 0 };
     while p < end {
-        let a = from.take1(part);
+        let a = from.take::<1>(part);
         out[p] = store(Value::Flag(a.number == 255));
         p += 1;
         from = a.next;
@@ -140,8 +130,8 @@ fn fill_i8s(part: &[u8], out: &mut [i64], at: usize) -> usize
     let mut p = at;
     let mut from = Cursor { at: 0 };
     while p < end {
-        let a = from.take1(part);
-        out[p] = store(Value::Whole(sign::signed1(a.number)));
+        let a = from.take::<1>(part);
+        out[p] = store(Value::Whole(sign::signed::<1>(a.number)));
         p += 1;
         from = a.next;
     }
@@ -157,8 +147,8 @@ fn fill_i16s(part: &[u8], out: &mut [i64], at: usize) -> usize
     let mut p = at;
     let mut from = Cursor { at: 0 };
     while p < end {
-        let a = from.take2(part);
-        out[p] = store(Value::Whole(sign::signed2(a.number)));
+        let a = from.take::<2>(part);
+        out[p] = store(Value::Whole(sign::signed::<2>(a.number)));
         p += 1;
         from = a.next;
     }
@@ -174,8 +164,8 @@ fn fill_i32s(part: &[u8], out: &mut [i64], at: usize) -> usize
     let mut p = at;
     let mut from = Cursor { at: 0 };
     while p < end {
-        let a = from.take4(part);
-        out[p] = store(Value::Whole(sign::signed4(a.number)));
+        let a = from.take::<4>(part);
+        out[p] = store(Value::Whole(sign::signed::<4>(a.number)));
         p += 1;
         from = a.next;
     }
@@ -191,8 +181,8 @@ fn fill_i64s(part: &[u8], out: &mut [i64], at: usize) -> usize
     let mut p = at;
     let mut from = Cursor { at: 0 };
     while p < end {
-        let a = from.take8(part);
-        out[p] = store(Value::Whole(sign::signed8(a.number)));
+        let a = from.take::<8>(part);
+        out[p] = store(Value::Whole(sign::signed::<8>(a.number)));
         p += 1;
         from = a.next;
     }
@@ -208,7 +198,7 @@ fn fill_f32s(part: &[u8], out: &mut [i64], at: usize) -> usize
     let mut p = at;
     let mut from = Cursor { at: 0 };
     while p < end {
-        let a = from.take4(part);
+        let a = from.take::<4>(part);
         out[p] = store(Value::Float(4, a.number));
         p += 1;
         from = a.next;
@@ -225,7 +215,7 @@ fn fill_f64s(part: &[u8], out: &mut [i64], at: usize) -> usize
     let mut p = at;
     let mut from = Cursor { at: 0 };
     while p < end {
-        let a = from.take8(part);
+        let a = from.take::<8>(part);
         out[p] = store(Value::Float(8, a.number));
         p += 1;
         from = a.next;
@@ -243,7 +233,7 @@ fn v64s_there(part: &[u8], c: Cursor, out: &mut [i64], p: usize, n: usize) -> Cu
     let mut here = c;
     while i < n {
         let a = here.take_v64(part);
-        out[p + i] = store(Value::Whole(sign::signed8(a.number)));
+        out[p + i] = store(Value::Whole(sign::signed::<8>(a.number)));
         i += 1;
         here = a.next;
     }
@@ -259,7 +249,7 @@ fn long_v64s_there(part: &[u8], c: Cursor, out: &mut [i64], p: usize, n: usize) 
     let mut here = c;
     while i < n {
         let a = here.take_long_v64(part);
-        out[p + i] = store(Value::Whole(sign::signed8(a.number)));
+        out[p + i] = store(Value::Whole(sign::signed::<8>(a.number)));
         i += 1;
         here = a.next;
     }
@@ -298,11 +288,10 @@ fn fill_v64s(part: &[u8], out: &mut [i64], at: usize) -> usize
             p += n;
             from = next;
         } else {
-            let a = from.v64(part);
-            let Number::Got(x, next) = a else {
+            let Ok((x, next)) = from.v64(part) else {
                 return p;
             };
-            out[p] = store(Value::Whole(sign::signed8(x)));
+            out[p] = store(Value::Whole(sign::signed::<8>(x)));
             p += 1;
             from = next;
         }
@@ -342,8 +331,7 @@ fn fill_objects(part: &[u8], out: &mut [i64], at: usize) -> usize
             from = objects_there(part, from, out, p, n);
             p += n;
         } else {
-            let a = number_up_to(part, from, 9223372036854775807);
-            let Number::Got(x, next) = a else {
+            let Ok((x, next)) = number_up_to(part, from, 9223372036854775807) else {
                 return p;
             };
             out[p] = store(Value::Object(x));

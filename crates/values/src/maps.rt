@@ -15,7 +15,7 @@ ghost use Rattle.values.specs.Quick.{FAR, Within, Any, Numbered, Stands, Quick, 
 use crate::annotations::annotations;
 use crate::references::references;
 use crate::runs::{bools, number_up_to};
-use numbers::{Cursor, Number, Step};
+use numbers::{Cursor, Outcome};
 
 // 256 to the power of so many less one: what the first of so many bytes counts.
 fn first_unit(types: u64) -> u64
@@ -83,7 +83,7 @@ fn linked_element(
     starts: &[u32],
     first: &[u32],
     last: &[u32],
-) -> Number
+) -> Outcome<u64>
     requires { (32 ≤ k) × Grouped starts.now first.now last.now }
     ensures { (strings : ℕ) (pools : List ℕ) → Passed (item_in strings pools starts.now first.now last.now k) part.now c.at result }
 {
@@ -103,17 +103,17 @@ fn element(
     starts: &[u32],
     first: &[u32],
     last: &[u32],
-) -> Number
+) -> Outcome<u64>
     requires { (element_kind? k ≡ true) × (c.at ≤ length part.now) × Grouped starts.now first.now last.now }
     ensures { Passed (item_in strings pools.now starts.now first.now last.now k) part.now c.at result }
 {
     match k {
         5 => annotations(part, c, 1, pools),
         6 => bools(part, c, 1),
-        7 => c.be1(part),
-        8 => c.be2(part),
-        9 | 12 => c.be4(part),
-        10 | 13 => c.be8(part),
+        7 => c.be::<1>(part),
+        8 => c.be::<2>(part),
+        9 | 12 => c.be::<4>(part),
+        10 | 13 => c.be::<8>(part),
         11 => c.v64(part),
         14 => number_up_to(part, c, strings),
         _ => linked_element(part, c, k, starts, first, last),
@@ -152,8 +152,7 @@ fn any_behind(part: &[u8], at: usize) -> usize
     ensures { result < FAR → Any part.now at result }
 {
     let c = Cursor { at };
-    let a = c.past_v64(part);
-    let Step::Got(next) = a else {
+    let Ok(next) = c.past_v64(part) else {
         return 18446744073709551615;
     };
     next.at
@@ -167,8 +166,7 @@ fn long_behind(part: &[u8], at: usize, low: u64, high: u64) -> usize
         return any_behind(part, at);
     }
     let c = Cursor { at };
-    let a = c.v64(part);
-    let Number::Got(n, next) = a else {
+    let Ok((n, next)) = c.v64(part) else {
         return 18446744073709551615;
     };
     held(n, next.at, low, high)
@@ -332,35 +330,29 @@ fn map(
     starts: &[u32],
     first: &[u32],
     last: &[u32],
-) -> Number
+) -> Outcome<u64>
     requires in_bounds { (2 ≤ length kinds.now) × (all element_kind? kinds.now ≡ true) }
     requires at_in_bounds { (c.at ≤ length part.now) × Grouped starts.now first.now last.now }
     ensures { Passed (map_in strings pools.now starts.now first.now last.now kinds.now) part.now c.at result }
 {
-    let size = c.small(part);
-    let Number::Got(n, begin) = size else {
-        return size;
-    };
+    let (n, begin) = c.small(part)?;
     // The last two types have most of the elements.
     if kinds.len() < 3 {
         let key = bounds_of(kinds[0], strings, starts, first, last);
         let value = bounds_of(kinds[1], strings, starts, first, last);
         let end = pairs_behind(part, begin.at, n, key, value);
         if end <= part.len() {
-            return Number::Got(0, Cursor { at: end });
+            return Ok((0, Cursor { at: end }));
         }
     }
     let mut here = begin;
     let mut rest = n;
     while 0 < rest {
-        let a = key_and_rest(part, here, kinds, strings, pools, starts, first, last);
-        let Number::Got(_, next) = a else {
-            return a;
-        };
+        let (_, next) = key_and_rest(part, here, kinds, strings, pools, starts, first, last)?;
         here = next;
         rest -= 1;
     }
-    Number::Got(0, here)
+    Ok((0, here))
 }
 
 // A key of the first kind, and what it leads to: a map of the other types or, if only one is left, an element of it.
@@ -374,7 +366,7 @@ fn key_and_rest(
     starts: &[u32],
     first: &[u32],
     last: &[u32],
-) -> Number
+) -> Outcome<u64>
     requires in_bounds { (2 ≤ length kinds.now) × (all element_kind? kinds.now ≡ true) }
     requires at_in_bounds { (c.at ≤ length part.now) × Grouped starts.now first.now last.now }
     ensures { Passed (key_in strings pools.now starts.now first.now last.now kinds.now) part.now c.at result }
@@ -386,10 +378,7 @@ fn key_and_rest(
             return map(part, rest, &kinds[1..], strings, pools, starts, first, last);
         }
     }
-    let a = element(part, c, kinds[0], strings, pools, starts, first, last);
-    let Number::Got(_, next) = a else {
-        return a;
-    };
+    let (_, next) = element(part, c, kinds[0], strings, pools, starts, first, last)?;
     if kinds.len() == 2 {
         return element(part, next, kinds[1], strings, pools, starts, first, last);
     }
@@ -406,19 +395,16 @@ pub fn maps(
     starts: &[u32],
     first: &[u32],
     last: &[u32],
-) -> Number
+) -> Outcome<u64>
     requires { (2 ≤ length kinds.now) × (all element_kind? kinds.now ≡ true) × Grouped starts.now first.now last.now }
     ensures { MapsChecked n strings pools.now starts.now first.now last.now kinds.now part.now result }
 {
     let mut here = Cursor { at: 0 };
     let mut rest = n;
     while 0 < rest {
-        let a = map(part, here, kinds, strings, pools, starts, first, last);
-        let Number::Got(_, next) = a else {
-            return a;
-        };
+        let (_, next) = map(part, here, kinds, strings, pools, starts, first, last)?;
         here = next;
         rest -= 1;
     }
-    Number::Got(0, here)
+    Ok((0, here))
 }

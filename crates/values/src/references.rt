@@ -6,7 +6,7 @@ ghost use Rattle.values.specs.Items.{in_range, linked, some_object};
 ghost use Rattle.values.specs.RangeLaws.{Placed};
 
 use crate::guides::{bits_of, guess};
-use numbers::{Cursor, Number, Refusal};
+use numbers::{Cursor, Fault, Outcome, Refusal};
 use std::num;
 
 // An end of a range in the width of the numbers that are held against it. Said once, it spares each load a fact.
@@ -82,42 +82,36 @@ fn range_of(first: &[u32], last: &[u32], n: u64) -> usize
 }
 
 // The number of an object, or 0.
-fn reference(part: &[u8], c: Cursor, first: &[u32], last: &[u32]) -> Number
+fn reference(part: &[u8], c: Cursor, first: &[u32], last: &[u32]) -> Outcome<u64>
     requires { length first.now ≡ length last.now }
     ensures { Passed (linked (some_object first.now last.now)) part.now c.at result }
 {
-    let a = c.v64(part);
-    let Number::Got(n, next) = a else {
-        return a;
-    };
+    let (n, next) = c.v64(part)?;
     if n == 0 {
-        return Number::Got(n, next);
+        return Ok((n, next));
     }
     if first.len() <= range_of(first, last, n) {
-        return Number::No(Refusal {
-            number: 14,
+        return Err(Refusal {
+            fault: Fault::Reference,
             place: c.at,
         });
     }
-    Number::Got(n, next)
+    Ok((n, next))
 }
 
 // m numbers of objects.
-pub fn references(part: &[u8], c: Cursor, m: u64, first: &[u32], last: &[u32]) -> Number
+pub fn references(part: &[u8], c: Cursor, m: u64, first: &[u32], last: &[u32]) -> Outcome<u64>
     requires { length first.now ≡ length last.now }
     ensures { Passed (repeat m (linked (some_object first.now last.now))) part.now c.at result }
 {
     let mut here = c;
     let mut rest = m;
     while 0 < rest {
-        let a = reference(part, here, first, last);
-        let Number::Got(_, next) = a else {
-            return a;
-        };
+        let (_, next) = reference(part, here, first, last)?;
         here = next;
         rest -= 1;
     }
-    Number::Got(0, here)
+    Ok((0, here))
 }
 
 // The same as `range_of`, with a look at the range that a guide names before it.
@@ -150,24 +144,21 @@ fn guided_reference(
     bits: u32,
     first: &[u32],
     last: &[u32],
-) -> Number
+) -> Outcome<u64>
     requires { (bits < 64) × (length first.now ≡ length last.now) }
     ensures { Passed (linked (some_object first.now last.now)) part.now c.at result }
 {
-    let a = c.v64(part);
-    let Number::Got(n, next) = a else {
-        return a;
-    };
+    let (n, next) = c.v64(part)?;
     if n == 0 {
-        return Number::Got(n, next);
+        return Ok((n, next));
     }
     if first.len() <= guided_range(guide, bits, first, last, n) {
-        return Number::No(Refusal {
-            number: 14,
+        return Err(Refusal {
+            fault: Fault::Reference,
             place: c.at,
         });
     }
-    Number::Got(n, next)
+    Ok((n, next))
 }
 
 // The same as `references`, with a guide.
@@ -178,7 +169,7 @@ pub fn guided_references(
     guide: &[u32],
     first: &[u32],
     last: &[u32],
-) -> Number
+) -> Outcome<u64>
     requires { length first.now ≡ length last.now }
     ensures { Passed (repeat m (linked (some_object first.now last.now))) part.now c.at result }
 {
@@ -186,12 +177,9 @@ pub fn guided_references(
     let mut here = c;
     let mut rest = m;
     while 0 < rest {
-        let a = guided_reference(part, here, guide, bits, first, last);
-        let Number::Got(_, next) = a else {
-            return a;
-        };
+        let (_, next) = guided_reference(part, here, guide, bits, first, last)?;
         here = next;
         rest -= 1;
     }
-    Number::Got(0, here)
+    Ok((0, here))
 }

@@ -12,7 +12,7 @@ ghost use Rattle.values.specs.Held.{Bools};
 ghost use Rattle.values.specs.Overs.{Looks, RanTo};
 ghost use Rattle.values.specs.Ups.{Up, Surely};
 
-use numbers::{Cursor, Number, Refusal, Run, Step, Taken, refused_step};
+use numbers::{Cursor, Fault, Outcome, Refusal, Run, Taken};
 
 // Whether all bytes from `at` up to `end` are 00 or FF. There is no way out of the loop before its end, so that the compiler looks at many
 // bytes at once.
@@ -35,7 +35,7 @@ fn are_bools(part: &[u8], at: usize, end: usize) -> bool
 }
 
 // m bools, each of which is 00 or FF. Only where one is neither, or they are not all there, each is looked at by itself.
-pub fn bools(part: &[u8], c: Cursor, m: u64) -> Number
+pub fn bools(part: &[u8], c: Cursor, m: u64) -> Outcome<u64>
     ensures { Passed (repeat m (must (fixed 1) bool_rules)) part.now c.at result }
 {
     let at = c.at;
@@ -44,7 +44,7 @@ pub fn bools(part: &[u8], c: Cursor, m: u64) -> Number
         if m <= room {
             let end = at + (m as usize);
             if are_bools(part, at, end) {
-                return Number::Got(0, Cursor { at: end });
+                return Ok((0, Cursor { at: end }));
             }
         }
     }
@@ -52,20 +52,17 @@ pub fn bools(part: &[u8], c: Cursor, m: u64) -> Number
 }
 
 // The same, bool by bool, up to the first that is refused.
-fn bools_in_turn(part: &[u8], c: Cursor, m: u64) -> Number
+fn bools_in_turn(part: &[u8], c: Cursor, m: u64) -> Outcome<u64>
     ensures { Passed (repeat m (must (fixed 1) bool_rules)) part.now c.at result }
 {
     let mut here = c;
     let mut rest = m;
     while 0 < rest {
-        let a = here.be1(part);
-        let Number::Got(b, next) = a else {
-            return a;
-        };
+        let (b, next) = here.be::<1>(part)?;
         if b != 0 {
             if b != 255 {
-                return Number::No(Refusal {
-                    number: 13,
+                return Err(Refusal {
+                    fault: Fault::Value,
                     place: here.at,
                 });
             }
@@ -73,11 +70,11 @@ fn bools_in_turn(part: &[u8], c: Cursor, m: u64) -> Number
         here = next;
         rest -= 1;
     }
-    Number::Got(0, here)
+    Ok((0, here))
 }
 
 // m numbers of a fixed width, which are there or not: none of them needs a look.
-pub fn fixed_widths(part: &[u8], c: Cursor, m: u64, width: u64) -> Number
+pub fn fixed_widths(part: &[u8], c: Cursor, m: u64, width: u64) -> Outcome<u64>
     requires { (0 < width) × (c.at ≤ length part.now) }
     ensures { Passed (repeat m (fixed width)) part.now c.at result }
 {
@@ -86,16 +83,16 @@ pub fn fixed_widths(part: &[u8], c: Cursor, m: u64, width: u64) -> Number
     let whole = room / width;
     if m <= whole {
         let over = m * width;
-        return Number::Got(
+        return Ok((
             0,
             Cursor {
                 at: at + (over as usize),
             },
-        );
+        ));
     }
     let over = whole * width;
-    Number::No(Refusal {
-        number: 1,
+    Err(Refusal {
+        fault: Fault::Short,
         place: at + (over as usize),
     })
 }
@@ -134,7 +131,7 @@ fn v64s_there(part: &[u8], c: Cursor, n: u64) -> Run
 }
 
 // m numbers of one byte or more: as many as are surely there are passed over at once, again and again, and then the last few.
-pub fn v64s(part: &[u8], c: Cursor, m: u64) -> Number
+pub fn v64s(part: &[u8], c: Cursor, m: u64) -> Outcome<u64>
     ensures { Passed (repeat m v64) part.now c.at result }
 {
     // An array has few, and no look is worth its while.
@@ -154,14 +151,14 @@ pub fn v64s(part: &[u8], c: Cursor, m: u64) -> Number
 }
 
 // Few numbers. A v64 has nine bytes at most, so where nine are left for each they are all there, and no step asks.
-fn few_v64s(part: &[u8], c: Cursor, m: u64) -> Number
+fn few_v64s(part: &[u8], c: Cursor, m: u64) -> Outcome<u64>
     ensures { Passed (repeat m v64) part.now c.at result }
 {
     let at = c.at;
     if at <= part.len() {
         let room = ((part.len() - at) / 9) as u64;
         if m <= room {
-            return Number::Got(0, each_v64(part, c, m));
+            return Ok((0, each_v64(part, c, m)));
         }
     }
     v64s_in_turn(part, c, m)
@@ -181,37 +178,30 @@ fn each_v64(part: &[u8], c: Cursor, m: u64) -> Cursor
 }
 
 // The same, number by number, up to the first that is refused.
-fn v64s_in_turn(part: &[u8], c: Cursor, m: u64) -> Number
+fn v64s_in_turn(part: &[u8], c: Cursor, m: u64) -> Outcome<u64>
     ensures { Passed (repeat m v64) part.now c.at result }
 {
     let mut here = c;
     let mut rest = m;
     while 0 < rest {
-        let a = here.past_v64(part);
-        let Step::Got(next) = a else {
-            return Number::No(refused_step(a));
-        };
-        here = next;
+        here = here.past_v64(part)?;
         rest -= 1;
     }
-    Number::Got(0, here)
+    Ok((0, here))
 }
 
 // A v64 that is at most `most`, as the number of one of so many strings is, or 0.
-pub fn number_up_to(part: &[u8], c: Cursor, most: u64) -> Number
+pub fn number_up_to(part: &[u8], c: Cursor, most: u64) -> Outcome<u64>
     ensures { Read (linked (at_most most)) (most + 1) part.now c.at result }
 {
-    let a = c.v64(part);
-    let Number::Got(n, next) = a else {
-        return a;
-    };
+    let (n, next) = c.v64(part)?;
     if most < n {
-        return Number::No(Refusal {
-            number: 14,
+        return Err(Refusal {
+            fault: Fault::Reference,
             place: c.at,
         });
     }
-    Number::Got(n, next)
+    Ok((n, next))
 }
 
 fn larger(a: u64, b: u64) -> u64
@@ -259,7 +249,7 @@ fn surely(part: &[u8], at: usize, rest: u64) -> u64
 
 // m numbers of strings. Of those that are surely there only the largest is held against the bound, and they are looked at one by one where it
 // is past it.
-pub fn string_numbers(part: &[u8], c: Cursor, m: u64, strings: u64) -> Number
+pub fn string_numbers(part: &[u8], c: Cursor, m: u64, strings: u64) -> Outcome<u64>
     ensures { Passed (repeat m (linked (at_most strings))) part.now c.at result }
 {
     let mut here = c;
@@ -278,18 +268,15 @@ pub fn string_numbers(part: &[u8], c: Cursor, m: u64, strings: u64) -> Number
 }
 
 // The same, number by number, up to the first that is refused.
-pub fn strings_in_turn(part: &[u8], c: Cursor, m: u64, strings: u64) -> Number
+pub fn strings_in_turn(part: &[u8], c: Cursor, m: u64, strings: u64) -> Outcome<u64>
     ensures { Passed (repeat m (linked (at_most strings))) part.now c.at result }
 {
     let mut here = c;
     let mut rest = m;
     while 0 < rest {
-        let a = number_up_to(part, here, strings);
-        let Number::Got(_, next) = a else {
-            return a;
-        };
+        let (_, next) = number_up_to(part, here, strings)?;
         here = next;
         rest -= 1;
     }
-    Number::Got(0, here)
+    Ok((0, here))
 }

@@ -1,7 +1,7 @@
 -- A whole file, read into a table that knew nothing: what the table then says. Assumes nothing.
 use Rattle.std.proofs.Math.Path.{◌≡◌, refl, sym, ap, subst}
 use Rattle.std.proofs.Common.{◌∙◌, le-leb}
-use Rattle.std.specs.Prelude.{List, [], ◌∷◌, ℕ, suc, ◌≤◌, ◌<◌, length, get_or}
+use Rattle.std.specs.Prelude.{Err, Ok, List, [], ◌∷◌, ℕ, suc, ◌≤◌, ◌<◌, length, get_or}
 use native.Mathlib.Omega.{arith}
 use Rattle.std.proofs.lemmas.Bool.{lt-leb}
 use Rattle.paper.specs.Reader.{when◌then◌else◌, Out, got, no, turned}
@@ -20,8 +20,9 @@ use Rattle.lookups.specs.Low.{Low}
 use Rattle.walk.specs.Listed.{Listed}
 use Rattle.walk.specs.PairLaws.{Steady, out_said}
 use Rattle.walk.specs.PairTurns.{WalkReady, WalkDone}
-use Rattle.numbers.specs.declared.Step.{Step}
-use Rattle.numbers.specs.declared.Step.TheVariants.{Got, No}
+use Rattle.numbers.specs.Cursors.{Step}
+use Rattle.numbers.specs.Faults.{number_of}
+use Rattle.numbers.specs.declared.Fault.TheVariants as fault
 
 -- ── what reading a file comes to ──
 
@@ -33,15 +34,15 @@ pub record Accepted (f l : List ℕ) (at : ℕ) : Type 0 where
   pub says : said f l ≡ record { state = known ledger; due = []; chunks = spots f }
 
 abbrev pub ToldFile : List ℕ → List ℕ → Step → Type 0
-ToldFile f l (Got c) = Accepted f l c.at
-ToldFile f l (No e) = file f ≡ no e.number e.place
+ToldFile f l (Ok c) = Accepted f l c.at
+ToldFile f l (Err e) = file f ≡ no (number_of e.fault) e.place
 
 pub record FileRead (f l : List ℕ) (r : Step) : Type 0 where
   pub told : ToldFile f l r
 
 -- ── a file that is too long ──
 
-pub file-long : {f l : List ℕ} → 1048576 < length f → FileRead f l (No (record { number = 3; place = 0 }))
+pub file-long : {f l : List ℕ} → 1048576 < length f → FileRead f l (Err (record { fault = fault.Limit; place = 0 }))
 unfolding file when◌then◌else◌
 file-long {f} lt = record { told = rw (lt-leb (length f) most_bytes lt) }
 
@@ -89,7 +90,7 @@ module _ (f : List ℕ) {l : List ℕ} (le : length f ≤ 1048576) (B : Begun l)
   file-read {l'} {r} D = record { told = go r (file f) refl (D.says ∙ sym file-is) D.steady }
     where
       go : (r : Step) (o : Out Ledger) → file f ≡ o → out_said f l' r ≡ turned (said_of 32 begun f 0) o → Rattle.walk.specs.PairLaws.SteadyAfter f l' r → ToldFile f l' r
-      go (Got c) (got ledger e) is q s = let z : c.at ≡ e = cc q in record { ledger = ledger; read = is ∙ ap (got ledger) (sym z); steady = s.0; says = cc q }
-      go (Got c) (no k p) is q s = let z : ◌≡◌ {A = ℕ} 0 1 = cc q in absurd (omega arith)
-      go (No e) (got ledger m) is q s = let z : ◌≡◌ {A = ℕ} 0 1 = cc q in absurd (omega arith)
-      go (No e) (no k p) is q s = is ∙ cc (sym q)
+      go (Ok c) (got ledger e) is q s = let z : c.at ≡ e = cc q in record { ledger = ledger; read = is ∙ ap (got ledger) (sym z); steady = s.0; says = cc q }
+      go (Ok c) (no k p) is q s = let z : ◌≡◌ {A = ℕ} 0 1 = cc q in absurd (omega arith)
+      go (Err e) (got ledger m) is q s = let z : ◌≡◌ {A = ℕ} 0 1 = cc q in absurd (omega arith)
+      go (Err e) (no k p) is q s = is ∙ cc (sym q)

@@ -1,5 +1,5 @@
 -- A kind that names no type: the table is cut back to where the pair began, and the front is read again. Assumes nothing.
-use Rattle.std.specs.Prelude.{◌≡◌, Bool, ◌||◌, length, take}
+use Rattle.std.specs.Prelude.{Err, Ok, ◌≡◌, Bool, ◌||◌, length, take}
 use Rattle.std.proofs.Math.Path.{sym, ap, subst}
 use Rattle.std.proofs.Common.{◌∙◌, arith, length-append}
 use Rattle.std.proofs.Math.Bool.{true}
@@ -14,8 +14,6 @@ use Rattle.laws.specs.Longer.{Begins}
 use Rattle.laws.specs.Columns.{Grows, pair-grows}
 use Rattle.numbers.specs.declared.Cursor.{Cursor}
 use Rattle.numbers.specs.declared.Refusal.{Refusal}
-use Rattle.numbers.specs.declared.Number.{Number}
-use Rattle.numbers.specs.declared.Number.TheVariants as number
 use Rattle.table.specs.View.{chunks_of, view, said, Said, Holds, strings_in, types_in, fields_in, ranges_in, chunks_in}
 use Rattle.table.specs.Counts.{counts_in, cut_to, recounted, NotAbove, Cut}
 use Rattle.table.specs.declared.rows.Counts.{Counts}
@@ -27,8 +25,8 @@ use Rattle.reader.specs.EntryLaws.{Passed}
 use Rattle.walk.specs.Steps.{step_of}
 use Rattle.walk.specs.Blocks.{begins, front-block}
 use Rattle.walk.specs.PairLaws.{PairReady, Fronted, late_of, late-front, state-is, chunks-are}
-use Rattle.numbers.specs.declared.Step.{Step}
-use Rattle.numbers.specs.declared.Step.TheVariants.{No}
+use Rattle.numbers.specs.Cursors.{Outcome, Step}
+use Rattle.numbers.specs.declared.Fault.TheVariants as fault
 
 -- what it asks of the table l, which has rows of a front that was read, and had so many before
 pub record LateReady (f l : List ℕ) (before : Counts) (at : ℕ) : Type 0 where
@@ -45,7 +43,7 @@ module _ {f l : List ℕ} {before : Counts} {at : ℕ} (L : LateReady f l before
   pub late-begins : Holds f l₁ × Sound (said f l₁) × (at ≤ length f)
   late-begins = let now = cut.says f L.holds in (now.holds, rw now.says L.sound, L.inside)
 
-  module _ {types : ℕ} (count : types ≡ types_in l) {l₂ : List ℕ} {a : Number} (passed : Passed f l₂ at a (front_go (named_by true types) (said f l₁) f at)) where
+  module _ {types : ℕ} (count : types ≡ types_in l) {l₂ : List ℕ} {a : Outcome ℕ} (passed : Passed f l₂ at a (front_go (named_by true types) (said f l₁) f at)) where
     same-named : named_by true types ≡ a_type? (view f l)
     unfolding named_by a_type?
     same-named = λ i k. ltb k 32 || ltb (k - 32) ((count ∙ sym L.holds.names-count) i)
@@ -57,10 +55,10 @@ module _ {f l : List ℕ} {before : Counts} {at : ℕ} (L : LateReady f l before
         ∙ ap (λ (named : ℕ → Bool). refusal_of (front named (view f l₁) f at)) same-named
         ∙ ap (λ (u : Said). refusal_of (front (a_type? (view f l)) u.state f at)) (cut.says f L.holds).says
 
-    pub late-got : {x : ℕ} {c : Cursor} → a ≡ number.Got x c → LateDone f l before at (No (record { number = 10; place = c.at })) l₂
+    pub late-got : {x : ℕ} {c : Cursor} → a ≡ Ok (x, c) → LateDone f l before at (Err (record { fault = fault.Kind; place = c.at })) l₂
     late-got is = record { holds = passed.holds; says = rw is at late_is }
 
-    pub late-no : {e : Refusal} → a ≡ number.No e → LateDone f l before at (No e) l₂
+    pub late-no : {e : Refusal} → a ≡ Err e → LateDone f l before at (Err e) l₂
     late-no is = record { holds = passed.holds; says = rw is at late_is }
 
 -- ── cut back, the table says what it said ──

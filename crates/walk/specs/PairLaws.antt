@@ -1,7 +1,7 @@
 -- The ways out of reading a pair, on plain values. Assumes nothing.
 use Rattle.std.proofs.Math.Path.{◌≡◌, refl, sym, ap, subst}
 use Rattle.std.proofs.Common.{◌∙◌, arith, le-leb}
-use Rattle.std.specs.Prelude.{Bool, true, false, ℕ, ◌+◌, ◌≤◌, ◌<◌}
+use Rattle.std.specs.Prelude.{Err, Ok, Bool, true, false, ℕ, ◌+◌, ◌≤◌, ◌<◌}
 use mathlib.Core.List.{List, [], ◌∷◌, ◌++◌}
 use Rattle.std.proofs.Math.ListN.{length}
 use Rattle.std.proofs.lemmas.Bool.{lt-leb}
@@ -17,9 +17,7 @@ use Rattle.laws.specs.Exact.{front-says}
 use Rattle.laws.specs.Faithful as faithful
 use Rattle.numbers.specs.declared.Cursor.{Cursor}
 use Rattle.numbers.specs.declared.Refusal.{Refusal}
-use Rattle.numbers.specs.declared.Number.{Number}
-use Rattle.numbers.specs.declared.Number.TheVariants as number
-use Rattle.numbers.specs.Cursors.{refusal_of as refusal_of_number, out_step}
+use Rattle.numbers.specs.Cursors.{Step, Outcome, out_step}
 use Rattle.table.specs.View.{flds_of, log_of, dues_of, chunks_of, view, said, Said, Holds, fields_in, block_in}
 use Rattle.table.specs.Counts.{next_block, Next}
 use Rattle.values.specs.Pass.{forget}
@@ -40,8 +38,8 @@ use Rattle.walk.specs.Stand.{AllStand, new-fields-stand}
 use Rattle.walk.specs.Dues.{front-declared}
 use Rattle.walk.specs.RegionTurns.{RegionReady, RegionChecked, region-ends}
 use Rattle.walk.specs.Blocks.{block_of_range, Between, begins, front-block, front-past, bounded-by, closes}
-use Rattle.numbers.specs.declared.Step.{Step}
-use Rattle.numbers.specs.declared.Step.TheVariants.{Got, No}
+use Rattle.numbers.specs.Faults.{number_of}
+use Rattle.numbers.specs.declared.Fault.TheVariants as fault
 
 -- ── what a pair finds and leaves ──
 
@@ -65,8 +63,8 @@ abbrev pub out_said : List ℕ → List ℕ → Step → Out Said
 out_said f l r = out_step r (said f l)
 
 abbrev pub SteadyAfter : List ℕ → List ℕ → Step → Type 0
-SteadyAfter f l (Got c) = Steady f l × (c.at ≤ length f)
-SteadyAfter f l (No e) = Unit {0}
+SteadyAfter f l (Ok c) = Steady f l × (c.at ≤ length f)
+SteadyAfter f l (Err e) = Unit {0}
 
 pub record PairDone (f l l' : List ℕ) (at : ℕ) (r : Step) : Type 0 where
   pub holds : Holds f l'
@@ -95,20 +93,20 @@ module _ {f l : List ℕ} {at : ℕ} (R : PairReady f l at) where
   pub pair-begins : Holds f l × Sound (said f l) × (at ≤ length f)
   pair-begins = (R.steady.holds, begins R.steady.between R.block, R.inside)
 
-  module _ {l₁ : List ℕ} {a : Number} (passed : Passed f l₁ at a (front_go (named_by false 0) (said f l) f at)) where
-    pub pair-no-front : {e u : Refusal} → a ≡ number.No e → u ≡ refusal_of_number a → PairDone f l l₁ at (No u)
+  module _ {l₁ : List ℕ} {a : Outcome ℕ} (passed : Passed f l₁ at a (front_go (named_by false 0) (said f l) f at)) where
+    pub pair-no-front : {e : Refusal} → a ≡ Err e → PairDone f l l₁ at (Err e)
     unfolding front_go pair_to named_by
-    pair-no-front {e} is same =
+    pair-no-front {e} is =
         let P = rw is at passed in
-        rw (same ∙ ap refusal_of_number is) (record { holds = P.holds; says = go (front any_type (view f l) f at) P.says; steady = tt })
+        record { holds = P.holds; says = go (front any_type (view f l) f at) P.says; steady = tt }
       where
         go :
-            (o : Out Front) → no e.number e.place ≡ turned (go_front (said f l)) o
-            → no e.number e.place ≡ and_then o (λ d m. turned (λ (cs : List Chunk). said_after (said f l) d m) (within (last_or 0 d.ends) (faithful.region (view f l) at d) f m))
+            (o : Out Front) → no (number_of e.fault) e.place ≡ turned (go_front (said f l)) o
+            → no (number_of e.fault) e.place ≡ and_then o (λ d m. turned (λ (cs : List Chunk). said_after (said f l) d m) (within (last_or 0 d.ends) (faithful.region (view f l) at d) f m))
         go (got d m) q = let z : ◌≡◌ {A = ℕ} 0 1 = cc q in absurd (omega arith)
-        go (no k p) q = let z : no e.number e.place ≡ turned (go_front (said f l)) (no k p) = q in cc z
+        go (no k p) q = let z : no (number_of e.fault) e.place ≡ turned (go_front (said f l)) (no k p) = q in cc z
 
-    module _ {size : ℕ} {c : Cursor} (is : a ≡ number.Got size c) where
+    module _ {size : ℕ} {c : Cursor} (is : a ≡ Ok (size, c)) where
       pub fronted : Fronted f l l₁ at size c.at
       unfolding front_go named_by
       fronted = let P = rw is at passed in go (front any_type (view f l) f at) refl P.says
@@ -163,7 +161,7 @@ module _ {f l l₁ : List ℕ} {at size m : ℕ} (R : PairReady f l at) (F : Fro
   pair_is = rw F.is
 
   -- the data region does not end within the file
-  pub pair-short : length f < m + size → PairDone f l l₁ at (No (record { number = 1; place = m }))
+  pub pair-short : length f < m + size → PairDone f l l₁ at (Err (record { fault = fault.Short; place = m }))
   unfolding within when◌then◌else◌
   pair-short lt = record { holds = h₁; says = sym (pair_is ∙ rw (lt-leb (m + last_or 0 d.ends) (length f) (omega (arith, size_is)))); steady = tt }
 
@@ -188,9 +186,9 @@ module _ {f l l₁ : List ℕ} {at size m : ℕ} (R : PairReady f l at) (F : Fro
             (r : Step) (o : Out Front) → step_of r ≡ refusal_of o
             → pair_to (said f l) f at ≡ turned (λ (cs : List Chunk). said_after (said f l) d m) (and_then (refusal_of o) (λ u e. data_region s₂ (dues (with_strings s d.strings) d.entries) d.ends f e))
             → PairDone f l l₂ at r
-        go (Got c) o q is = not_late o q
-        go (No e) (got d₂ p) q is = record { holds = h₂; says = cc q ∙ sym is; steady = tt }
-        go (No e) (no k p) q is = record { holds = h₂; says = cc q ∙ sym is; steady = tt }
+        go (Ok c) o q is = not_late o q
+        go (Err e) (got d₂ p) q is = record { holds = h₂; says = cc q ∙ sym is; steady = tt }
+        go (Err e) (no k p) q is = record { holds = h₂; says = cc q ∙ sym is; steady = tt }
 
     pub sizes-is : sizes (dues_of l₁) ≡ size
     sizes-is =
@@ -236,17 +234,17 @@ module _ {f l l₁ : List ℕ} {at size m : ℕ} (R : PairReady f l at) (F : Fro
           (rw (state-is, ← dues-are, ← size_is) (region-is s₂ f m size (omega arith) (dues_of l₁) sizes-is))
 
       module _ {l₂ : List ℕ} where
-        pub pair-refused : {b : Step} {e : Refusal} → RegionChecked f l₁ m b l₂ → b ≡ No e → PairDone f l l₂ at b
+        pub pair-refused : {b : Step} {e : Refusal} → RegionChecked f l₁ m b l₂ → b ≡ Err e → PairDone f l l₂ at (Err e)
         unfolding forget
         pair-refused {b} {e} C is =
             let C' = rw is at C in
-            rw is (record { holds = C'.holds; says = go (chunks_at (view f l₁) (dues_of l₁) f m) C'.says ∙ sym (pair_is ∙ rw whole refl); steady = tt })
+            record { holds = C'.holds; says = go (chunks_at (view f l₁) (dues_of l₁) f m) C'.says ∙ sym (pair_is ∙ rw whole refl); steady = tt }
           where
-            go : (o : Out (List Chunk)) → no e.number e.place ≡ forget o → no e.number e.place ≡ turned (λ (cs : List Chunk). said_after (said f l) d m) o
+            go : (o : Out (List Chunk)) → no (number_of e.fault) e.place ≡ forget o → no (number_of e.fault) e.place ≡ turned (λ (cs : List Chunk). said_after (said f l) d m) o
             go (got cs p) q = let z : ◌≡◌ {A = ℕ} 0 1 = cc q in absurd (omega arith)
             go (no k p) q = cc q
 
-        pub pair-got : {b : Step} {c : Cursor} {l₃ : List ℕ} → RegionChecked f l₁ m b l₂ → b ≡ Got c → Next l₂ l₃ → PairDone f l l₃ at (Got c)
+        pub pair-got : {b : Step} {c : Cursor} {l₃ : List ℕ} → RegionChecked f l₁ m b l₂ → b ≡ Ok c → Next l₂ l₃ → PairDone f l l₃ at (Ok c)
         unfolding forget said_after next_block pair_spots closed
         pair-got {b} {c} {l₃} C is next =
             let C' = rw is at C in

@@ -1,5 +1,5 @@
 -- Pair after pair, to the end of the file: the loop's turns. Assumes nothing.
-use Rattle.std.specs.Prelude.{◌≡◌, refl, List, ℕ, zero, suc, ◌+◌, ◌-◌, ◌≤◌, ◌<◌, length}
+use Rattle.std.specs.Prelude.{Err, Ok, ◌≡◌, refl, List, ℕ, zero, suc, ◌+◌, ◌-◌, ◌≤◌, ◌<◌, length}
 use Rattle.std.proofs.Common.{sym, ap, ◌∙◌, arith, le-leb}
 use Rattle.std.proofs.lemmas.Bool.{lt-leb}
 use Rattle.paper.specs.Reader.{when◌then◌else◌, Out, got, no, and_then, turned, within}
@@ -15,8 +15,8 @@ use Rattle.table.specs.View.{said, Said, Holds, block_in}
 use Rattle.walk.specs.Pairs.{said_after, pair_to, pairs_to}
 use Rattle.walk.specs.Blocks.{front-block}
 use Rattle.walk.specs.PairLaws.{Steady, PairReady, PairDone, out_said, SteadyAfter}
-use Rattle.numbers.specs.declared.Step.{Step}
-use Rattle.numbers.specs.declared.Step.TheVariants.{Got, No}
+use Rattle.numbers.specs.Cursors.{Step}
+use Rattle.numbers.specs.declared.Fault.TheVariants as fault
 
 -- ── the definitions' side ──
 
@@ -78,11 +78,11 @@ pub pairs-begin : {f l : List ℕ} → WalkReady f l → PairsGoing f l l 32 0
 pairs-begin W = record { steady = W.steady; inside = omega arith; block = omega (arith, W.block); long = refl; says = refl }
 
 module _ {f l₀ l : List ℕ} {left at : ℕ} (W : WalkReady f l₀) (G : PairsGoing f l₀ l left at) where
-  pub pairs-done : length f ≤ at → WalkDone f l₀ l (Got (record { at = at }))
+  pub pairs-done : length f ≤ at → WalkDone f l₀ l (Ok (record { at = at }))
   pairs-done le = record { holds = G.steady.holds; says = sym (G.says ∙ pairs_end left (said f l) f at le); steady = (G.steady, G.inside) }
 
   module _ (lt : at < length f) where
-    pub pairs-many : left ≡ 0 → WalkDone f l₀ l (No (record { number = 3; place = at }))
+    pub pairs-many : left ≡ 0 → WalkDone f l₀ l (Err (record { fault = fault.Limit; place = at }))
     pairs-many z = record { holds = G.steady.holds; says = sym (G.says ∙ pairs-over left (said f l) f at z lt); steady = tt }
 
     module _ (pos : left ≡ 0 → ⊥) where
@@ -93,10 +93,10 @@ module _ {f l₀ l : List ℕ} {left at : ℕ} (W : WalkReady f l₀) (G : Pairs
         turn : pairs_to 32 (said f l₀) f 0 ≡ and_then (out_said f l' a) (λ g e. pairs_to (left - 1) g f e)
         turn = G.says ∙ pairs-step left (said f l) f at (omega (arith, pos)) lt ∙ rw (← one.says) refl
 
-        pub pairs-no : {e : Refusal} → a ≡ No e → WalkDone f l₀ l' a
-        pairs-no is = rw is (record { holds = one.holds; says = sym (turn ∙ rw is refl); steady = tt })
+        pub pairs-no : {e : Refusal} → a ≡ Err e → WalkDone f l₀ l' (Err e)
+        pairs-no is = record { holds = one.holds; says = sym (turn ∙ rw is refl); steady = tt }
 
-        pub pairs_next : {c : Cursor} → a ≡ Got c → length l' ≡ length l → PairsGoing f l₀ l' (left - 1) c.at
+        pub pairs_next : {c : Cursor} → a ≡ Ok c → length l' ≡ length l → PairsGoing f l₀ l' (left - 1) c.at
         pairs_next {c} is long =
             let one' = rw is at one in
             let next : block_in l' ≡ block_in l + 1 = pair-block (said f l) (said f l') f at c.at one'.says in

@@ -1,12 +1,10 @@
 -- The ways out of reading a pair, from what its calls answered. Assumes nothing.
-use Rattle.std.specs.Prelude.{◌≡◌, refl, Bool, true, false, not, List, ℕ, ◌+◌, ◌-◌, ◌≤◌, ◌<◌, length}
+use Rattle.std.specs.Prelude.{Err, Ok, ◌≡◌, refl, Bool, true, false, not, List, ℕ, ◌+◌, ◌-◌, ◌≤◌, ◌<◌, length}
 use Rattle.std.proofs.Common.{ap, arith}
 use Rattle.std.proofs.lemmas.Bool.{not-true, not-false}
 use Rattle.numbers.specs.declared.Cursor.{Cursor}
 use Rattle.numbers.specs.declared.Refusal.{Refusal}
-use Rattle.numbers.specs.declared.Number.{Number}
-use Rattle.numbers.specs.declared.Number.TheVariants as number
-use Rattle.table.specs.View.{said, Said, Ok, fields_in, block_in}
+use Rattle.table.specs.View.{said, Said, Ok as TableOk, fields_in, block_in}
 use Rattle.table.specs.Counts.{counts_in, Next}
 use Rattle.table.specs.declared.rows.Counts.{Counts}
 use Rattle.reader.specs.Kinds.{named_by}
@@ -17,11 +15,11 @@ use Rattle.walk.specs.Stand.{AllStand}
 use Rattle.walk.specs.RegionTurns.{RegionReady, RegionChecked}
 use Rattle.walk.specs.PairLaws.{PairReady, PairDone, Fronted, fronted, pair-short, pair-late, pair-ready, pair-refused, pair-got}
 use Rattle.walk.specs.LateLaws.{LateReady, LateDone, late-ready, late-says}
-use Rattle.numbers.specs.declared.Step.{Step}
-use Rattle.numbers.specs.declared.Step.TheVariants.{Got, No}
+use Rattle.numbers.specs.Cursors.{Outcome, Step}
+use Rattle.numbers.specs.declared.Fault.TheVariants as fault
 
 -- the front was read up to c, with a data region of so many bytes
-module _ {f l : List ℕ} {at : ℕ} (R : PairReady f l at) {l₁ : List ℕ} {a : Number} (passed : Passed f l₁ at a (front_go (named_by false 0) (said f l) f at)) {size : ℕ} {c : Cursor} (is : a ≡ number.Got size c) where
+module _ {f l : List ℕ} {at : ℕ} (R : PairReady f l at) {l₁ : List ℕ} {a : Outcome ℕ} (passed : Passed f l₁ at a (front_go (named_by false 0) (said f l) f at)) {size : ℕ} {c : Cursor} (is : a ≡ Ok (size, c)) where
   F : Fronted f l l₁ at size c.at
   F = fronted R passed is
 
@@ -29,7 +27,7 @@ module _ {f l : List ℕ} {at : ℕ} (R : PairReady f l at) {l₁ : List ℕ} {a
   sound = (rw is at passed).sound
 
   -- the region leaves the block as it was
-  pub next-asks : {l₂ : List ℕ} {d : Step} → RegionChecked f l₁ c.at d l₂ → {e : Cursor} → d ≡ Got e → Ok l₂ × (block_in l₂ < 4294967295)
+  pub next-asks : {l₂ : List ℕ} {d : Step} → RegionChecked f l₁ c.at d l₂ → {e : Cursor} → d ≡ Ok e → TableOk l₂ × (block_in l₂ < 4294967295)
   next-asks {l₂} checked {e} yes? =
       let C = rw yes? at checked in
       let same : block_in l₂ ≡ block_in l₁ = ap (λ (g : Said). g.state.block) (C.puts e refl) in
@@ -38,7 +36,7 @@ module _ {f l : List ℕ} {at : ℕ} (R : PairReady f l at) {l₁ : List ℕ} {a
   pub start-inside : c.at ≤ length f
   start-inside = (rw is at passed).inside R.inside
 
-  pub region-short : length f - c.at < size → PairDone f l l₁ at (No (record { number = 1; place = c.at }))
+  pub region-short : length f - c.at < size → PairDone f l l₁ at (Err (record { fault = fault.Short; place = c.at }))
   region-short lt = pair-short R F passed.holds sound (omega (arith, start-inside))
 
   module _ {before : Counts} (had : before ≡ counts_in l) where
@@ -65,8 +63,8 @@ module _ {f l : List ℕ} {at : ℕ} (R : PairReady f l at) {l₁ : List ℕ} {a
         stand : AllStand l₁ (fields_in l) true
         stand = let z : b ≡ true = not-false b t in rw z at asked_here
 
-        pub region-refused : {e : Refusal} → d ≡ No e → PairDone f l l₂ at d
+        pub region-refused : {e : Refusal} → d ≡ Err e → PairDone f l l₂ at (Err e)
         region-refused no? = pair-refused R F passed.holds sound fits stand checked no?
 
-        pub pair_ends : {e : Cursor} → d ≡ Got e → {l₃ : List ℕ} → Next l₂ l₃ → PairDone f l l₃ at (Got e)
+        pub pair_ends : {e : Cursor} → d ≡ Ok e → {l₃ : List ℕ} → Next l₂ l₃ → PairDone f l l₃ at (Ok e)
         pair_ends yes? next = pair-got R F passed.holds sound fits stand checked yes? next

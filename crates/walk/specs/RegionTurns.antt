@@ -1,5 +1,5 @@
 -- A data region in code: a turn for each chunk that is due, which is checked and put down with its place. Assumes nothing.
-use Rattle.std.specs.Prelude.{◌≡◌, refl, ℕ, ◌+◌, ◌≤◌, ◌<◌, get_or}
+use Rattle.std.specs.Prelude.{Err, Ok, ◌≡◌, refl, ℕ, ◌+◌, ◌≤◌, ◌<◌, get_or}
 use Rattle.std.proofs.Math.Path.{sym, ap}
 use Rattle.std.proofs.Common.{◌∙◌, subst, add-one, arith, drop-cons}
 use mathlib.Core.List.{List, [], ◌∷◌, ◌++◌, append_assoc, append-nil}
@@ -26,8 +26,7 @@ use Rattle.lookups.specs.Named.{Noted}
 use Rattle.walk.specs.Listed.{Listed}
 use Rattle.walk.specs.Dues.{Declared, declared-at}
 use Rattle.walk.specs.Steps.{step_of}
-use Rattle.numbers.specs.declared.Step.{Step}
-use Rattle.numbers.specs.declared.Step.TheVariants.{Got, No}
+use Rattle.numbers.specs.Cursors.{Step}
 
 -- ── one chunk and then the others, without their values ──
 
@@ -89,7 +88,7 @@ pub record DueAt (f l pools : List ℕ) (at i : ℕ) : Type 0 where
 pub record TurnDone (f l : List ℕ) (at i : ℕ) (r : Step) (l' : List ℕ) : Type 0 where
   pub says : step_of r ≡ forget (chunk (view f l) (get_or (dues_of l) i no_due) f at)
   pub holds : Holds f l'
-  pub puts : (c : Cursor) → r ≡ Got c → said f l' ≡ add_chunk (said f l) (record { field = (get_or (dues_of l) i no_due).0.field; start = at; end = c.at })
+  pub puts : (c : Cursor) → r ≡ Ok c → said f l' ≡ add_chunk (said f l) (record { field = (get_or (dues_of l) i no_due).0.field; start = at; end = c.at })
 
 module _ {f l pools : List ℕ} {at i : ℕ} (D : DueAt f l pools at i) {d : DueRow} (is : due_in d ≡ get_or (dues_of l) i no_due) where
   field_is : d.field ≡ (get_or (dues_of l) i no_due).0.field
@@ -107,7 +106,7 @@ module _ {f l pools : List ℕ} {at i : ℕ} (D : DueAt f l pools at i) {d : Due
 
   -- the chunk was checked
   module _ (a : Step) (says : step_of a ≡ forget (chunk (view f l) (due_in d) f at)) where
-    pub end-within : {c : Cursor} → a ≡ Got c → c.at ≤ length f
+    pub end-within : {c : Cursor} → a ≡ Ok c → c.at ≤ length f
     end-within {c} got? =
         let end = chunk-ends (view f l) (due_in d) f at c.at (rw got? at says) in
         omega (arith, size-within)
@@ -115,11 +114,11 @@ module _ {f l pools : List ℕ} {at i : ℕ} (D : DueAt f l pools at i) {d : Due
     says-due : step_of a ≡ forget (chunk (view f l) (get_or (dues_of l) i no_due) f at)
     says-due = rw (← is) says
 
-    pub turned-no : {e : Refusal} → a ≡ No e → TurnDone f l at i a l
+    pub turned-no : {e : Refusal} → a ≡ Err e → TurnDone f l at i (Err e) l
     turned-no refused =
-        record { says = says-due; holds = D.holds; puts = λ c got?. not-got (ap step_of (sym refused ∙ got?)) }
+        record { says = rw refused at says-due; holds = D.holds; puts = λ c got?. not-got (ap step_of got?) }
 
-    pub turned-got : {c : Cursor} {l' : List ℕ} → a ≡ Got c → Pushed 5 7856 2 (chunk_cells d.field at c.at) l l' → TurnDone f l at i (Got c) l'
+    pub turned-got : {c : Cursor} {l' : List ℕ} → a ≡ Ok c → Pushed 5 7856 2 (chunk_cells d.field at c.at) l l' → TurnDone f l at i (Ok c) l'
     turned-got {c} {l'} got? P =
         let after = pushed-chunk D.holds d.field at c.at D.room (omega (arith, field-declared, D.holds.ok.flds-fit)) P.push in
         record {
@@ -147,10 +146,10 @@ pub record RegionReady (f l : List ℕ) (from : ℕ) : Type 0 where
 pub record RegionChecked (f l : List ℕ) (from : ℕ) (r : Step) (l' : List ℕ) : Type 0 where
   pub says : step_of r ≡ forget (chunks_at (view f l) (dues_of l) f from)
   pub holds : Holds f l'
-  pub puts : (c : Cursor) → r ≡ Got c → said f l' ≡ record { state = view f l; due = dues_of l; chunks = chunks_of l ++ spots_from from (dues_of l) }
+  pub puts : (c : Cursor) → r ≡ Ok c → said f l' ≡ record { state = view f l; due = dues_of l; chunks = chunks_of l ++ spots_from from (dues_of l) }
 
 -- a region that is read ends where its last chunk should
-pub region-ends : {f l l' : List ℕ} {from : ℕ} {c : Cursor} → RegionChecked f l from (Got c) l' → c.at ≡ from + sizes (dues_of l)
+pub region-ends : {f l l' : List ℕ} {from : ℕ} {c : Cursor} → RegionChecked f l from (Ok c) l' → c.at ≡ from + sizes (dues_of l)
 region-ends {f} {l} {l'} {from} {c} C = chunks-end (view f l) (dues_of l) f from c.at C.says
 
 -- i chunks are read and put down: what is left, from here, gives the whole
@@ -167,7 +166,7 @@ pub going_start : {f l : List ℕ} {from : ℕ} → RegionReady f l from → Goi
 going_start R = record { holds = R.holds; state = refl; due = refl; count = omega arith; within = R.within; says = refl; spots = refl }
 
 module _ {f l₀ : List ℕ} {from : ℕ} (R : RegionReady f l₀ from) {l : List ℕ} {at i : ℕ} (G : Going f l₀ from l at i) where
-  pub going_done : dues_in l₀ ≤ i → RegionChecked f l₀ from (Got (record { at = at })) l
+  pub going_done : dues_in l₀ ≤ i → RegionChecked f l₀ from (Ok (record { at = at })) l
   unfolding spots_from
   going_done le =
       let past : length (dues_of l₀) ≤ i = omega (arith, R.holds.ok.dues-count) in
@@ -219,11 +218,11 @@ module _ {f l₀ : List ℕ} {from : ℕ} (R : RegionReady f l₀ from) {l : Lis
       says-next =
           rw says-chunk (sym (forget-chunks (view f l₀) (get_or (dues_of l₀) i no_due) (drop (i + 1) (dues_of l₀)) f at) ∙ rw next at G.says)
 
-      pub going-out : {e : Refusal} → r ≡ No e → RegionChecked f l₀ from r l'
+      pub going-out : {e : Refusal} → r ≡ Err e → RegionChecked f l₀ from (Err e) l'
       going-out refused =
-          record { says = rw refused (rw refused at says-next); holds = T.holds; puts = λ c got?. not-got (ap step_of (sym refused ∙ got?)) }
+          record { says = rw refused at says-next; holds = T.holds; puts = λ c got?. not-got (ap step_of got?) }
 
-      pub going_on : {c : Cursor} → r ≡ Got c → Going f l₀ from l' c.at (i + 1)
+      pub going_on : {c : Cursor} → r ≡ Ok c → Going f l₀ from l' c.at (i + 1)
       unfolding add_chunk spots_from
       going_on {c} got? =
           let after = T.puts c got? in

@@ -18,7 +18,7 @@ ghost use Rattle.walk.specs.Steps.{step_of, Valued, Ranged, NotedKind, MapsValue
 
 use lookups::objects::is_object;
 use lookups::ranges::{gather, group, refers};
-use numbers::{Cursor, Number, Refusal, Step};
+use numbers::{Cursor, Fault, Outcome, Refusal, Step};
 use paper::Ledger;
 use table::rows::{DueRow, FieldRow, field_at, strings};
 use values::chunks::chunk_values;
@@ -33,7 +33,7 @@ fn guided_values(
     strings: u64,
     first: &[u32],
     last: &[u32],
-) -> Number
+) -> Outcome<u64>
     requires { Kinds kind.kind kind.a kind.e × (4 < kind.kind) × (kind.kind ≡ 20 → ⊥) × (length first.now ≡ length last.now) }
     ensures { Ranged n kind.kind kind.a kind.e strings first.now last.now part.now result }
 {
@@ -60,7 +60,7 @@ fn ranged_values(
     strings: u64,
     first: &[u32],
     last: &[u32],
-) -> Number
+) -> Outcome<u64>
     requires { Kinds kind.kind kind.a kind.e × (4 < kind.kind) × (kind.kind ≡ 20 → ⊥) × (length first.now ≡ length last.now) }
     ensures { Ranged n kind.kind kind.a kind.e strings first.now last.now part.now result }
 {
@@ -83,47 +83,41 @@ fn ranged_values(
 }
 
 // The number of an object of type t, or 0.
-fn object_value(part: &[u8], c: Cursor, t: u32, work: &[u32]) -> Number
+fn object_value(part: &[u8], c: Cursor, t: u32, work: &[u32]) -> Outcome<u64>
     requires { Ok work.now × (t < 32) }
     ensures { Passed (linked (some_object (firsts t (log_of work.now)) (lasts t (log_of work.now)))) part.now c.at result }
 {
-    let a = c.v64(part);
-    let Number::Got(n, next) = a else {
-        return a;
-    };
+    let (n, next) = c.v64(part)?;
     if n == 0 {
-        return Number::Got(n, next);
+        return Ok((n, next));
     }
     if is_object(work, t, n) {
-        return Number::Got(n, next);
+        return Ok((n, next));
     }
-    Number::No(Refusal {
-        number: 14,
+    Err(Refusal {
+        fault: Fault::Reference,
         place: c.at,
     })
 }
 
 // n numbers of objects of type t, each asked for by itself.
-fn object_values(part: &[u8], n: u32, t: u32, work: &[u32]) -> Number
+fn object_values(part: &[u8], n: u32, t: u32, work: &[u32]) -> Outcome<u64>
     requires { Ok work.now × (t < 32) }
     ensures { Passed (repeat n (linked (some_object (firsts t (log_of work.now)) (lasts t (log_of work.now))))) part.now 0 result }
 {
     let mut here = Cursor { at: 0 };
     let mut rest = n;
     while 0 < rest {
-        let a = object_value(part, here, t, work);
-        let Number::Got(_, next) = a else {
-            return a;
-        };
+        let (_, next) = object_value(part, here, t, work)?;
         here = next;
         rest -= 1;
     }
-    Number::Got(0, here)
+    Ok((0, here))
 }
 
 // n values whose elements refer to objects: the ranges of their type, at most one in a block, are gathered once, and not asked for
 // at each value.
-fn gathered_values(part: &[u8], n: u32, kind: FieldRow, work: &[u32]) -> Number
+fn gathered_values(part: &[u8], n: u32, kind: FieldRow, work: &[u32]) -> Outcome<u64>
     requires ok { Ok work.now × Bounded (log_of work.now) }
     requires kinds { Kinds kind.kind kind.a kind.e × (4 < kind.kind) × (kind.kind ≡ 20 → ⊥) × (32 ≤ kind.e) }
     ensures { (file : List ℕ) → Holds file work.now → Valued n kind.kind kind.a kind.e (view file work.now) part.now result }
@@ -135,7 +129,7 @@ fn gathered_values(part: &[u8], n: u32, kind: FieldRow, work: &[u32]) -> Number
 }
 
 // The same, for any number of values. One reference is no reason to gather ranges; of several each could cost a walk of its own.
-fn linked_values(part: &[u8], n: u32, kind: FieldRow, work: &[u32]) -> Number
+fn linked_values(part: &[u8], n: u32, kind: FieldRow, work: &[u32]) -> Outcome<u64>
     requires ok { Ok work.now × Bounded (log_of work.now) }
     requires kinds { Kinds kind.kind kind.a kind.e × (4 < kind.kind) × (kind.kind ≡ 20 → ⊥) × (32 ≤ kind.e) }
     ensures { (file : List ℕ) → Holds file work.now → Valued n kind.kind kind.a kind.e (view file work.now) part.now result }
@@ -153,7 +147,7 @@ fn linked_values(part: &[u8], n: u32, kind: FieldRow, work: &[u32]) -> Number
 
 // n maps of these kinds, whose annotations are held to the pools: the ranges of the types that they name, at most eight, are gathered
 // once.
-fn grouped_values(part: &[u8], n: u32, kinds: &[u64], pools: &[u32], work: &[u32]) -> Number
+fn grouped_values(part: &[u8], n: u32, kinds: &[u64], pools: &[u32], work: &[u32]) -> Outcome<u64>
     requires ok { Ok work.now × Bounded (log_of work.now) }
     requires in_bounds { (2 ≤ length kinds.now) × (all element_kind? kinds.now ≡ true) × (length kinds.now ≤ 8) }
     ensures { MapsValued n kinds.now pools.now work.now part.now result }
@@ -175,7 +169,7 @@ fn grouped_values(part: &[u8], n: u32, kinds: &[u64], pools: &[u32], work: &[u32
 }
 
 // The same. Most maps refer to no object, and then nothing is gathered.
-fn mapped_values(part: &[u8], n: u32, kinds: &[u64], pools: &[u32], work: &[u32]) -> Number
+fn mapped_values(part: &[u8], n: u32, kinds: &[u64], pools: &[u32], work: &[u32]) -> Outcome<u64>
     requires ok { Ok work.now × Bounded (log_of work.now) }
     requires in_bounds { (2 ≤ length kinds.now) × (all element_kind? kinds.now ≡ true) × (length kinds.now ≤ 8) }
     ensures { MapsValued n kinds.now pools.now work.now part.now result }
@@ -196,7 +190,7 @@ fn mapped_values(part: &[u8], n: u32, kinds: &[u64], pools: &[u32], work: &[u32]
 }
 
 // n maps: their kinds stand in the row, a byte each.
-fn map_values(part: &[u8], n: u32, kind: FieldRow, pools: &[u32], work: &[u32]) -> Number
+fn map_values(part: &[u8], n: u32, kind: FieldRow, pools: &[u32], work: &[u32]) -> Outcome<u64>
     requires ok { Ok work.now × Bounded (log_of work.now) }
     requires kinds { Kinds kind.kind kind.a kind.e × (kind.kind ≡ 20) }
     ensures { (file : List ℕ) → Holds file work.now → NotedKind pools.now kind.kind kind.a kind.e (view file work.now) → Valued n kind.kind kind.a kind.e (view file work.now) part.now result }
@@ -207,14 +201,14 @@ fn map_values(part: &[u8], n: u32, kind: FieldRow, pools: &[u32], work: &[u32]) 
 }
 
 // n values of any kind: the pools say which annotations keep the rule.
-fn values_of(part: &[u8], n: u32, kind: FieldRow, pools: &[u32], work: &[u32]) -> Number
+fn values_of(part: &[u8], n: u32, kind: FieldRow, pools: &[u32], work: &[u32]) -> Outcome<u64>
     requires ok { Ok work.now × Bounded (log_of work.now) }
     requires kinds { Kinds kind.kind kind.a kind.e }
     ensures { (file : List ℕ) → Holds file work.now → NotedKind pools.now kind.kind kind.a kind.e (view file work.now) → Valued n kind.kind kind.a kind.e (view file work.now) part.now result }
 {
     // A constant has no bytes here.
     if kind.kind <= 4 {
-        return Number::Got(0, Cursor { at: 0 });
+        return Ok((0, Cursor { at: 0 }));
     }
     if kind.kind == 20 {
         return map_values(part, n, kind, pools, work);
@@ -237,30 +231,30 @@ fn values_of(part: &[u8], n: u32, kind: FieldRow, pools: &[u32], work: &[u32]) -
 }
 
 // The answer of the file, from that of the part of so many bytes from `at` on: it must be used up, no more and no less.
-fn fill(a: Number, at: usize, size: usize) -> Step
+fn fill(a: Outcome<u64>, at: usize, size: usize) -> Step
     requires { (place_of a ≤ size) × (at + size < 18446744073709551616) }
     ensures { step_of result ≡ filled at size (forget (out_of a)) }
 {
     match a {
-        Number::Got(_, c) => {
+        Ok((_, c)) => {
             let behind = at + c.at;
             if c.at == size {
-                return Step::Got(Cursor { at: behind });
+                return Ok(Cursor { at: behind });
             }
-            Step::No(Refusal {
-                number: 12,
+            Err(Refusal {
+                fault: Fault::Chunk,
                 place: behind,
             })
         }
-        Number::No(e) => {
+        Err(e) => {
             let place = at + e.place;
-            if e.number == 1 {
-                return Step::No(Refusal { number: 12, place });
+            match e.fault {
+                Fault::Short => Err(Refusal {
+                    fault: Fault::Chunk,
+                    place,
+                }),
+                fault => Err(Refusal { fault, place }),
             }
-            Step::No(Refusal {
-                number: e.number,
-                place,
-            })
         }
     }
 }

@@ -7,7 +7,7 @@ ghost use Rattle.walk.specs.PairTurns.{WalkReady, WalkDone};
 ghost use Rattle.walk.specs.FileLaws.{FileRead};
 
 use crate::region::{kinds_stand, region};
-use numbers::{Cursor, Number, Refusal, Step, refused};
+use numbers::{Cursor, Fault, Refusal, Step};
 use paper::Ledger;
 use reader::entries::front;
 use reader::kinds::Named;
@@ -26,14 +26,11 @@ fn late_kind(file: &[u8], c: Cursor, work: &mut [u32], before: Counts) -> Step
         strict: true,
         types: declared,
     };
-    let a = front(file, c, work, named);
-    match a {
-        Number::Got(_, end) => Step::No(Refusal {
-            number: 10,
-            place: end.at,
-        }),
-        Number::No(e) => Step::No(e),
-    }
+    let (_, end) = front(file, c, work, named)?;
+    Err(Refusal {
+        fault: Fault::Kind,
+        place: end.at,
+    })
 }
 
 // A pair: its front, a data region that ends within the file, kinds that stand, and the chunks. The block ends with it.
@@ -46,26 +43,20 @@ pub fn pair(file: &[u8], c: Cursor, work: &mut [u32]) -> Step
         strict: false,
         types: 0,
     };
-    let a = front(file, c, work, any);
-    let Number::Got(size, start) = a else {
-        return Step::No(refused(a));
-    };
+    let (size, start) = front(file, c, work, any)?;
     let at = start.at;
     if ((file.len() - at) as u64) < size {
-        return Step::No(Refusal {
-            number: Refusal::SHORT,
+        return Err(Refusal {
+            fault: Fault::Short,
             place: at,
         });
     }
     if !kinds_stand(work, before.fields) {
         return late_kind(file, c, work, before);
     }
-    let b = region(file, at, work);
-    let Step::Got(end) = b else {
-        return b;
-    };
+    let end = region(file, at, work)?;
     next_block(work);
-    Step::Got(end)
+    Ok(end)
 }
 
 // Pair after pair, to the end of the file.
@@ -77,19 +68,16 @@ pub fn pairs(file: &[u8], work: &mut [u32]) -> Step
     let mut left = Ledger::PAIRS;
     while at < file.len() {
         if left == 0 {
-            return Step::No(Refusal {
-                number: 3,
+            return Err(Refusal {
+                fault: Fault::Limit,
                 place: at,
             });
         }
-        let a = pair(file, Cursor { at }, work);
-        let Step::Got(c) = a else {
-            return a;
-        };
+        let c = pair(file, Cursor { at }, work)?;
         at = c.at;
         left -= 1;
     }
-    Step::Got(Cursor { at })
+    Ok(Cursor { at })
 }
 
 // A file, read into the table, whatever stood in it.
@@ -101,8 +89,8 @@ pub fn read(file: &[u8], work: &mut [u32]) -> Step
         bytes: file.len() as u64,
     };
     if !ledger.fits() {
-        return Step::No(Refusal {
-            number: 3,
+        return Err(Refusal {
+            fault: Fault::Limit,
             place: 0,
         });
     }

@@ -22,12 +22,9 @@ fn next_chunk(file: &[u8], at: usize, i: u32, work: &mut [u32], pools: &[u32]) -
     ensures { TurnDone file.now work.old at i result work.new }
 {
     let d = due_at(work, i);
-    let a = chunk(file, at, d, work, pools);
-    let Step::Got(c) = a else {
-        return a;
-    };
+    let c = chunk(file, at, d, work, pools)?;
     push_chunk(work, d.field, at as u32, c.at as u32);
-    a
+    Ok(c)
 }
 
 // All of them, from `at` on: the cursor behind the region, or the first refusal. The pools say which annotations keep the rule.
@@ -39,14 +36,11 @@ fn chunks(file: &[u8], at: usize, work: &mut [u32], pools: &[u32]) -> Step
     let mut place = at;
     let mut i = 0;
     while i < n {
-        let a = next_chunk(file, place, i, work, pools);
-        let Step::Got(c) = a else {
-            return a;
-        };
+        let c = next_chunk(file, place, i, work, pools)?;
         place = c.at;
         i += 1;
     }
-    Step::Got(Cursor { at: place })
+    Ok(Cursor { at: place })
 }
 
 // The region. What the strings name is looked up once for all its chunks.

@@ -3,8 +3,8 @@ use Rattle.std.proofs.Common.{arith}
 use Rattle.regions.specs.Turns.{sized-bad, sized-got}
 use Rattle.regions.proofs.size_chunk.Goals as goal
 
-pub returns-in_default : goal.returns-in_default
-returns-in_default c = sized-bad c.requires c.due_bytes-a.ensures c.in_default.is
+pub returns-in_err-k : goal.returns-in_err-k
+returns-in_err-k c = rw c.from_residual.ensures (sized-bad c.requires c.due_bytes.ensures c.in_err-k.was)
 
 pub returns : goal.returns
-returns c = sized-got c.requires c.due_bytes-a.ensures (omega arith) c.in-Got.is c.size_due.ensures
+returns c = sized-got c.requires c.due_bytes.ensures (omega arith) c.in_ok-k.was c.size_due.ensures

@@ -9,17 +9,17 @@ dues-n-requires c = c.requires.0.holds.ok
 pub loop-i-init : goal.loop-i-init
 loop-i-init c = (omega arith, sizing-start _ c.requires.0)
 
-pub size_chunk-a-requires : goal.size_chunk-a-requires
-size_chunk-a-requires c = sizing-ready c.requires.0 c.loop-i.invariant.1 (omega arith) c.requires.1
+pub size_chunk-requires : goal.size_chunk-requires
+size_chunk-requires c = sizing-ready c.requires.0 c.loop-i.invariant.1 (omega arith) c.requires.1
 
-pub shape_of-work-in_default : goal.shape_of-work-in_default
-shape_of-work-in_default c = c.size_chunk-a.ensures.holds.ok.long ∙ sym c.requires.0.holds.ok.long
+pub shape_of-work-in_err-next : goal.shape_of-work-in_err-next
+shape_of-work-in_err-next c = c.size_chunk.ensures.holds.ok.long ∙ sym c.requires.0.holds.ok.long
 
-pub returns-in_default : goal.returns-in_default
-returns-in_default c = sizing-bad c.requires.0 c.loop-i.invariant.1 (omega arith) c.size_chunk-a.ensures c.in_default.is
+pub returns-in_err-next : goal.returns-in_err-next
+returns-in_err-next c = rw c.from_residual.ensures (sizing-bad c.requires.0 c.loop-i.invariant.1 (omega arith) c.size_chunk.ensures c.in_err-next.was)
 
 pub loop-i-preserved : goal.loop-i-preserved
-loop-i-preserved c = (omega arith, sizing-next c.requires.0 c.loop-i.invariant.1 (omega arith) c.size_chunk-a.ensures c.in-To.is)
+loop-i-preserved c = (omega arith, sizing-next c.requires.0 c.loop-i.invariant.1 (omega arith) c.size_chunk.ensures c.in_ok-next.was)
 
 pub shape_of-work : goal.shape_of-work
 shape_of-work c = c.loop-i.invariant.1.holds.ok.long ∙ sym c.requires.0.holds.ok.long

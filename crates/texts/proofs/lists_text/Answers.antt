@@ -7,17 +7,17 @@ pub loop-rest-init : goal.loop-rest-init
 unfolding most
 loop-rest-init c = taking-start _ _ _ _ _ _ _ (omega arith) (omega arith) refl
 
-pub list_text-a-requires : goal.list_text-a-requires
-list_text-a-requires c = c.requires
+pub list_text-requires : goal.list_text-requires
+list_text-requires c = c.requires
 
-pub shape_of-out-in_default : goal.shape_of-out-in_default
-shape_of-out-in_default c = c.list_text-a.auto.out ∙ c.loop-rest.invariant.long
+pub shape_of-out-in_err-k : goal.shape_of-out-in_err-k
+shape_of-out-in_err-k c = c.list_text.auto.out ∙ c.loop-rest.invariant.long
 
-pub returns-in_default : goal.returns-in_default
-returns-in_default c = taking-bad c.loop-rest.invariant c.loop-rest-test.true c.list_text-a.ensures c.in_default.is
+pub returns-in_err-k : goal.returns-in_err-k
+returns-in_err-k c = rw c.from_residual.ensures (taking-bad c.loop-rest.invariant c.loop-rest-test.true c.list_text.ensures c.in_err-k.was)
 
 pub loop-rest-preserved : goal.loop-rest-preserved
-loop-rest-preserved c = taking-next c.loop-rest.invariant c.loop-rest-test.true c.list_text-a.ensures c.in-Got.is c.list_text-a.auto.out
+loop-rest-preserved c = taking-next c.loop-rest.invariant c.loop-rest-test.true c.list_text.ensures c.in_ok-k.was c.list_text.auto.out
 
 pub shape_of-out : goal.shape_of-out
 shape_of-out c = c.loop-rest.invariant.long

@@ -7,17 +7,17 @@ pub loop-rest-init : goal.loop-rest-init
 unfolding most
 loop-rest-init c = taking-start _ _ _ _ _ _ _ (omega arith) (omega arith) refl
 
-pub next_element-a-requires : goal.next_element-a-requires
-next_element-a-requires c = (c.requires.0 (omega (arith, c.loop-rest.invariant.fewer)), c.requires.1)
+pub next_element-requires : goal.next_element-requires
+next_element-requires c = (c.requires.0 (omega (arith, c.loop-rest.invariant.fewer)), c.requires.1)
 
-pub shape_of-out-in_default : goal.shape_of-out-in_default
-shape_of-out-in_default c = c.next_element-a.auto.out ∙ c.loop-rest.invariant.long
+pub shape_of-out-in_err-k : goal.shape_of-out-in_err-k
+shape_of-out-in_err-k c = c.next_element.auto.out ∙ c.loop-rest.invariant.long
 
-pub returns-in_default : goal.returns-in_default
-returns-in_default c = taking-bad c.loop-rest.invariant c.loop-rest-test.true c.next_element-a.ensures c.in_default.is
+pub returns-in_err-k : goal.returns-in_err-k
+returns-in_err-k c = rw c.from_residual.ensures (taking-bad c.loop-rest.invariant c.loop-rest-test.true c.next_element.ensures c.in_err-k.was)
 
 pub loop-rest-preserved : goal.loop-rest-preserved
-loop-rest-preserved c = taking-next c.loop-rest.invariant c.loop-rest-test.true c.next_element-a.ensures c.in-Got.is c.next_element-a.auto.out
+loop-rest-preserved c = taking-next c.loop-rest.invariant c.loop-rest-test.true c.next_element.ensures c.in_ok-k.was c.next_element.auto.out
 
 pub shape_of-out : goal.shape_of-out
 shape_of-out c = c.loop-rest.invariant.long

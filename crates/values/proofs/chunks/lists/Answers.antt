@@ -1,4 +1,5 @@
 use Rattle.std.proofs.Common.{arith}
+use Rattle.numbers.specs.Cursors.{handed}
 use Rattle.values.specs.Chunks.{list_of}
 use Rattle.values.specs.Pass.{running-start, running-next, running-no, running-done}
 use Rattle.values.proofs.chunks.lists.Goals as goal
@@ -6,14 +7,14 @@ use Rattle.values.proofs.chunks.lists.Goals as goal
 pub loop-rest-init : goal.loop-rest-init
 loop-rest-init c = running-start (list_of _ _ _ _ _) _ _ _
 
-pub list-a-requires : goal.list-a-requires
-list-a-requires c = (c.requires.0, c.loop-rest.invariant.inside (omega arith), c.requires.1)
+pub list-requires : goal.list-requires
+list-requires c = (c.requires.0, c.loop-rest.invariant.inside (omega arith), c.requires.1)
 
-pub returns-in_default : goal.returns-in_default
-returns-in_default c = running-no c.loop-rest.invariant c.loop-rest-test.true c.list-a.ensures c.in_default.is
+pub returns-in_err-next : goal.returns-in_err-next
+returns-in_err-next c = rw (handed c.from_residual.ensures.1) (running-no c.loop-rest.invariant c.loop-rest-test.true c.list.ensures c.in_err-next.was)
 
 pub loop-rest-preserved : goal.loop-rest-preserved
-loop-rest-preserved c = running-next c.loop-rest.invariant c.loop-rest-test.true c.list-a.ensures c.in-Got.is
+loop-rest-preserved c = running-next c.loop-rest.invariant c.loop-rest-test.true c.list.ensures c.in_ok-next.was
 
 pub returns : goal.returns
 returns c = running-done c.loop-rest.invariant 0 c.loop-rest-test.false

@@ -27,16 +27,16 @@ pub shape_of-out-in_default : goal.shape_of-out-in_default
 shape_of-out-in_default c = c.loop-from.invariant.long
 
 pub returns-in_default : goal.returns-in_default
-returns-in_default c = links-cut c.loop-from.invariant c.loop-from-test.true c.number_up_to-a.ensures c.in_default.is
+returns-in_default c = links-cut c.loop-from.invariant c.loop-from-test.true c.number_up_to.ensures c.in_default.is
 
 pub store-requires : goal.store-requires
-store-requires c = link_fits c.loop-from.invariant c.loop-from-test.true c.number_up_to-a.ensures c.in-Got.is
+store-requires c = link_fits c.loop-from.invariant c.loop-from-test.true c.number_up_to.ensures c.in-Ok.is
 
 pub loop-from-smaller : goal.loop-from-smaller
 loop-from-smaller c = omega (arith, c.loop-from.invariant.long)
 
 pub loop-from-preserved : goal.loop-from-preserved
-loop-from-preserved c = links-next c.loop-from.invariant c.loop-from-test.true c.number_up_to-a.ensures c.in-Got.is (to_z-of_z {w = w64} (record { sfits = c.store.type_inv }) ∙ c.store.ensures)
+loop-from-preserved c = links-next c.loop-from.invariant c.loop-from-test.true c.number_up_to.ensures c.in-Ok.is (to_z-of_z {w = w64} (record { sfits = c.store.type_inv }) ∙ c.store.ensures)
 
 pub shape_of-out : goal.shape_of-out
 shape_of-out c = c.loop-from.invariant.long

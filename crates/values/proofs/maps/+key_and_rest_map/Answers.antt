@@ -1,5 +1,5 @@
 use Rattle.std.proofs.Common.{refl, arith}
-use Rattle.numbers.specs.Cursors.{was-got}
+use Rattle.numbers.specs.Cursors.{handed, was-got}
 use Rattle.values.specs.Pass.{running-start, running-next, running-no, running-done}
 use Rattle.values.specs.Maps.{passed-inside}
 use Rattle.values.specs.Quick.{skips-passed, paired-passed, key-steps}
@@ -18,26 +18,26 @@ key_and_rest-map-requires t c = (rest-falls c.args.kinds.now c.requires.in_bound
 pub key_and_rest-returns-then-behind-part : goal.key_and_rest-returns-then-behind-part
 key_and_rest-returns-then-behind-part t c = way-rest _ _ _ _ _ _ c.requires.in_bounds.0 (skips-passed (c.element_behind-behind.ensures c.if-behind-part.true _)) refl c.map.ensures
 
-pub key_and_rest-element-a-requires : goal.key_and_rest-element-a-requires
-key_and_rest-element-a-requires t c = (first_kind c.args.kinds.now (omega arith) c.requires.in_bounds.1, c.requires.at_in_bounds.0, c.requires.at_in_bounds.1)
-
-pub key_and_rest-returns-in_default : goal.key_and_rest-returns-in_default
-key_and_rest-returns-in_default t c = way-key-no _ _ _ _ _ _ c.requires.in_bounds.0 c.element-a.ensures c.in_default.is
-
 pub key_and_rest-element-requires : goal.key_and_rest-element-requires
-key_and_rest-element-requires t c = (last-kind c.args.kinds.now c.requires.in_bounds.0 c.requires.in_bounds.1, passed-inside c.element-a.ensures c.in-Got.is c.requires.at_in_bounds.0, c.requires.at_in_bounds.1)
+key_and_rest-element-requires t c = (first_kind c.args.kinds.now (omega arith) c.requires.in_bounds.1, c.requires.at_in_bounds.0, c.requires.at_in_bounds.1)
+
+pub key_and_rest-returns-in_err-next : goal.key_and_rest-returns-in_err-next
+key_and_rest-returns-in_err-next t c = rw (handed c.from_residual.ensures.1) (way-key-no _ _ _ _ _ _ c.requires.in_bounds.0 c.element.ensures c.in_err-next.was)
+
+pub key_and_rest-element-requires-then-kinds-eq2 : goal.key_and_rest-element-requires-then-kinds-eq2
+key_and_rest-element-requires-then-kinds-eq2 t c = (last-kind c.args.kinds.now c.requires.in_bounds.0 c.requires.in_bounds.1, passed-inside c.element.ensures c.in_ok-next.was c.requires.at_in_bounds.0, c.requires.at_in_bounds.1)
 
 pub key_and_rest-returns-then-kinds-eq2 : goal.key_and_rest-returns-then-kinds-eq2
-key_and_rest-returns-then-kinds-eq2 t c = way-last _ _ _ _ _ _ c.requires.in_bounds.0 c.element-a.ensures c.in-Got.is (omega arith) c.element.ensures
+key_and_rest-returns-then-kinds-eq2 t c = way-last _ _ _ _ _ _ c.requires.in_bounds.0 c.element.ensures c.in_ok-next.was (omega arith) c.element-then-kinds-eq2.ensures
 
 pub key_and_rest-map-requires-2 : goal.key_and_rest-map-requires-2
-key_and_rest-map-requires-2 t c = (rest-falls c.args.kinds.now c.requires.in_bounds.0 c.decreases, (rest-asked 2 c.args.kinds.now (omega arith) c.requires.in_bounds.1, (passed-inside c.element-a.ensures c.in-Got.is c.requires.at_in_bounds.0, c.requires.at_in_bounds.1)))
+key_and_rest-map-requires-2 t c = (rest-falls c.args.kinds.now c.requires.in_bounds.0 c.decreases, (rest-asked 2 c.args.kinds.now (omega arith) c.requires.in_bounds.1, (passed-inside c.element.ensures c.in_ok-next.was c.requires.at_in_bounds.0, c.requires.at_in_bounds.1)))
 
 pub key_and_rest-returns : goal.key_and_rest-returns
-key_and_rest-returns t c = way-rest _ _ _ _ _ _ c.requires.in_bounds.0 c.element-a.ensures c.in-Got.is c.map-2.ensures
+key_and_rest-returns t c = way-rest _ _ _ _ _ _ c.requires.in_bounds.0 c.element.ensures c.in_ok-next.was c.map-2.ensures
 
-pub map-returns-in_default : goal.map-returns-in_default
-map-returns-in_default t c = way_no _ _ _ _ _ _ c.requires.in_bounds.0 c.small-size.ensures c.in_default.is
+pub map-returns-in_err-n : goal.map-returns-in_err-n
+map-returns-in_err-n t c = rw (handed c.from_residual.ensures.1) (way_no _ _ _ _ _ _ c.requires.in_bounds.0 c.small.ensures c.in_err-n.was)
 
 pub map-bounds_of-key-requires : goal.map-bounds_of-key-requires
 map-bounds_of-key-requires t c = (first_kind c.args.kinds.now (omega arith) c.requires.in_bounds.1, c.requires.at_in_bounds.1)
@@ -46,22 +46,22 @@ pub map-bounds_of-value-requires : goal.map-bounds_of-value-requires
 map-bounds_of-value-requires t c = (last-kind c.args.kinds.now c.requires.in_bounds.0 c.requires.in_bounds.1, c.requires.at_in_bounds.1)
 
 pub map-pairs_behind-end-requires : goal.map-pairs_behind-end-requires
-map-pairs_behind-end-requires t c = (was-got c.small-size.ensures c.in-Got.is).inside c.requires.at_in_bounds.0
+map-pairs_behind-end-requires t c = (was-got c.small.ensures c.in_ok-n.was).inside c.requires.at_in_bounds.0
 
 pub map-returns-then-end-part : goal.map-returns-then-end-part
-map-returns-then-end-part t c = way-keys _ _ _ _ _ _ c.requires.in_bounds.0 c.small-size.ensures c.in-Got.is (paired-passed (c.pairs_behind-end.ensures c.if-end-part.true) (key-steps _ _ _ _ _ _ (omega arith) (c.bounds_of-key.ensures _) (c.bounds_of-value.ensures _)))
+map-returns-then-end-part t c = way-keys _ _ _ _ _ _ c.requires.in_bounds.0 c.small.ensures c.in_ok-n.was (paired-passed (c.pairs_behind-end.ensures c.if-end-part.true) (key-steps _ _ _ _ _ _ (omega arith) (c.bounds_of-key.ensures _) (c.bounds_of-value.ensures _)))
 
 pub map-loop-rest-init : goal.map-loop-rest-init
 map-loop-rest-init t c = running-start _ _ _ _
 
-pub map-key_and_rest-a-requires : goal.map-key_and_rest-a-requires
-map-key_and_rest-a-requires t c = (omega arith, ((c.requires.in_bounds.0, c.requires.in_bounds.1), (c.loop-rest.invariant.inside ((was-got c.small-size.ensures c.in-Got.is).inside c.requires.at_in_bounds.0), c.requires.at_in_bounds.1)))
+pub map-key_and_rest-requires : goal.map-key_and_rest-requires
+map-key_and_rest-requires t c = (omega arith, ((c.requires.in_bounds.0, c.requires.in_bounds.1), (c.loop-rest.invariant.inside ((was-got c.small.ensures c.in_ok-n.was).inside c.requires.at_in_bounds.0), c.requires.at_in_bounds.1)))
 
-pub map-returns-in_default-a : goal.map-returns-in_default-a
-map-returns-in_default-a t c = way-keys _ _ _ _ _ _ c.requires.in_bounds.0 c.small-size.ensures c.in-Got.is (running-no c.loop-rest.invariant c.loop-rest-test.true c.key_and_rest-a.ensures c.in_default-a.is)
+pub map-returns-in_err-next : goal.map-returns-in_err-next
+map-returns-in_err-next t c = rw (handed c.from_residual-in_err-next.ensures.1) (way-keys _ _ _ _ _ _ c.requires.in_bounds.0 c.small.ensures c.in_ok-n.was (running-no c.loop-rest.invariant c.loop-rest-test.true c.key_and_rest.ensures c.in_err-next.was))
 
 pub map-loop-rest-preserved : goal.map-loop-rest-preserved
-map-loop-rest-preserved t c = running-next c.loop-rest.invariant c.loop-rest-test.true c.key_and_rest-a.ensures c.in-Got-a.is
+map-loop-rest-preserved t c = running-next c.loop-rest.invariant c.loop-rest-test.true c.key_and_rest.ensures c.in_ok-next.was
 
 pub map-returns : goal.map-returns
-map-returns t c = way-keys _ _ _ _ _ _ c.requires.in_bounds.0 c.small-size.ensures c.in-Got.is (running-done c.loop-rest.invariant 0 c.loop-rest-test.false)
+map-returns t c = way-keys _ _ _ _ _ _ c.requires.in_bounds.0 c.small.ensures c.in_ok-n.was (running-done c.loop-rest.invariant 0 c.loop-rest-test.false)

@@ -6,4 +6,4 @@ pub returns-in_default : goal.returns-in_default
 returns-in_default c h = absurd (omega arith)
 
 pub returns : goal.returns
-returns c h = past-any c.past_v64-a.ensures c.in-Got.is
+returns c h = past-any c.past_v64.ensures c.in-Ok.is

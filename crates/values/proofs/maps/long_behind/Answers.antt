@@ -10,4 +10,4 @@ pub returns-in_default : goal.returns-in_default
 returns-in_default c h = absurd (omega arith)
 
 pub returns : goal.returns
-returns c h = numbered (was-got c.v64-a.ensures c.in-Got.is).says (c.held.ensures h)
+returns c h = numbered (was-got c.v64.ensures c.in-Ok.is).says (c.held.ensures h)

@@ -1,4 +1,5 @@
 use Rattle.std.proofs.Common.{refl}
+use Rattle.numbers.specs.Cursors.{handed}
 use Rattle.paper.specs.Reader.{must}
 use Rattle.paper.specs.Numbers.{fixed}
 use Rattle.paper.specs.Rules.{bool_rules}
@@ -10,16 +11,16 @@ use Rattle.values.proofs.runs.bools_in_turn.Goals.{then-b-ne0+else-b-ne255, else
 pub loop-rest-init : goal.loop-rest-init
 loop-rest-init c = running-start (must (fixed 1) bool_rules) _ _ _
 
-pub returns-in_default : goal.returns-in_default
-returns-in_default c = running-no c.loop-rest.invariant c.loop-rest-test.true (bool-cut c.be1-a.ensures c.in_default.is) c.in_default.is
+pub returns-in_err-b : goal.returns-in_err-b
+returns-in_err-b c = rw (handed c.from_residual.ensures.1) (running-no c.loop-rest.invariant c.loop-rest-test.true (bool-cut c.be.ensures c.in_err-b.was) refl)
 
 pub returns-then-b-ne255 : goal.returns-then-b-ne255
-returns-then-b-ne255 c = running-no c.loop-rest.invariant c.loop-rest-test.true (bool-wrong c.be1-a.ensures c.in-Got.is c.if-b-ne0.true c.if-b-ne255.true) refl
+returns-then-b-ne255 c = running-no c.loop-rest.invariant c.loop-rest-test.true (bool-wrong c.be.ensures c.in_ok-b.was c.if-b-ne0.true c.if-b-ne255.true) refl
 
 pub loop-rest-preserved : goal.loop-rest-preserved
 loop-rest-preserved c = running-next c.loop-rest.invariant c.loop-rest-test.true (elim c.if-b-ne0.branch [
-  | then-b-ne0+else-b-ne255 w ↦ bool-true c.be1-a.ensures c.in-Got.is w.if-b-ne255.false
-  | else-b-ne0 w ↦ bool_false c.be1-a.ensures c.in-Got.is w.if-b-ne0.false
+  | then-b-ne0+else-b-ne255 w ↦ bool-true c.be.ensures c.in_ok-b.was w.if-b-ne255.false
+  | else-b-ne0 w ↦ bool_false c.be.ensures c.in_ok-b.was w.if-b-ne0.false
 ]) refl
 
 pub returns : goal.returns

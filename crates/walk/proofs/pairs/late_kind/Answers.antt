@@ -1,11 +1,12 @@
+use Rattle.numbers.specs.Cursors.{handed}
 use Rattle.walk.specs.LateLaws.{late-begins, late-got, late-no}
 use Rattle.walk.proofs.pairs.late_kind.Goals as goal
 
-pub front-a-requires : goal.front-a-requires
-front-a-requires c = late-begins c.requires c.cut_back.ensures
+pub front-requires : goal.front-requires
+front-requires c = late-begins c.requires c.cut_back.ensures
 
-pub returns-in-Got : goal.returns-in-Got
-returns-in-Got c = late-got c.requires c.cut_back.ensures c.types-declared.ensures c.front-a.ensures c.in-Got.is
+pub returns : goal.returns
+returns c = late-got c.requires c.cut_back.ensures c.types-declared.ensures c.front.ensures c.in_ok-end.was
 
-pub returns-in-No : goal.returns-in-No
-returns-in-No c = late-no c.requires c.cut_back.ensures c.types-declared.ensures c.front-a.ensures c.in-No.is
+pub returns-in_err-end : goal.returns-in_err-end
+returns-in_err-end c = rw (handed c.from_residual.ensures.1) (late-no c.requires c.cut_back.ensures c.types-declared.ensures c.front.ensures c.in_err-end.was)
