@@ -2,14 +2,12 @@
 use Rattle.std.specs.Prelude.{◌≡◌, ℕ, zero, suc, ◌+◌, ◌-◌, ◌*◌, ◌<◌, ◌≤◌, List, [], ◌∷◌, length, take, drop, ◌++◌, replicate, slice_index, slice_index_or, refl}
 use Rattle.std.proofs.Common.{⊎_elim, sym, ◌∙◌, subst, le_refl, not-suc-le-zero, le_of_suc-le-suc, eq-or-lt_of_le, arith, take_all}
 use Rattle.std.proofs.Math.Path.{ap}
-use Rattle.std.proofs.lemmas.List.Edits.{sets}
-use Rattle.std.proofs.Math.Seq.{length-sets}
 use Rattle.std.proofs.lemmas.List.{take-append-le, length-replicate, length-append, length-drop, length-take, length-take-le, get_or-replicate, get_or-append_right, get_or_append_left}
 use borrow.Rule.Slice.PartMut.{put_mid}
 use Rattle.paper.specs.Ledger.{Typ, Field, Range, nothing}
 use Rattle.paper.specs.Rules.{closed}
 use Rattle.table.specs.Segs.{tab, cells, seg, Each}
-use Rattle.table.specs.RowLaws.{length-tab, tab-cong, cells-cong, cells-sets, sets-other, seg-none, each-kept}
+use Rattle.table.specs.RowLaws.{length-tab, tab-cong, cells-cong, seg-none, each-kept}
 use Rattle.table.specs.Layout.{width, most, starts, head-le}
 use Rattle.table.specs.View.{text_of, string_of, typ_of, fld_of, range_of, due_of, spot_of, strs_of, names_of, types_of, titles_of, flds_of, log_of, dues_of, chunks_of, said, tally, Telling, Owning, Ok, Within, Holds, Said, Now, Apart, Recalls, Noting}
 use Rattle.table.specs.Told.{Told, Owned}
@@ -89,26 +87,6 @@ pub record Cut (n : Counts) (l l' : List ℕ) : Type 0 where
   pub ok : Ok l'
   pub counts : Recounted n (slice_index l 6) l l'
   pub says : (f : List ℕ) → Holds f l → Now f l' (cut_to n (said f l))
-
--- the counts are the first nine cells
-pub recounted-by : (n : Counts) (b told noted : ℕ) {l l' : List ℕ} → length l ≡ 16384 → l' ≡ sets l 0 (n.strings ∷ n.types ∷ n.fields ∷ n.ranges ∷ 0 ∷ n.chunks ∷ b ∷ told ∷ noted ∷ []) → Recounted n b l l' × ((slice_index l' 7 ≡ told) × (slice_index l' 8 ≡ noted))
-unfolding cells
-recounted-by n b told noted {l} {l'} long is =
-    let vs : List ℕ = n.strings ∷ n.types ∷ n.fields ∷ n.ranges ∷ 0 ∷ n.chunks ∷ b ∷ told ∷ noted ∷ [] in
-    let head : cells l' 0 9 ≡ vs = ap (λ (t : List ℕ). cells t 0 9) is ∙ cells-sets vs l 0 (omega arith) in (
-      record {
-        long = ap length is ∙ length-sets l 0 vs;
-        rest = λ j high. rw is (sets-other vs l 0 j (λ p. omega arith));
-        strings = ap (λ (xs : List ℕ). slice_index xs 0) head;
-        types = ap (λ (xs : List ℕ). slice_index xs 1) head;
-        fields = ap (λ (xs : List ℕ). slice_index xs 2) head;
-        ranges = ap (λ (xs : List ℕ). slice_index xs 3) head;
-        dues = ap (λ (xs : List ℕ). slice_index xs 4) head;
-        chunks = ap (λ (xs : List ℕ). slice_index xs 5) head;
-        block = ap (λ (xs : List ℕ). slice_index xs 6) head;
-      },
-      (ap (λ (xs : List ℕ). slice_index xs 7) head, ap (λ (xs : List ℕ). slice_index xs 8) head),
-    )
 
 -- ── rows, fewer of them ──
 

@@ -23,10 +23,6 @@ module _ {A : Type 0} (p : A → Bool) (xs : List A) (i : ℕ) where
   unfolding total
   total-end n h = ap (total p n) (drop_of_length-le xs h)
 
-  pub places-end : length xs ≤ i → length (places p i (drop i xs)) ≡ 0
-  unfolding places
-  places-end h = ap (λ (ys : List A). length (places p i ys)) (drop_of_length-le xs h)
-
   -- row i is x, on which the test says b
   module _ (d : A) (h : i < length xs) {x : A} (is : x ≡ slice_index_or xs i d) where
     abbrev next : drop i xs ≡ x ∷ drop (i + 1) xs

@@ -1,6 +1,6 @@
 -- A name held against a part of the bytes. Assumes nothing.
 use Rattle.std.specs.Prelude.{◌≡◌, ℕ, zero, suc, ◌+◌, ◌-◌, ◌*◌, ◌%◌, ◌<◌, ◌≤◌, Bool, true, false, ◌&&◌, List, [], ◌∷◌, length, get_or, take, drop, ◌==◌, ◌≢◌, nat_eq, slice_index, slice_index_or, slice_range, refl}
-use Rattle.std.proofs.Common.{sym, ◌∙◌, subst, ⊎_elim, add-one, mul-le-mul_left, not-suc-le-zero, le_of_suc-le-suc, drop_of_length-le, length-take-le, drop-cons, eqb-true}
+use Rattle.std.proofs.Common.{sym, ◌∙◌, ⊎_elim, add-one, not-suc-le-zero, le_of_suc-le-suc, drop_of_length-le, length-take-le, drop-cons, eqb-true}
 use Rattle.std.proofs.Math.Path.{ap, ap₂}
 use Rattle.std.proofs.Math.Option.{none, some}
 use Rattle.std.proofs.lemmas.Bool.{false≢true}
@@ -44,12 +44,6 @@ same-pairs (x ∷ xs) [] = refl
 same-pairs (x ∷ xs) (y ∷ ys) = ap (λ (b : Bool). nat_eq x y && b) (same-pairs xs ys)
 
 -- ── sums ──
-
-pub weight-fits : (b i : ℕ) → b < 256 → b * (1 + i % 256) < 65536
-weight-fits b i lt =
-    let w : 1 + i % 256 ≤ 256 = omega arith in
-    let most : b * (1 + i % 256) ≤ b * 256 = mul-le-mul_left b w in
-    omega arith
 
 module _ (n : List ℕ) (s i : ℕ) where
   pub sum-on : i < length n → summed s i (drop i n) ≡ summed ((s + slice_index n i * (1 + i % 256)) % 65536) (i + 1) (drop (i + 1) n)
@@ -99,9 +93,6 @@ part_of s e n f is in_f =
 
 -- ── types whose names are as long ──
 
-pub shorter-start : {l : List ℕ} {n k : ℕ} → k ≤ slice_index l 1 → Shorter l n k k
-shorter-start le = record { few = le; is = λ f h name e p. p }
-
 pub shorter-on : {l : List ℕ} {n k i a b sum : ℕ} → i < slice_index l 1 → Named names_of l i a b sum → (b - a ≢ n) → Shorter l n k i → Shorter l n k (i + 1)
 shorter-on {l} {n} {k} {i} {a} {b} lt row ne S =
     record {
@@ -129,13 +120,6 @@ module _ {f l : List ℕ} (h : Holds f l) where
 
     pub known-none : m < 33 → m ≡ slice_index l 1 → none ≡ place (same (slice_index_or (strs_of f l) i [])) 0 (names_of f l)
     known-none lt is = sym (passed-all (names_of f l) (slice_index_or (strs_of f l) i []) ((R.is f h).passed lt) (omega (arith, h.names-count)))
-
-    pub known-passed : m < 33 → {a b : ℕ} → Stands strs_of l i a b → Passed (names_of f l) (slice a b f) m
-    known-passed lt S = subst (λ (x : List ℕ). Passed (names_of f l) x m) (S.is f) ((R.is f h).passed lt)
-
-    -- no more is known
-    pub recalled-known : 33 ≤ m → Recalled f l i m l
-    recalled-known le = record { now = record { holds = h; says = refl }; none_has = λ lt. absurd (omega arith); one_has = λ l. sym (known le) }
 
     pub recalled-none : m < 33 → m ≡ slice_index l 1 → Recalled f l i m l
     recalled-none lt is = record { now = record { holds = h; says = refl }; none_has = λ l. sym (known-none lt is); one_has = λ le. absurd (omega arith) }

@@ -135,32 +135,6 @@ pub record FieldTallied (t n : ℕ) (l l' : List ℕ) : Type 0 where
   pub further : t < 32 → (slice_index l (16048 + 8 * t + 7) ≢ 0) → slice_index l' (16048 + 8 * t) ≡ slice_index l (16048 + 8 * t)
   pub last : t < 32 → slice_index l' (16048 + 8 * t + 7) ≡ n + 1
 
-pub untallied : (t n : ℕ) (l : List ℕ) → 32 ≤ t → FieldTallied t n l l
-untallied t n l le = record { long = refl; other = λ j apart. refl; first = λ lt e. absurd (omega arith); further = λ lt e. absurd (omega arith); last = λ lt. absurd (omega arith) }
-
-module _ (t n : ℕ) (l : List ℕ) (long : length l ≡ 16384) (lt : t < 32) where
-  pub tallied-first : slice_index_or l (16048 + 8 * t + 7) 0 ≡ 0 → FieldTallied t n l (slice_set (slice_set l (16048 + 8 * t) n) (16048 + 8 * t + 7) (n + 1))
-  tallied-first none_yet =
-      let m = set l (16048 + 8 * t) n in
-      let m-long : length m ≡ 16384 = length-set l (16048 + 8 * t) n ∙ long in
-      record {
-        long = length-set m (16048 + 8 * t + 7) (n + 1) ∙ length-set l (16048 + 8 * t) n;
-        other = λ j apart. get_or-set_other m (16048 + 8 * t + 7) j (n + 1) 0 (apart lt).1 ∙ get_or-set_other l (16048 + 8 * t) j n 0 (apart lt).0;
-        first = λ q e. get_or-set_other m (16048 + 8 * t + 7) (16048 + 8 * t) (n + 1) 0 (λ e. omega arith) ∙ get_or-set_same l (16048 + 8 * t) n 0 (omega arith);
-        further = λ q some. absurd (some none_yet);
-        last = λ q. get_or-set_same m (16048 + 8 * t + 7) (n + 1) 0 (omega arith);
-      }
-
-  pub tallied-further : (slice_index l (16048 + 8 * t + 7) ≢ 0) → FieldTallied t n l (slice_set l (16048 + 8 * t + 7) (n + 1))
-  tallied-further some =
-      record {
-        long = length-set l (16048 + 8 * t + 7) (n + 1);
-        other = λ j apart. get_or-set_other l (16048 + 8 * t + 7) j (n + 1) 0 (apart lt).1;
-        first = λ q e. absurd (some e);
-        further = λ q e. get_or-set_other l (16048 + 8 * t + 7) (16048 + 8 * t) (n + 1) 0 (λ e. omega arith);
-        last = λ q. get_or-set_same l (16048 + 8 * t + 7) (n + 1) 0 (omega arith);
-      }
-
 module _ (r : FieldRow) {l m l' : List ℕ} (ok : Ok l) (room : slice_index_or l 2 0 < 128) (is : m ≡ sets l (2224 + 16 * slice_index l 2) (field_cells r)) (T : FieldTallied r.owner (slice_index l 2) (slice_set m 2 (slice_index l 2 + 1)) l') where
   field_row : Laid 2 2224 16 (field_cells r) l (slice_set m 2 (slice_index l 2 + 1))
   unfolding starts width most
@@ -260,78 +234,6 @@ pub record Tallied (r : RangeRow) (up n : ℕ) (l l' : List ℕ) : Type 0 where
   pub near : (j : ℕ) → j < 16048 → (j ≢ 7) → slice_index l' j ≡ slice_index l j
   pub retold : slice_index_or l' 7 0 ≡ 1 → Retold r up n l l'
 
-pub tallied-off : (r : RangeRow) (up n : ℕ) {l : List ℕ} → length l ≡ 16384 → Tallied r up n l (slice_set l 7 0)
-tallied-off r up n {l} long =
-    record {
-      long = length-set l 7 0;
-      near = λ j lt n7. get_or-set_other l 7 j 0 0 n7;
-      retold = λ on. absurd (omega (arith, on, get_or-set_same l 7 0 0 (omega (arith, long))));
-    }
-
-pub share-base : (up n : ℕ) → up ≡ 0 → n ≡ share up n
-share-base up n e = rw e refl
-
-pub share-none : (up n : ℕ) → (up ≢ 0) → 0 ≡ share up n
-share-none zero n ne = absurd (ne refl)
-share-none (suc u) n ne = refl
-
-tallied-with : (r : RangeRow) (up n : ℕ) {l m l' : List ℕ} → r.typ < 32 → Regular r up l → m ≡ sets l (16048 + 8 * r.typ + 1) ((slice_index l (16048 + 8 * r.typ + 1) + r.count) ∷ (r.block + 1) ∷ slice_index l (16048 + 8 * r.typ + 1) ∷ n ∷ []) → Aboved up r.block (r.start + r.count) (slice_set m 16304 (slice_index l 16304 + share up r.count)) l' → Tallied r up n l l'
-tallied-with r up n {l} {m} {l'} few regular is above =
-    let vs : List ℕ = (slice_index l (16048 + 8 * r.typ + 1) + r.count) ∷ (r.block + 1) ∷ slice_index l (16048 + 8 * r.typ + 1) ∷ n ∷ [] in
-    let v = slice_index l 16304 + share up r.count in
-    record {
-      long = above.long ∙ length-set m 16304 v ∙ ap length is ∙ length-sets l (16048 + 8 * r.typ + 1) vs;
-      near = λ j lt n7. above.other j (λ e. omega arith) (λ e. omega arith) ∙ get_or-set_other m 16304 j v 0 (λ e. omega arith) ∙ ap (λ (t : List ℕ). slice_index t j) is ∙ sets-other vs l (16048 + 8 * r.typ + 1) j (λ q. omega arith);
-      retold = λ on. record { regular = regular; mid = slice_set m 16304 v; mid-is = ap (λ (t : List ℕ). set t 16304 v) is; above = above };
-    }
-
-pub tallied-on : (r : RangeRow) (up n : ℕ) {l m l' : List ℕ} {s : ℕ} → s ≡ share up r.count → r.typ < 32 → Regular r up l → m ≡ sets l (16048 + 8 * r.typ + 1) ((slice_index l (16048 + 8 * r.typ + 1) + r.count) ∷ (r.block + 1) ∷ slice_index l (16048 + 8 * r.typ + 1) ∷ n ∷ []) → Aboved up r.block (r.start + r.count) (slice_set m 16304 (slice_index l 16304 + s)) l' → Tallied r up n l l'
-tallied-on r up n {l} {m} {l'} {s} share-is few regular is above =
-    tallied-with r up n few regular is (subst (λ (k : ℕ). Aboved up r.block (r.start + r.count) (slice_set m 16304 (slice_index l 16304 + k)) l') share-is above)
-
--- nothing above, or too far: nothing changes
-pub above-none : (up b x : ℕ) (l : List ℕ) → (0 < up → up ≤ 32 → ⊥) → Aboved up b x l l
-above-none up b x l apart = record { long = refl; other = λ j p q. refl; mine = λ a d. absurd (apart a d); none = λ n. refl }
-
-module _ (up b x : ℕ) (l : List ℕ) (long : length l ≡ 16384) (gt : 0 < up) (le : up ≤ 32) where
-  pub above-later : tally l (up - 1) 5 ≤ b → {l' : List ℕ} → l' ≡ sets l (16048 + 8 * (up - 1) + 5) ((b + 1) ∷ x ∷ []) → Aboved up b x l l'
-  above-later old {l'} is =
-      let at = 16048 + 8 * (up - 1) + 5 in
-      let five : tally l' (up - 1) 5 ≡ b + 1 = ap (λ (t : List ℕ). slice_index t at) is ∙ stored_at ((b + 1) ∷ x ∷ []) l at 0 at (omega arith) (omega arith) (omega arith) in
-      let six : tally l' (up - 1) 6 ≡ x = ap (λ (t : List ℕ). slice_index t (16048 + 8 * (up - 1) + 6)) is ∙ stored_at ((b + 1) ∷ x ∷ []) l at 1 (16048 + 8 * (up - 1) + 6) (omega arith) (omega arith) (omega arith) in
-      record {
-        long = ap length is ∙ length-sets l at ((b + 1) ∷ x ∷ []);
-        other = λ j p q. ap (λ (t : List ℕ). slice_index t j) is ∙ sets-other ((b + 1) ∷ x ∷ []) l at j (λ r. omega (arith, p, q));
-        mine = λ a b. record { rises = omega (arith, five, old); ends = λ e. absurd (omega (arith, five, old)); mine = omega (arith, five); mine-ends = λ e. omega (arith, six) };
-        none = λ no. absurd (no gt le);
-      }
-
-  six-at : tally l (up - 1) 6 ≡ slice_index l (16048 + 8 * (up - 1) + 5 + 1)
-  six-at = let at-is : 16048 + 8 * (up - 1) + 6 ≡ 16048 + 8 * (up - 1) + 5 + 1 = omega arith in ap (λ (k : ℕ). slice_index l k) at-is
-
-  pub above_kept : (b + 1 ≤ tally l (up - 1) 5) → (b + 1 ≡ tally l (up - 1) 5 → x ≤ slice_index l (16048 + 8 * (up - 1) + 5 + 1)) → Aboved up b x l l
-  above_kept old ends =
-      record {
-        long = refl;
-        other = λ j p q. refl;
-        mine = λ a b. record { rises = omega arith; ends = λ e. omega arith; mine = old; mine-ends = λ e. omega (arith, six-at, ends e) };
-        none = λ apart. refl;
-      }
-
-  pub above-end : (b + 1 ≡ tally l (up - 1) 5) → slice_index l (16048 + 8 * (up - 1) + 5 + 1) ≤ x → Aboved up b x l (slice_set l (16048 + 8 * (up - 1) + 5 + 1) x)
-  above-end old ends =
-      let at = 16048 + 8 * (up - 1) + 5 + 1 in
-      let at-is : 16048 + 8 * (up - 1) + 6 ≡ at = omega arith in
-      let l' = set l at x in
-      let five : tally l' (up - 1) 5 ≡ tally l (up - 1) 5 = get_or-set_other l at (16048 + 8 * (up - 1) + 5) x 0 (λ e. omega arith) in
-      let six : tally l' (up - 1) 6 ≡ x = ap (λ (k : ℕ). slice_index l' k) at-is ∙ get_or-set_same l at x 0 (omega arith) in
-      record {
-        long = length-set l at x;
-        other = λ j p q. get_or-set_other l at j x 0 (λ e. q (omega arith));
-        mine = λ a b. record { rises = omega (arith, five); ends = λ e. omega (arith, six, six-at, ends); mine = omega (arith, five, old); mine-ends = λ e. omega (arith, six) };
-        none = λ no. absurd (no gt le);
-      }
-
 -- what is asked of the tallies
 module _ {r : RangeRow} {up n : ℕ} {l l' : List ℕ} (R : Retold r up n l l') (long : length l ≡ 16384) (few : r.typ < 32) (ts : List Typ) (is : maybe up ≡ (type_in ts r.typ).super) (count : length ts ≡ slice_index l 1) where
   abbrev sum : ℕ
@@ -339,9 +241,6 @@ module _ {r : RangeRow} {up n : ℕ} {l l' : List ℕ} (R : Retold r up n l l') 
 
   abbrev news : List ℕ
   news = (sum + r.count) ∷ (r.block + 1) ∷ sum ∷ n ∷ []
-
-  mid-long : length R.mid ≡ 16384
-  mid-long = ap length R.mid-is ∙ length-set (sets l (16048 + 8 * r.typ + 1) news) 16304 (slice_index l 16304 + share up r.count) ∙ length-sets l (16048 + 8 * r.typ + 1) news ∙ long
 
   mid-other : (j : ℕ) → j ≢ 16304 → (16048 + 8 * r.typ + 1 ≤ j → 16048 + 8 * r.typ + 5 ≤ j) → slice_index R.mid j ≡ slice_index l j
   mid-other j ne apart =

@@ -10,7 +10,6 @@ use Rattle.table.specs.Segs.{seg, cells, Each}
 use Rattle.table.specs.RowLaws.{seg-at}
 use Rattle.table.specs.View.{maybe, wide, kind_from, text_of, string_of, typ_of, fld_of, range_of, due_of, spot_of, strs_of, names_of, types_of, titles_of, flds_of, log_of, dues_of, chunks_of, Within, Holds}
 use Rattle.table.specs.ViewLaws.{count-strs, count-names, count-titles, count-types, count-flds, count-log, count-dues, count-chunks}
-use Rattle.table.specs.Memos.{memo-none}
 use Rattle.table.specs.Answers.{Stands, Remembered, Named, no_range, no_due, no_spot}
 
 -- the texts of a kind of rows begin with a first byte and an end
@@ -44,9 +43,6 @@ module _ (l : List ℕ) (i : ℕ) where
   unfolding cells
   string-noted lt on is =
       record { is = λ f h. rw (is, string-is f lt) ((h.noting.rows on).row i lt).memo }
-
-  pub nothing-noted : Remembered l i 0
-  nothing-noted = record { is = λ f h. memo-none _ _ refl }
 
   pub name-stands : i < slice_index l 1 → Named names_of l i (slice_index l (2064 + 5 * i)) (slice_index l (2064 + 5 * i + 1)) (slice_index l (2064 + 5 * i + 4))
   unfolding names_of cells

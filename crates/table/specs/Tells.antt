@@ -3,15 +3,14 @@ use Rattle.std.specs.Prelude.{◌≡◌, ℕ, ◌-◌, ◌<◌, ◌≤◌, true,
 use Rattle.std.proofs.Common.{sym, ◌∙◌, arith, le_refl, zero-le}
 use Rattle.std.proofs.Math.Path.{ap}
 use Rattle.paper.specs.Lists.{any, all, total, given?}
-use Rattle.paper.specs.Ledger.{of?, before?, holds?, size, owns?, type_in, Range}
+use Rattle.paper.specs.Ledger.{of?, before?, holds?, size, owns?, type_in}
 use Rattle.paper.specs.Rules.{entry_of?, clear?}
 use Rattle.table.specs.View.{maybe, types_of, flds_of, log_of, tally, Ok}
 use Rattle.table.specs.Told.{up_to?}
 use Rattle.table.specs.ToldLaws.{all-weak, none_of, total-same, total-none, still-up, no-entry, all-before, clear-more}
 use Rattle.table.specs.OwnedLaws.{none_before, none-behind, none-past}
 use Rattle.table.specs.Answers.{Stretched}
-use Rattle.std.specs.Prelude as prelude
-use Rattle.std.specs.Prelude.{Some, None}
+use Rattle.std.specs.Prelude.{Some}
 
 module _ (l : List ℕ) (b t : ℕ) (none : all (up_to? t b) (log_of l) ≡ true) where
   pub not_entered : any (entry_of? b t) (log_of l) ≡ false
@@ -26,9 +25,6 @@ module _ {l : List ℕ} (ok : Ok l) (on : slice_index_or l 7 0 ≡ 1) (t : ℕ) 
 
   pub pool-all : (b : ℕ) → tally l t 2 ≤ b → total (before? b t) size (log_of l) ≡ total (of? t) size (log_of l)
   pool-all b le = total-same (up_to? t (tally l t 2)) (before? b t) (of? t) size (all-before t (tally l t 2) b le) (log_of l) ((ok.telling on).latest t lt)
-
-  pub pool-recent : (b : ℕ) → tally l t 2 - 1 ≡ b → tally l t 3 ≡ total (before? b t) size (log_of l)
-  pool-recent b e = (ok.telling on).before t lt ∙ ap (λ (k : ℕ). total (before? k t) size (log_of l)) e
 
   pub clear-beyond : (b start : ℕ) → tally l t 5 ≤ b → all (clear? b (types_of l) t start) (log_of l) ≡ true
   clear-beyond b start le = all-weak (clear? b (types_of l) t 0) (clear? b (types_of l) t start) (clear-more b (types_of l) t 0 start zero-le) (log_of l) ((ok.telling on).beyond t lt b le)
@@ -50,9 +46,6 @@ module _ {l : List ℕ} (ok : Ok l) (on : slice_index_or l 7 0 ≡ 1) (t : ℕ) 
       let base : given? (type_in (types_of l) t).super ≡ false = ap given? (sym above) ∙ ap (λ (k : ℕ). given? (maybe k)) none_above in
       let count : x ≡ n = cc in
       (ok.telling on).lying t lt base m ∙ ap (λ (k : ℕ). nat_le 1 m && nat_le m k) (sym is ∙ count)
-
-pub pool-untold : (t : ℕ) (log : List Range) (n : ℕ) → ◌≡◌ {A = prelude.Option ℕ} None (Some n) → (m : ℕ) → any (holds? t m) log ≡ (nat_le 1 m && nat_le m n)
-pool-untold t log n clash m = let z : ◌≡◌ {A = ℕ} 0 1 = cc in absurd (omega arith)
 
 -- all fields
 pub stretch-all : {l : List ℕ} (t : ℕ) → Ok l → {n : ℕ} → n ≡ slice_index l 2 → Stretched t (flds_of l) (record { from = 0; to = n })

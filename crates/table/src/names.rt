@@ -1,5 +1,5 @@
 // Types and fields by their names: the place among the types or the fields, if there is one. A name is lent, or is itself a part of the source.
-ghost use Rattle.std.specs.Prelude.{◌≡◌, ◌+◌, ◌-◌, ◌*◌, ◌%◌, ◌<◌, ◌≤◌, true, false, [], length, slice_index, slice_index_or};
+ghost use Rattle.std.specs.Prelude.{◌≡◌, ◌+◌, ◌-◌, ◌*◌, ◌%◌, ◌<◌, ◌≤◌, [], length, slice_index, slice_index_or};
 ghost use Rattle.std.proofs.Math.Seq.{slice};
 ghost use Rattle.paper.specs.Lists.{same, place, place_named, places};
 ghost use Rattle.paper.specs.Ledger.{owns?, called?};
@@ -50,22 +50,15 @@ pub fn name_sum(name: &[u8]) -> u32
     sum as u32
 }
 
-// The part of the source has the name's bytes: it is as long, and no byte differs. `==` looks at many at a time.
-fn is_name(src: &[u8], start: u32, end: u32, name: &[u8]) -> bool
-    requires { end ≤ length src.now }
-    ensures { result ≡ same name.now (slice start end src.now) }
-{
-    name == part(src, start, end)
-}
-
-// The part of the source, with this sum, has the bytes of the name with that sum. Equal names have equal sums.
+// The part of the source, with this sum, has the bytes of the name with that sum. Equal names have equal sums, and where the sums
+// are equal the names mostly are; `==` looks at many bytes at a time.
 fn has_name(src: &[u8], start: u32, end: u32, there: u32, name: &[u8], sum: u32) -> bool
     requires end_in_bounds { end ≤ length src.now }
     requires there_value { there ≡ sum_of (slice start end src.now) }
     requires sum_value { sum ≡ sum_of name.now }
     ensures { result ≡ same name.now (slice start end src.now) }
 {
-    there == sum && is_name(src, start, end, name)
+    there == sum && name == part(src, start, end)
 }
 
 // The type with a lent name, where the first k types have others.

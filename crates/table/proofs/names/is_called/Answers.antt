@@ -3,9 +3,6 @@ use Rattle.std.proofs.Common.{eq-eqb, ne_eqb}
 use Rattle.paper.specs.Ledger.{called?, owns?}
 use Rattle.table.proofs.names.is_called.Goals as goal
 
-pub has_name-requires : goal.has_name-requires
-has_name-requires c = record { end_in_bounds = c.requires.end_in_bounds; there_value = c.requires.sum_value; sum_value = c.requires.sum_value_2 }
-
 pub returns-then-row-t : goal.returns-then-row-t
 unfolding called? owns?
 returns-then-row-t c = simp (eq-eqb _ _ c.if-row-t.true) c.has_name.ensures

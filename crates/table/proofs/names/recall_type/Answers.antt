@@ -1,16 +1,10 @@
 -- `table::names::recall_type` meets its contract. Assumes nothing.
 use Rattle.std.proofs.Common.{◌∙◌, arith}
-use Rattle.table.specs.NameLaws.{known-passed, type-below, recalled-known, recalled-none, recalled-nothing, recalled-at}
+use Rattle.table.specs.NameLaws.{type-below, recalled-none, recalled-nothing, recalled-at}
 use Rattle.table.proofs.names.recall_type.Goals as goal
-
-pub returns-then-memo-ge33 : goal.returns-then-memo-ge33
-returns-then-memo-ge33 c = recalled-known c.requires.holds c.memo_at-memo.ensures c.if-memo-ge33.true
 
 pub returns-then-memo-n : goal.returns-then-memo-n
 returns-then-memo-n c = recalled-none c.requires.holds c.memo_at-memo.ensures (omega (arith, c.if-memo-ge33.false)) (c.if-memo-n.true ∙ c.types-n.ensures)
-
-pub find_part-requires : goal.find_part-requires
-find_part-requires c = record { holds = c.requires.holds; end_in_bounds = (c.string_at-name.ensures.within _ c.requires.holds, known-passed c.requires.holds c.memo_at-memo.ensures (omega (arith, c.if-memo-ge33.false)) c.string_at-name.ensures) }
 
 pub returns-in_default : goal.returns-in_default
 returns-in_default c = recalled-nothing c.requires.holds c.string_at-name.ensures _ c.find_part.ensures c.in_default.is c.types-n.ensures c.note.ensures

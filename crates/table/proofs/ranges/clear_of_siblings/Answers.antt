@@ -1,9 +1,13 @@
 -- `table::ranges::clear_of_siblings` meets its contract. Assumes nothing.
-use Rattle.std.proofs.Common.{sym}
+use Rattle.std.proofs.Common.{◌-◌, Bool, ap, ◌∙◌, rules}
+use Rattle.std.specs.Prelude.{not}
+use Rattle.paper.specs.Ledger.{Range}
+use Rattle.paper.specs.Rules.{clear?}
+use Rattle.table.specs.View.{log_of, types_of}
+use Rattle.table.specs.Loops.{all-but}
 use Rattle.table.proofs.ranges.clear_of_siblings.Goals as goal
 
-pub returns-then-known_clear : goal.returns-then-known_clear
-returns-then-known_clear c = sym (c.known_clear.ensures c.if-known_clear.true)
-
-pub returns : goal.returns
-returns c = c.walk_clear.ensures
+pub returns-else-known_clear : goal.returns-else-known_clear
+returns-else-known_clear c = let a = c.args in
+    let clear : Range → Bool = clear? a.b (types_of a.work.now) (a.up - 1) a.start in
+    ap not (c.any_range.ensures (λ r. not (clear r)) (λ r b answers. search rules)) ∙ all-but clear (log_of a.work.now)

@@ -1,10 +1,7 @@
 -- `table::rows::memo_at` meets its contract. Assumes nothing.
 use Rattle.std.proofs.Common.{refl}
-use Rattle.table.specs.RowReads.{string-noted, nothing-noted}
+use Rattle.table.specs.RowReads.{string-noted}
 use Rattle.table.proofs.rows.memo_at.Goals as goal
-
-pub returns-then-work-ne1 : goal.returns-then-work-ne1
-returns-then-work-ne1 c = nothing-noted _ _
 
 pub returns : goal.returns
 returns c = string-noted _ _ c.requires.i_bound c.if-work-ne1.false refl
