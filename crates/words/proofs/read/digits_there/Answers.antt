@@ -20,8 +20,8 @@ bounds-t-at c = omega (arith, c.loop-i.invariant.within)
 
 pub loop-i-preserved : goal.loop-i-preserved
 loop-i-preserved c = elim c.if-not-is_hex.branch [
-  | then-not-is_hex w ↦ rw w.others-is (hexes-other c.loop-i.invariant c.loop-i-test.true)
-  | else-not-is_hex w ↦ rw w.others-is (hexes-on c.loop-i.invariant c.loop-i-test.true (c.is_hex.ensures w.if-not-is_hex.false))
+  | then-not-is_hex w ↦ rw w.others-is (hexes-other c.loop-i.invariant (omega arith))
+  | else-not-is_hex w ↦ rw w.others-is (hexes-on c.loop-i.invariant (omega arith) (c.is_hex.ensures w.if-not-is_hex.false))
 ]
 
 pub returns : goal.returns

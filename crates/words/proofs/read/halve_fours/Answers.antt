@@ -12,16 +12,16 @@ pub bounds-pairs-i : goal.bounds-pairs-i
 bounds-pairs-i c = omega (arith, c.loop-i.invariant.long)
 
 pub overflow_cast-pairs-in-loop-i : goal.overflow_cast-pairs-in-loop-i
-overflow_cast-pairs-in-loop-i c = omega (arith, c.shared_slice_known-1.given c.loop-i.i)
+overflow_cast-pairs-in-loop-i c = omega (arith, c.type_inv.fours c.loop-i.i)
 
 pub bounds-pairs-i-in-loop-i : goal.bounds-pairs-i-in-loop-i
 bounds-pairs-i-in-loop-i c = rw length-set (omega (arith, c.loop-i.invariant.long))
 
 pub loop-i-preserved : goal.loop-i-preserved
-loop-i-preserved c = halved-on c.loop-i.invariant c.loop-i-test.true
+loop-i-preserved c = halved-on c.loop-i.invariant (omega arith)
 
 pub shape_of-pairs : goal.shape_of-pairs
 shape_of-pairs c = omega (arith, c.loop-i.invariant.long, c.requires.1)
 
 pub returns : goal.returns
-returns c = halved-all c.loop-i.invariant c.loop-i-test.false
+returns c = halved-all c.loop-i.invariant (omega arith)

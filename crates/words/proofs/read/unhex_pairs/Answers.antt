@@ -23,12 +23,12 @@ bounds-bytes-i c = omega (arith, c.loop-i.invariant.long)
 
 pub loop-i-preserved : goal.loop-i-preserved
 loop-i-preserved c = elim c.if-pair-written.branch [
-  | then-pair-written w ↦ rw w.others-is (unpaired-other c.loop-i.invariant c.loop-i-test.true _)
-  | else-pair-written w ↦ rw w.others-is (unpaired-on c.loop-i.invariant c.loop-i-test.true (two _ c.values_of-values.ensures c.written.ensures w.if-pair-written.false))
+  | then-pair-written w ↦ rw w.others-is (unpaired-other c.loop-i.invariant (omega arith) _)
+  | else-pair-written w ↦ rw w.others-is (unpaired-on c.loop-i.invariant (omega arith) (two _ c.values_of-values.ensures c.written.ensures w.if-pair-written.false))
 ]
 
 pub shape_of-bytes : goal.shape_of-bytes
 shape_of-bytes c = omega (arith, c.loop-i.invariant.long, c.requires.1)
 
 pub returns : goal.returns
-returns c t = unpaired-all c.loop-i.invariant c.loop-i-test.false (eqb-true _ 0 t)
+returns c t = unpaired-all c.loop-i.invariant (omega arith) (eqb-true _ 0 t)
