@@ -103,7 +103,7 @@ fn refuse(fault: Fault, place: usize) -> Outcome<u64>
 fn wide(b: u8) -> u64
     ensures { (result ≡ b) × (result < 256) }
 {
-    b as u64
+    u64::from(b)
 }
 
 // `width` bytes, highest first.
@@ -118,11 +118,9 @@ fn fixed_at(s: &[u8], at: usize, width: usize) -> Outcome<u64>
         return refuse(Fault::Short, at);
     }
     let mut x: u64 = 0;
-    let mut i: usize = 0;
-    while i < width {
+    for i in 0..width {
         let b = wide(s[at + i]);
         x = x * 256 + b;
-        i += 1;
     }
     Ok((x, Cursor { at: at + width }))
 }
@@ -133,11 +131,9 @@ fn low_first<const WIDTH: usize>(s: &[u8], at: usize) -> u64
     ensures { result ≡ low_bytes (take WIDTH (drop at s.now)) }
 {
     let mut x: u64 = 0;
-    let mut i: usize = 0;
-    while i < WIDTH {
+    for i in 0..WIDTH {
         let b = wide(s[at + i]);
         x += b << (8 * i);
-        i += 1;
     }
     x
 }
@@ -150,11 +146,9 @@ fn turned<const WIDTH: usize>(x: u64) -> u64
 {
     let mut y: u64 = 0;
     let mut rest = x;
-    let mut i: usize = 0;
-    while i < WIDTH {
+    for _i in 0..WIDTH {
         y = y * 256 + rest % 256;
         rest /= 256;
-        i += 1;
     }
     y
 }
@@ -175,32 +169,28 @@ fn v64_on(s: &[u8], at: usize, low: u64) -> Outcome<u64>
 {
     let mut x = low;
     let mut weight: u64 = 128;
-    let mut p = at + 1;
-    let mut left: u64 = 7;
-    while 0 < left {
+    for p in at + 1..at + 8 {
         if s.len() <= p {
             return refuse(Fault::Short, at);
         }
         let b = wide(s[p]);
-        p += 1;
         if b < 128 {
             let high = weight * b;
             let sum = x + high;
-            return Ok((sum, Cursor { at: p }));
+            return Ok((sum, Cursor { at: p + 1 }));
         }
         let part = weight * (b - 128);
         x += part;
         weight *= 128;
-        left -= 1;
     }
-    if s.len() <= p {
+    let ninth = at + 8;
+    if s.len() <= ninth {
         return refuse(Fault::Short, at);
     }
-    let b = wide(s[p]);
-    let next = p + 1;
+    let b = wide(s[ninth]);
     let top = weight * b;
     let sum = x + top;
-    Ok((sum, Cursor { at: next }))
+    Ok((sum, Cursor { at: ninth + 1 }))
 }
 
 // The lowest seven bits of each of the eight bytes of x, side by side: joined in twos, then in fours, then all eight. The twos are a
@@ -327,7 +317,7 @@ impl Cursor {
             let next = Cursor { at: at + 9 };
             return Run { count: 1, next };
         }
-        let count = u64::count_ones(marked) as u64;
+        let count = u64::from(u64::count_ones(marked));
         let behind = u64::leading_zeros(marked) / 8;
         let next = Cursor {
             at: at + ((8 - behind) as usize),
