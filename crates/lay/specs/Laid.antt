@@ -1,6 +1,6 @@
 -- A text laid into lent bytes: what does not fit is not stored, but counted. Assumes nothing.
 use Rattle.std.specs.Prelude.{◌≡◌, refl, List, [], ◌∷◌, ◌++◌, ℕ, suc, ◌+◌, ◌-◌, ◌^◌, ◌≤◌, ◌<◌, min, length, get_or, drop, set}
-use Rattle.std.proofs.Common.{sym, ◌∙◌, ap, append_assoc, append-nil, arith, add-one, add-zero, le_of_lt, lt_of_not-le, length-append, length-set, drop-cons}
+use Rattle.std.proofs.Common.{sym, ◌∙◌, ap, append_assoc, append-nil, arith, add-one, add-zero, le_of_lt, lt_of_not-le, length-append, length-set, drop_of_length-le, drop-cons}
 use Rattle.std.proofs.Math.Nat.{min-eq_left, min-eq_right}
 use Rattle.std.proofs.Math.Decide.{dec_le}
 use Rattle.std.proofs.lemmas.List.Edits.{sets}
@@ -81,6 +81,28 @@ laid-over {l} {w} {at} h le is = record { bytes = sym (sets-out w l at le); next
 -- one that fits wholly
 pub laid-whole : {l w m : List ℕ} {at : ℕ} → length l ≤ most → at + length w ≤ length l → m ≡ sets l at w → Laid l at w m (at + length w)
 laid-whole h fits is = record { bytes = is; next = sym (min-eq_left (omega arith)); room = h }
+
+-- bytes that are stored one by one
+pub record Storing (l : List ℕ) (at : ℕ) (w m : List ℕ) (i : ℕ) : Type 0 where
+  pub long : length m ≡ length l
+  pub within : i ≤ length w
+  pub same : sets m (at + i) (drop i w) ≡ sets l at w
+
+pub storing-start : (l : List ℕ) (at : ℕ) (w : List ℕ) → Storing l at w l 0
+storing-start l at w = record { long = refl; within = omega arith; same = rw add-zero }
+
+module _ {l : List ℕ} {at : ℕ} {w m : List ℕ} {i : ℕ} (g : Storing l at w m i) where
+  pub storing-on : i < length w → Storing l at w (set m (at + i) (get_or w i 0)) (i + 1)
+  storing-on lt =
+      let next : at + (i + 1) ≡ suc (at + i) = omega arith in
+      record {
+        long = length-set m (at + i) (get_or w i 0) ∙ g.long;
+        within = omega arith;
+        same = rw (next, add-one) (rw (drop-cons w i 0 lt) at g.same);
+      }
+
+  pub storing-done : length w ≤ i → m ≡ sets l at w
+  storing-done le = rw (drop_of_length-le w le) at g.same
 
 -- ── loops: what is left to write leads to the whole ──
 

@@ -24,12 +24,15 @@ pub fn behind(at: usize, n: usize) -> usize
     at.saturating_add(n)
 }
 
-// The bytes of a text, all of which fit.
+// The bytes of a text, all of which fit. The compiler makes one `memcpy` of the loop; `copy_from_slice` asks for `memmove`, which the
+// library for C does without.
 fn store(out: &mut [u8], at: usize, s: &[u8])
     requires { at + length s.now ≤ length out.old }
     ensures { out.new ≡ sets out.old at s.now }
 {
-    out[at..at + s.len()].copy_from_slice(s);
+    for (i, &b) in s.iter().enumerate() {
+        out[at + i] = b;
+    }
 }
 
 // The bytes of a text, one by one, of which some may fit.
