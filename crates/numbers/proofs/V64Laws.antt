@@ -143,10 +143,6 @@ module _ {f : List ℕ} {at x w p left : ℕ} (R : Reading f at x w p left) wher
       let m = mul-le-mul_left {m = b} {n = 255} w (omega arith) in
       (omega arith, omega arith, omega arith)
 
-  -- before the ninth
-  pub reading-ninth : left ≡ 0 → p ≡ at + 8 → Reading f at x w (at + 8) 0
-  reading-ninth none here = rw (none, here) at R
-
   pub reading-cut : length f ≤ p → Read v64 (2 ^ 64) f at (Err (record { fault = Short; place = at }))
   unfolding finish
   reading-cut h = answer-no (R.means ∙ rw (cut f p left h)) (lit< tt)
