@@ -12,12 +12,6 @@ returns-then-t-at-2 c = not_there
 pub loop-i-init : goal.loop-i-init
 loop-i-init c = hexes-none _ _ _ (omega arith)
 
-pub overflow_add-at : goal.overflow_add-at
-overflow_add-at c = omega (arith, c.loop-i.invariant.within)
-
-pub bounds-t-at : goal.bounds-t-at
-bounds-t-at c = omega (arith, c.loop-i.invariant.within)
-
 pub loop-i-preserved : goal.loop-i-preserved
 loop-i-preserved c = elim c.if-not-is_hex.branch [
   | then-not-is_hex w ↦ rw w.others-is (hexes-other c.loop-i.invariant (omega arith))

@@ -3,9 +3,6 @@ use Rattle.words.specs.ReadBytes.{peeked-in}
 use Rattle.words.specs.ReadDecimals.{digit-inside, natural-not, natural-nought, sure-start, sure-end, sure-room, sure-on}
 use Rattle.words.proofs.read.Place.natural.Goals as goal
 
-pub digit-first-requires : goal.digit-first-requires
-digit-first-requires c = c.peek.ensures.small
-
 pub returns-then-first-ge10 : goal.returns-then-first-ge10
 returns-then-first-ge10 c = natural-not c.peek.ensures c.digit-first.ensures (omega arith)
 
