@@ -14,31 +14,24 @@ pub fn put(out: &mut [u8], at: usize, b: u8) -> usize
         out[at] = b;
         return at + 1;
     }
-    if at < 18446744073709551615 {
-        return at + 1;
-    }
-    at
+    behind(at, 1)
 }
 
 // The place n behind another; it stands still at the largest number.
 pub fn behind(at: usize, n: usize) -> usize
     ensures { result ≡ min (at + n) most }
 {
-    if n <= 18446744073709551615 - at {
-        return at + n;
-    }
-    18446744073709551615
+    at.saturating_add(n)
 }
 
-// The bytes of a text, all of which fit.
+// The bytes of a text, all of which fit. The compiler makes one `memcpy` of the loop; `copy_from_slice` asks for `memmove`, which the
+// library for C does without.
 fn store(out: &mut [u8], at: usize, s: &[u8])
     requires { at + length s.now ≤ length out.old }
     ensures { out.new ≡ sets out.old at s.now }
 {
-    let mut i: usize = 0;
-    while i < s.len() {
-        out[at + i] = s[i];
-        i += 1;
+    for (i, &b) in s.iter().enumerate() {
+        out[at + i] = b;
     }
 }
 
@@ -47,10 +40,8 @@ fn put_some(out: &mut [u8], at: usize, s: &[u8]) -> usize
     ensures { Laid out.old at s.now out.new result }
 {
     let mut p = at;
-    let mut i: usize = 0;
-    while i < s.len() {
-        p = put(out, p, s[i]);
-        i += 1;
+    for &b in s {
+        p = put(out, p, b);
     }
     p
 }

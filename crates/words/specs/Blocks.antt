@@ -89,34 +89,31 @@ unhexed-at (suc k) t at (suc i) h =
     let place : at + 2 + 2 * i ≡ at + 2 * suc i = omega arith in
     rw place at (unhexed-at k t (at + 2) i (omega arith))
 
--- ── the number of n digits: v is that of the first i, which end at p ──
+-- ── the number of n digits: v is that of the first i ──
 
-pub record Valued (t : List ℕ) (at n p v i : ℕ) : Type 0 where
+pub record Valued (t : List ℕ) (at n v i : ℕ) : Type 0 where
   pub there : Hexes t at n
-  pub within : i ≤ n
-  pub place : p ≡ at + i
   pub small : v < 16 ^ i
-  pub same : hex_on (n - i) v t p ≡ hex_on n 0 t at
+  pub same : hex_on (n - i) v t (at + i) ≡ hex_on n 0 t at
 
-pub valued-none : (t : List ℕ) (at n : ℕ) → Hexes t at n → Valued t at n at 0 0
-valued-none t at n H = record { there = H; within = omega arith; place = omega arith; small = omega arith; same = rw sub-zero }
+pub valued-none : (t : List ℕ) (at n : ℕ) → Hexes t at n → Valued t at n 0 0
+valued-none t at n H = record { there = H; small = omega arith; same = rw (sub-zero, add-zero) }
 
-module _ {t : List ℕ} {at n p v i : ℕ} (G : Valued t at n p v i) where
-  pub valued-on : {x : ℕ} → i < n → x ≡ value_of (get_or t p 0) → get_or t p 0 < 256 → Valued t at n (p + 1) (16 * v + x) (i + 1)
+module _ {t : List ℕ} {at n v i : ℕ} (G : Valued t at n v i) where
+  pub valued-on : {x : ℕ} → i < n → x ≡ value_of (get_or t (at + i) 0) → get_or t (at + i) 0 < 256 → Valued t at n (16 * v + x) (i + 1)
   valued-on {x} lt is byte =
-      let seen = peeked-in t p (omega (arith, G.there.inside, G.place)) byte in
-      let digit : x ≡ nibble (get_or t p 0) = is ∙ sym (rw (← G.place) at (G.there.each i lt)) in
-      let low : x < 16 = rw is (value-small (get_or t p 0)) in
+      let seen = peeked-in t (at + i) (omega (arith, G.there.inside)) byte in
+      let digit : x ≡ nibble (get_or t (at + i) 0) = is ∙ sym (G.there.each i lt) in
+      let low : x < 16 = rw is (value-small (get_or t (at + i) 0)) in
+      let next : at + (i + 1) ≡ at + i + 1 = omega arith in
       record {
         there = G.there;
-        within = omega arith;
-        place = omega (arith, G.place);
         small = hex-grows i v x G.small low;
-        same = sym (hex-on seen digit n i v lt low) ∙ G.same;
+        same = rw next (sym (hex-on seen digit n i v lt low) ∙ G.same);
       }
 
-  pub valued-all : n ≤ i → got v p ≡ hex_on n 0 t at
-  valued-all h = sym (hex-all n i v t p h) ∙ G.same
+  pub valued-all : i ≡ n → got v (at + n) ≡ hex_on n 0 t at
+  valued-all e = rw e at (sym (hex-all n i v t (at + i) (omega arith)) ∙ G.same)
 
 -- ── a reading goes over them ──
 

@@ -1,7 +1,8 @@
 -- Hex digits two in a number, the first of them its low byte: told from other bytes, and reckoned. Assumes nothing.
-use Rattle.std.specs.Prelude.{◌≡◌, refl, true, false, List, ℕ, ◌+◌, ◌*◌, ◌/◌, ◌%◌, ◌^◌, ◌≤◌, ◌<◌, length, get_or, set}
+use Rattle.std.specs.Prelude.{◌≡◌, refl, true, false, List, [], ◌∷◌, ℕ, ◌+◌, ◌*◌, ◌/◌, ◌%◌, ◌^◌, ◌≤◌, ◌<◌, length, get_or, set}
 use Rattle.std.proofs.Common.{sym, ◌∙◌, ap, ap₂, subst, arith, length-set, get_or-set_same, get_or-set_other, ext_get_or}
 use native.Nat.{ℕᴺ_discrete}
+use Rattle.std.specs.Int.{w32, from_le_bytes}
 use Rattle.std.specs.Int.Bits.{bit_and}
 use Rattle.std.proofs.lemmas.Nat.{and_block, and_mask}
 use Rattle.paper.specs.Scan.{nibble}
@@ -148,19 +149,23 @@ module _ (x y : ℕ) (h : x < 65536) where
   high_half : (x + 65536 * y) / 65536 ≡ y
   high_half = omega arith
 
+le_four : (a b c d : ℕ) → from_le_bytes w32 (a ∷ b ∷ c ∷ d ∷ []) ≡ a + 256 * b + 65536 * (c + 256 * d)
+le_four a b c d = omega arith
+
 pub four_is :
-    (t : List ℕ) (p : ℕ) → ((i : ℕ) → get_or t i 0 < 256)
-    → Four t p (get_or t p 0 + 256 * get_or t (p + 1) 0 + 65536 * (get_or t (p + 2) 0 + 256 * get_or t (p + 3) 0))
-four_is t p small =
+    (t : List ℕ) (p w : ℕ) → ((i : ℕ) → get_or t i 0 < 256)
+    → w ≡ from_le_bytes w32 (get_or t p 0 ∷ get_or t (p + 1) 0 ∷ get_or t (p + 2) 0 ∷ get_or t (p + 3) 0 ∷ [])
+    → Four t p w
+four_is t p w small is =
     let x = get_or t p 0 + 256 * get_or t (p + 1) 0 in
     let y = get_or t (p + 2) 0 + 256 * get_or t (p + 3) 0 in
     let h : get_or t p 0 + 256 * get_or t (p + 1) 0 < 65536 = omega (arith, small p, small (p + 1)) in
-    record {
+    rw (is, le_four (get_or t p 0) (get_or t (p + 1) 0) (get_or t (p + 2) 0) (get_or t (p + 3) 0)) (record {
       one = ap (λ (n : ℕ). n % 256) (low_half x y h) ∙ low_byte (get_or t p 0) (get_or t (p + 1) 0) (small p);
       two = ap (λ (n : ℕ). n / 256) (low_half x y h) ∙ high_byte (get_or t p 0) (get_or t (p + 1) 0) (small p);
       three = ap (λ (n : ℕ). n % 256) (high_half x y h) ∙ low_byte (get_or t (p + 2) 0) (get_or t (p + 3) 0) (small (p + 2));
       four = ap (λ (n : ℕ). n / 256) (high_half x y h) ∙ high_byte (get_or t (p + 2) 0) (get_or t (p + 3) 0) (small (p + 2));
-    }
+    })
 
 -- the first i numbers are the bytes from a place on
 pub record Foured (t : List ℕ) (at : ℕ) (fs : List ℕ) (i : ℕ) : Type 0 where

@@ -47,14 +47,14 @@ module _ {t : List ℕ} {at b : ℕ} (k : Peeked t at b) where
 
 -- ── these bytes ──
 
-module _ {t w : List ℕ} {at i a b : ℕ} (j : Peeked w i b) (h : i < length w) (k : Peeked t at a) where
-  pub literal-on : a ≡ b → literal (drop i w) t at ≡ literal (drop (i + 1) w) t (at + 1)
+module _ (t w : List ℕ) (at i : ℕ) (h : i < length w) where
+  pub literal-on : {p : ℕ} → got tt p ≡ byte_is (get_or w i 0) t at → literal (drop i w) t at ≡ literal (drop (i + 1) w) t p
   unfolding literal ◌>>◌
-  literal-on e = rw (here j (peeked-byte j h), ← found k b e)
+  literal-on e = rw (drop-cons w i 0 h, add-one, ← e)
 
-  pub literal-not : (a ≡ b → ⊥) → literal (drop i w) t at ≡ bad 20 0
+  pub literal-not : bad 20 0 ≡ byte_is (get_or w i 0) t at → literal (drop i w) t at ≡ bad 20 0
   unfolding literal ◌>>◌
-  literal-not n = rw (here j (peeked-byte j h), ← not_found k b n)
+  literal-not e = rw (drop-cons w i 0 h, ← e)
 
 pub literal-over : (w t : List ℕ) (i at : ℕ) → length w ≤ i → literal (drop i w) t at ≡ got tt at
 unfolding literal give

@@ -4,10 +4,10 @@ ghost use Rattle.lay.specs.Laid.{Laid};
 ghost use Rattle.paper.specs.Scan.{byte_is, literal, ended, too_large?, digits_on, natural, integer, or_none, nibble, hex_on};
 ghost use Rattle.words.specs.Blocks.{value_of, Hexes};
 ghost use Rattle.words.specs.Pairs.{values_of, Values, Written, Foured, Halved, Paired, Unpaired, Unhexes};
-ghost use Rattle.words.specs.Answers.{out_step, out_number, out_bits, out_maybe, Peeked, Digit, Unhexed};
+ghost use Rattle.words.specs.Answers.{out_step, out_number, out_bits, out_maybe, Peeked, Digit, Nibble, Unhexed};
 
+use crate::HALF;
 use crate::write::room;
-use crate::{HALF, MOST};
 
 const DASH: u64 = 45;
 
@@ -27,17 +27,19 @@ pub struct Bytes {
     pub at: usize,
 }
 
-// The byte at a place. Past the end there is none, and 256 is no byte: so a reader has no test of the length.
+// The byte at a place. Past the end there is none, and 256 is no byte: so a reader has no test of the length. A number and not an
+// `Option`, since the reader then asks once, as each of them asks for a byte or a range of bytes.
 pub fn peek(t: &[u8], at: usize) -> u64
     ensures { Peeked t.now at result }
 {
     if at < t.len() {
-        return t[at] as u64;
+        return u64::from(t[at]);
     }
     256
 }
 
-// A digit's value, 10 or more for any other byte: 0 to 9 are the bytes 48 to 57, and a byte below them goes round.
+// A digit's value, 10 or more for any other byte: 0 to 9 are the bytes 48 to 57, and a byte below them goes round. One sum and no
+// `Option`: a digit is told from another byte by one comparison, in the loop that reads most of a listing.
 fn digit(b: u64) -> u64
     requires { b ≤ 256 }
     ensures { Digit b result }
@@ -50,32 +52,32 @@ fn too_large(v: u64, d: u64) -> bool
     requires { d < 10 }
     ensures { result ≡ too_large? v d }
 {
-    if v < MOST / 10 {
+    if v < u64::MAX / 10 {
         return false;
     }
-    if MOST / 10 < v {
+    if u64::MAX / 10 < v {
         return true;
     }
-    MOST % 10 < d
+    u64::MAX % 10 < d
 }
 
-// A hex digit's value, 16 for any other byte: a to f are the bytes 97 to 102.
-fn nibble(b: u64) -> u64
-    ensures { (result ≡ nibble b) × (result ≤ 16) }
+// A hex digit's value: a to f are the bytes 97 to 102.
+fn nibble(b: u64) -> Option<u64>
+    ensures { Nibble b result }
 {
     if b < 48 {
-        return 16;
+        return None;
     }
     if b <= 57 {
-        return b - 48;
+        return Some(b - 48);
     }
     if b < 97 {
-        return 16;
+        return None;
     }
     if b <= 102 {
-        return b - 87;
+        return Some(b - 87);
     }
-    16
+    None
 }
 
 // The value of a hex digit by its bits: those of a letter are 1 to 6. Reckoned and not asked, since nothing foretells which digit
@@ -106,12 +108,10 @@ fn digits_there(t: &[u8], at: usize, n: usize) -> bool
         return false;
     }
     let mut others: u8 = 0;
-    let mut i: usize = 0;
-    while i < n {
+    for i in 0..n {
         if !is_hex(t[at + i]) {
             others = 1;
         }
-        i += 1;
     }
     others == 0
 }
@@ -121,15 +121,11 @@ fn hex_value(t: &[u8], at: usize, n: usize) -> Scanned<u64>
     requires { Hexes t.now at n × (n ≤ 16) }
     ensures { out_number result ≡ hex_on n 0 t.now at }
 {
-    let mut p = at;
     let mut v: u64 = 0;
-    let mut i: usize = 0;
-    while i < n {
-        v = 16 * v + value_of(t[p]) as u64;
-        p += 1;
-        i += 1;
+    for i in 0..n {
+        v = 16 * v + u64::from(value_of(t[at + i]));
     }
-    Some((v, Place { at: p }))
+    Some((v, Place { at: at + n }))
 }
 
 // The number of n hex digits, one by one, up to the first byte that is none.
@@ -139,15 +135,10 @@ fn hex_in_turn(t: &[u8], at: usize, n: usize) -> Scanned<u64>
 {
     let mut p = at;
     let mut v: u64 = 0;
-    let mut i: usize = 0;
-    while i < n {
-        let d = nibble(peek(t, p));
-        if 16 <= d {
-            return None;
-        }
+    for _i in 0..n {
+        let d = nibble(peek(t, p))?;
         v = 16 * v + d;
         p += 1;
-        i += 1;
     }
     Some((v, Place { at: p }))
 }
@@ -157,13 +148,9 @@ fn copy_fours(t: &[u8], at: usize, fours: &mut [u32])
     requires { (at + 64 ≤ length t.now) × (length fours.old ≡ 16) }
     ensures { Foured t.now at fours.new 16 }
 {
-    let mut i: usize = 0;
-    while i < 16 {
+    for i in 0..16 {
         let p = at + 4 * i;
-        let low = t[p] as u32 + 256 * (t[p + 1] as u32);
-        let high = t[p + 2] as u32 + 256 * (t[p + 3] as u32);
-        fours[i] = low + 65536 * high;
-        i += 1;
+        fours[i] = u32::from_le_bytes([t[p], t[p + 1], t[p + 2], t[p + 3]]);
     }
 }
 
@@ -172,12 +159,10 @@ fn halve_fours(fours: &[u32], pairs: &mut [u16])
     requires { (length fours.now ≡ 16) × (length pairs.old ≡ 32) }
     ensures { Halved fours.now pairs.new 16 }
 {
-    let mut i: usize = 0;
-    while i < 16 {
+    for i in 0..16 {
         let four = fours[i];
         pairs[2 * i] = (four % 65536) as u16;
         pairs[2 * i + 1] = (four / 65536) as u16;
-        i += 1;
     }
 }
 
@@ -213,15 +198,13 @@ fn unhex_pairs(pairs: &[u16], bytes: &mut [u8]) -> bool
     ensures { result ≡ true → Unpaired pairs.now bytes.new 0 32 }
 {
     let mut others: u16 = 0;
-    let mut i: usize = 0;
-    while i < 32 {
+    for i in 0..32 {
         let pair = pairs[i];
         let values = values_of(pair);
         if pair != written(values) {
             others = 1;
         }
         bytes[i] = (values % 16 * 16 + values / 256) as u8;
-        i += 1;
     }
     others == 0
 }
@@ -242,27 +225,25 @@ fn unhex_block(t: &[u8], at: usize, bytes: &mut [u8]) -> bool
     unhex_pairs(&pairs, bytes)
 }
 
-// Bytes in hex, one by one, as long as there are any, laid into a buffer from q on.
+// Bytes in hex, one by one, as long as there are any, laid into a buffer from `at` on. Nothing tells beforehand how many there are.
 fn hex_pairs(t: &[u8], from: usize, out: &mut [u8], at: usize) -> Bytes
     ensures { Unhexed t.now from out.old at out.new result }
 {
     let mut p = from;
     let mut q = at;
     loop {
-        let a = nibble(peek(t, p));
-        if a == 16 {
+        let Some(a) = nibble(peek(t, p)) else {
             return Bytes {
                 next: Place { at: p },
                 at: q,
             };
-        }
-        let b = nibble(peek(t, p + 1));
-        if b == 16 {
+        };
+        let Some(b) = nibble(peek(t, p + 1)) else {
             return Bytes {
                 next: Place { at: p },
                 at: q,
             };
-        }
+        };
         q = lay::put(out, q, (a * 16 + b) as u8);
         p += 2;
     }
@@ -270,7 +251,7 @@ fn hex_pairs(t: &[u8], from: usize, out: &mut [u8], at: usize) -> Bytes
 
 // Up to where digits from a place on, of a text so long, fit 64 bits whichever they are: 19 do.
 fn sure_digits(all: usize, at: usize) -> usize
-    ensures { (result ≤ all) × (result ≤ at + 19) }
+    ensures { (result ≤ all) × (result ≤ at + 19) × (at < all → at < result) }
 {
     if room(all, at) < 19 {
         return all;
@@ -278,7 +259,7 @@ fn sure_digits(all: usize, at: usize) -> usize
     at + 19
 }
 
-// A decimal that begins with the number v and has more digits, if any stand there.
+// A decimal that begins with the number v and has more digits, if any stand there. Only the byte behind them ends the loop.
 fn more_digits(t: &[u8], at: usize, first: u64) -> Scanned<u64>
     ensures { out_number result ≡ digits_on first at (drop at t.now) }
 {
@@ -315,17 +296,11 @@ impl Place {
     pub fn literal(self, t: &[u8], w: &[u8]) -> Option<Place>
         ensures { out_step result ≡ literal w.now t.now self.at }
     {
-        let mut p = self.at;
-        let mut i: usize = 0;
-        while i < w.len() {
-            let b = peek(w, i);
-            if peek(t, p) != b {
-                return None;
-            }
-            p += 1;
-            i += 1;
+        let mut p = self;
+        for &b in w {
+            p = p.byte(t, u64::from(b))?;
         }
-        Some(Place { at: p })
+        Some(p)
     }
 
     // A decimal below 2 ^ 64. Behind a first 0 there is no more of it.
@@ -343,16 +318,14 @@ impl Place {
         }
         let sure = sure_digits(t.len(), at);
         let mut v = first;
-        let mut p = next;
-        while p < sure {
-            let d = digit(t[p] as u64);
+        for p in next..sure {
+            let d = digit(u64::from(t[p]));
             if 10 <= d {
                 return Some((v, Place { at: p }));
             }
             v = 10 * v + d;
-            p += 1;
         }
-        more_digits(t, p, v)
+        more_digits(t, sure, v)
     }
 
     // A decimal and the byte that ends it.
@@ -380,7 +353,7 @@ impl Place {
             if HALF < n {
                 return None;
             }
-            return Some((MOST - (n - 1), c));
+            return Some((u64::MAX - (n - 1), c));
         }
         let (n, c) = self.natural(t)?;
         if HALF <= n {

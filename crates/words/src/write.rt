@@ -6,7 +6,7 @@ ghost use Rattle.paper.specs.Listing.{glyph, decimal, decimalℤ, hex_digits, he
 ghost use Rattle.paper.specs.Numbers.{signed, unsigned};
 ghost use Rattle.words.specs.Stored.{Stored, Reached, Size, lasts};
 
-use crate::{HALF, MOST};
+use crate::HALF;
 
 // A digit of base ten or sixteen, in lower case: from 10 on it stands 39 further. Reckoned and not asked, since nothing
 // foretells which digit comes.
@@ -29,10 +29,7 @@ pub fn put_glyph(out: &mut [u8], at: usize, d: u64) -> usize
 pub fn room(all: usize, at: usize) -> usize
     ensures { result ≡ all - at }
 {
-    if all < at {
-        return 0;
-    }
-    all - at
+    all.saturating_sub(at)
 }
 
 // 1 from the bound up, and 0 below it. Reckoned with, and not asked: nothing foretells how many digits a number has.
@@ -178,7 +175,11 @@ pub fn put_decimal(out: &mut [u8], at: usize, x: u64) -> usize
 fn size_of(bits: u64) -> u64
     ensures { Size bits result }
 {
-    if HALF <= bits { MOST - bits + 1 } else { bits }
+    if HALF <= bits {
+        u64::MAX - bits + 1
+    } else {
+        bits
+    }
 }
 
 // The signed number of these 64 bits, where there is room for a sign and 20 digits: the place behind it. The sign is always stored:
@@ -203,19 +204,14 @@ pub fn put_integer(out: &mut [u8], at: usize, bits: u64) -> usize
         return put_some_digits(out, at, bits);
     }
     let next = lay::put(out, at, b'-');
-    put_some_digits(out, next, MOST - bits + 1)
+    put_some_digits(out, next, u64::MAX - bits + 1)
 }
 
 // The 64 bits of a signed number.
 pub fn bits_of(z: i64) -> u64
     ensures { result ≡ unsigned 8 z }
 {
-    if z < 0 {
-        let up = -1 - z;
-        let less = up as u64;
-        return MOST - less;
-    }
-    z as u64
+    z.cast_unsigned()
 }
 
 pub fn put_signed(out: &mut [u8], at: usize, z: i64) -> usize
@@ -240,12 +236,10 @@ pub fn store_hex(out: &mut [u8], at: usize, n: usize, x: u64)
     requires { at + n ≤ length out.old }
     ensures { out.new ≡ sets out.old at (hex_digits n x) }
 {
-    let mut k = n;
     let mut left = x;
-    while 0 < k {
-        k -= 1;
+    for k in (0..n).rev() {
         out[at + k] = glyph_of(left % 16);
-        left = left / 16;
+        left /= 16;
     }
 }
 
@@ -254,9 +248,7 @@ fn put_some_hex(out: &mut [u8], at: usize, n: usize, x: u64) -> usize
     ensures { Laid out.old at (hex_digits n x) out.new result }
 {
     let mut p = at;
-    let mut k = n;
-    while 0 < k {
-        k -= 1;
+    for k in (0..n).rev() {
         p = put_glyph(out, p, hex_digit(x, k));
     }
     p
@@ -281,7 +273,7 @@ pub fn put_hex(out: &mut [u8], at: usize, n: usize, x: u64) -> usize
 fn put_pair(out: &mut [u8], at: usize, b: u8) -> usize
     ensures { Laid out.old at (hex_digits 2 b) out.new result }
 {
-    let x = b as u64;
+    let x = u64::from(b);
     let next = put_glyph(out, at, x / 16);
     put_glyph(out, next, x % 16)
 }
@@ -291,12 +283,10 @@ fn store_hex_bytes(out: &mut [u8], at: usize, s: &[u8])
     requires { at + 2 * length s.now ≤ length out.old }
     ensures { out.new ≡ sets out.old at (hex s.now) }
 {
-    let mut i: usize = 0;
-    while i < s.len() {
-        let x = s[i] as u64;
+    for (i, &b) in s.iter().enumerate() {
+        let x = u64::from(b);
         out[at + 2 * i] = glyph_of(x / 16);
         out[at + 2 * i + 1] = glyph_of(x % 16);
-        i += 1;
     }
 }
 
@@ -305,10 +295,8 @@ fn put_some_pairs(out: &mut [u8], at: usize, s: &[u8]) -> usize
     ensures { Laid out.old at (hex s.now) out.new result }
 {
     let mut p = at;
-    let mut i: usize = 0;
-    while i < s.len() {
-        p = put_pair(out, p, s[i]);
-        i += 1;
+    for &b in s {
+        p = put_pair(out, p, b);
     }
     p
 }

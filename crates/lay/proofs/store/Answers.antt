@@ -5,14 +5,8 @@ use Rattle.lay.proofs.store.Goals as goal
 pub loop-i-init : goal.loop-i-init
 loop-i-init c = storing-start _ _ _
 
-pub bounds-out-at : goal.bounds-out-at
-bounds-out-at c = omega (arith, c.requires, c.loop-i.invariant.long)
-
 pub loop-i-preserved : goal.loop-i-preserved
-loop-i-preserved c = storing-on c.loop-i.invariant c.loop-i-test.true
-
-pub shape_of-out : goal.shape_of-out
-shape_of-out c = c.loop-i.invariant.long
+loop-i-preserved c = storing-on c.loop-i.invariant (omega arith)
 
 pub returns : goal.returns
-returns c = storing-done c.loop-i.invariant c.loop-i-test.false
+returns c = storing-done c.loop-i.invariant (omega arith)

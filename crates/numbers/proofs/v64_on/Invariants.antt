@@ -1,8 +1,6 @@
+use Rattle.std.proofs.Common.{◌-◌}
 use Rattle.numbers.proofs.V64Laws.{Reading}
 use Rattle.numbers.proofs.v64_on.Given as goal
 
-abbrev pub invariant-loop-left : goal.invariant-loop-left
-invariant-loop-left l = Reading l.s l.at l.x l.weight l.p l.left
-
-abbrev pub decreases-loop-left : goal.decreases-loop-left
-decreases-loop-left l = l.left
+abbrev pub invariant-loop-i : goal.invariant-loop-i
+invariant-loop-i l = Reading l.s l.at l.x l.weight l.p (7 - l._i)

@@ -13,4 +13,4 @@ pub overflow_add-result-2 : goal.overflow_add-result-2
 overflow_add-result-2 c = omega (arith, trailing_le 64 c.ends-marked.result)
 
 pub returns : goal.returns
-returns c = passed-word (record { is = c.low_first.ensures; room = omega arith; small = λ i. omega (arith, c.shared_slice_known-1.given i) }) c.ends-marked.ensures (omega arith)
+returns c = passed-word (record { is = c.low_first.ensures; room = omega arith; small = λ i. omega (arith, c.type_inv.s i) }) c.ends-marked.ensures (omega arith)

@@ -5,26 +5,8 @@ use Rattle.numbers.proofs.Cursor.take_v64.Goals as goal
 pub returns-then-a-lt128 : goal.returns-then-a-lt128
 returns-then-a-lt128 c = taken-one (omega arith) _ c.wide-a.ensures.0 c.if-a-lt128.true
 
-pub overflow_mul-result : goal.overflow_mul-result
-overflow_mul-result c = omega (arith, c.wide-b.ensures.1)
-
-pub overflow_add-result : goal.overflow_add-result
-overflow_add-result c = omega (arith, c.wide-b.ensures.1, c.wide-a.ensures.1)
-
 pub returns-then-b-lt128 : goal.returns-then-b-lt128
 returns-then-b-lt128 c = taken-two (omega arith) _ c.wide-a.ensures.0 c.if-a-lt128.false c.wide-a.ensures.1 _ c.wide-b.ensures.0 c.if-b-lt128.true
-
-pub overflow_mul-result-then-c-lt128 : goal.overflow_mul-result-then-c-lt128
-overflow_mul-result-then-c-lt128 c = omega (arith, c.wide-c.ensures.1)
-
-pub overflow_add-result-then-c-lt128 : goal.overflow_add-result-then-c-lt128
-overflow_add-result-then-c-lt128 c = omega (arith, c.wide-c.ensures.1, c.wide-b.ensures.1)
-
-pub overflow_mul-result-then-c-lt128-2 : goal.overflow_mul-result-then-c-lt128-2
-overflow_mul-result-then-c-lt128-2 c = omega (arith, c.wide-c.ensures.1, c.wide-b.ensures.1)
-
-pub overflow_add-result-then-c-lt128-2 : goal.overflow_add-result-then-c-lt128-2
-overflow_add-result-then-c-lt128-2 c = omega (arith, c.wide-c.ensures.1, c.wide-b.ensures.1, c.wide-a.ensures.1)
 
 pub returns-then-c-lt128 : goal.returns-then-c-lt128
 returns-then-c-lt128 c = taken-three (omega arith) _ c.wide-a.ensures.0 c.if-a-lt128.false c.wide-a.ensures.1 _ c.wide-b.ensures.0 c.if-b-lt128.false c.wide-b.ensures.1 _ c.wide-c.ensures.0 c.if-c-lt128.true

@@ -10,8 +10,5 @@ loop-left-init g c = lowering-start _ _ _ _ (omega arith) (omega arith) c.requir
 pub loop-left-preserved : goal.loop-left-preserved
 loop-left-preserved g c = lowering-more c.loop-left.invariant (omega arith) c.put-p.ensures
 
-pub shape_of-out : goal.shape_of-out
-shape_of-out g c = c.loop-left.invariant.leads.long
-
 pub returns : goal.returns
 returns g c = lowering-end c.loop-left.invariant (omega arith)

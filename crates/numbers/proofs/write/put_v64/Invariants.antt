@@ -2,7 +2,4 @@ use Rattle.numbers.proofs.WriteLaws.{Writing}
 use Rattle.numbers.proofs.write.put_v64.Given as goal
 
 abbrev pub invariant-loop-left : goal.invariant-loop-left
-invariant-loop-left l = Writing l.initial.out l.at l.x l.out l.p l.rest l.left
-
-abbrev pub decreases-loop-left : goal.decreases-loop-left
-decreases-loop-left l = l.left
+invariant-loop-left l = Writing l.initial.out l.at l.x l.out l.p l.rest l._left

@@ -12,16 +12,10 @@ returns-then-t-at-2 c = not_there
 pub loop-i-init : goal.loop-i-init
 loop-i-init c = hexes-none _ _ _ (omega arith)
 
-pub overflow_add-at : goal.overflow_add-at
-overflow_add-at c = omega (arith, c.loop-i.invariant.within)
-
-pub bounds-t-at : goal.bounds-t-at
-bounds-t-at c = omega (arith, c.loop-i.invariant.within)
-
 pub loop-i-preserved : goal.loop-i-preserved
 loop-i-preserved c = elim c.if-not-is_hex.branch [
-  | then-not-is_hex w ↦ rw w.others-is (hexes-other c.loop-i.invariant c.loop-i-test.true)
-  | else-not-is_hex w ↦ rw w.others-is (hexes-on c.loop-i.invariant c.loop-i-test.true (c.is_hex.ensures w.if-not-is_hex.false))
+  | then-not-is_hex w ↦ rw w.others-is (hexes-other c.loop-i.invariant (omega arith))
+  | else-not-is_hex w ↦ rw w.others-is (hexes-on c.loop-i.invariant (omega arith) (c.is_hex.ensures w.if-not-is_hex.false))
 ]
 
 pub returns : goal.returns

@@ -1,14 +1,10 @@
-use Rattle.std.proofs.Common.{◌≡◌, List, ℕ, ◌-◌, ◌^◌, ◌≤◌, ◌<◌}
+use Rattle.std.proofs.Common.{◌≡◌, List, ℕ, ◌-◌, ◌^◌, ◌<◌}
 use Rattle.paper.specs.Scan.{hex_on}
 use Rattle.words.proofs.read.hex_in_turn.Given as goal
 
 pub record Left (t : List ℕ) (n at p v i : ℕ) : Type 0 where
-  pub within : i ≤ n
   pub small : v < 16 ^ i
   pub same : hex_on (n - i) v t p ≡ hex_on n 0 t at
 
 abbrev pub invariant-loop-i : goal.invariant-loop-i
-invariant-loop-i l = Left l.t l.n l.at l.p l.v l.i
-
-abbrev pub decreases-loop-i : goal.decreases-loop-i
-decreases-loop-i l = l.n - l.i
+invariant-loop-i l = Left l.t l.n l.at l.p l.v l._i

@@ -1,32 +1,30 @@
-use Rattle.std.proofs.Common.{arith}
+use Rattle.std.proofs.Common.{sym, arith}
 use Rattle.lay.specs.Laid.{most}
 use Rattle.words.specs.ReadHexes.{inside, pairs-none, pairs-half, pairs-more, unhexing-start, unhexing-on, unhexed}
 use Rattle.words.proofs.read.hex_pairs.Goals as goal
 
-pub loop-from-init : goal.loop-from-init
+pub loop-a-init : goal.loop-a-init
 unfolding most
-loop-from-init c = unhexing-start _ _ (omega arith) (omega arith)
+loop-a-init c = unhexing-start _ _ (omega arith) (omega arith)
 
-pub shape_of-out-then-a-eq16 : goal.shape_of-out-then-a-eq16
-shape_of-out-then-a-eq16 c = c.loop-from.invariant.long
-
-pub returns-then-a-eq16 : goal.returns-then-a-eq16
-returns-then-a-eq16 c = unhexed c.loop-from.invariant (pairs-none c.peek.ensures c.nibble-a.ensures.0 (omega arith))
+pub returns-in_default : goal.returns-in_default
+returns-in_default c = unhexed c.loop-a.invariant (pairs-none c.peek.ensures (sym c.in_default.ensures) (omega arith))
 
 pub overflow_add-p : goal.overflow_add-p
-overflow_add-p c = let h = inside c.peek.ensures c.nibble-a.ensures.0 c.if-a-eq16.false in omega arith
+overflow_add-p c = let h = inside c.peek.ensures c.in-Some.ensures.0 (λ e. omega (arith, c.in-Some.ensures.1)) in omega arith
 
-pub shape_of-out-then-b-eq16 : goal.shape_of-out-then-b-eq16
-shape_of-out-then-b-eq16 c = c.loop-from.invariant.long
+pub returns-in_default-nibble : goal.returns-in_default-nibble
+returns-in_default-nibble c = unhexed c.loop-a.invariant (pairs-half c.peek.ensures c.in-Some.ensures.0 (λ e. omega (arith, c.in-Some.ensures.1)) c.peek-in-loop-a.ensures (sym c.in_default-nibble.ensures) (omega arith))
 
-pub returns-then-b-eq16 : goal.returns-then-b-eq16
-returns-then-b-eq16 c = unhexed c.loop-from.invariant (pairs-half c.peek.ensures c.nibble-a.ensures.0 c.if-a-eq16.false c.peek-in-loop-from.ensures c.nibble-b.ensures.0 (omega arith))
+pub overflow_add-p-in-loop-a : goal.overflow_add-p-in-loop-a
+overflow_add-p-in-loop-a c = let h = inside c.peek-in-loop-a.ensures c.in-Some-nibble.ensures.0 (λ e. omega (arith, c.in-Some-nibble.ensures.1)) in omega arith
 
-pub overflow_add-p-in-loop-from : goal.overflow_add-p-in-loop-from
-overflow_add-p-in-loop-from c = let h = inside c.peek-in-loop-from.ensures c.nibble-b.ensures.0 c.if-b-eq16.false in omega arith
+pub loop-a-smaller : goal.loop-a-smaller
+loop-a-smaller c = let h = inside c.peek-in-loop-a.ensures c.in-Some-nibble.ensures.0 (λ e. omega (arith, c.in-Some-nibble.ensures.1)) in omega arith
 
-pub loop-from-smaller : goal.loop-from-smaller
-loop-from-smaller c = let h = inside c.peek-in-loop-from.ensures c.nibble-b.ensures.0 c.if-b-eq16.false in omega arith
-
-pub loop-from-preserved : goal.loop-from-preserved
-loop-from-preserved c = unhexing-on c.loop-from.invariant _ _ (pairs-more c.peek.ensures c.nibble-a.ensures.0 c.if-a-eq16.false c.peek-in-loop-from.ensures c.nibble-b.ensures.0 c.if-b-eq16.false) c.put-q.ensures
+pub loop-a-preserved : goal.loop-a-preserved
+loop-a-preserved c =
+    unhexing-on c.loop-a.invariant _ _
+    (pairs-more c.peek.ensures c.in-Some.ensures.0 (λ e. omega (arith, c.in-Some.ensures.1))
+    c.peek-in-loop-a.ensures c.in-Some-nibble.ensures.0 (λ e. omega (arith, c.in-Some-nibble.ensures.1)))
+    c.put-q.ensures

@@ -5,9 +5,6 @@ use Rattle.words.proofs.read.more_digits.Goals as goal
 pub loop-at-init : goal.loop-at-init
 loop-at-init c = record { same = refl }
 
-pub digit-d-requires : goal.digit-d-requires
-digit-d-requires c = c.peek.ensures.small
-
 pub returns-then-d-ge10 : goal.returns-then-d-ge10
 returns-then-d-ge10 c = sym (digits-end c.peek.ensures c.digit-d.ensures c.loop-at.v (omega arith)) ∙ c.loop-at.invariant.same
 

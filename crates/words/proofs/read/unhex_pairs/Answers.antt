@@ -6,9 +6,6 @@ use Rattle.words.proofs.read.unhex_pairs.Goals.{then-pair-written, else-pair-wri
 pub loop-i-init : goal.loop-i-init
 loop-i-init c = unpaired-none _ _ c.requires.1
 
-pub bounds-pairs-i : goal.bounds-pairs-i
-bounds-pairs-i c = omega (arith, c.requires.0)
-
 pub written-requires : goal.written-requires
 written-requires c = values-small _ c.values_of-values.ensures
 
@@ -18,17 +15,11 @@ overflow_add-bytes c = omega (arith, (values-small _ c.values_of-values.ensures)
 pub overflow_cast-bytes : goal.overflow_cast-bytes
 overflow_cast-bytes c = omega (arith, (values-small _ c.values_of-values.ensures).1)
 
-pub bounds-bytes-i : goal.bounds-bytes-i
-bounds-bytes-i c = omega (arith, c.loop-i.invariant.long)
-
 pub loop-i-preserved : goal.loop-i-preserved
 loop-i-preserved c = elim c.if-pair-written.branch [
-  | then-pair-written w ↦ rw w.others-is (unpaired-other c.loop-i.invariant c.loop-i-test.true _)
-  | else-pair-written w ↦ rw w.others-is (unpaired-on c.loop-i.invariant c.loop-i-test.true (two _ c.values_of-values.ensures c.written.ensures w.if-pair-written.false))
+  | then-pair-written w ↦ rw w.others-is (unpaired-other c.loop-i.invariant (omega arith) _)
+  | else-pair-written w ↦ rw w.others-is (unpaired-on c.loop-i.invariant (omega arith) (two _ c.values_of-values.ensures c.written.ensures w.if-pair-written.false))
 ]
 
-pub shape_of-bytes : goal.shape_of-bytes
-shape_of-bytes c = omega (arith, c.loop-i.invariant.long, c.requires.1)
-
 pub returns : goal.returns
-returns c t = unpaired-all c.loop-i.invariant c.loop-i-test.false (eqb-true _ 0 t)
+returns c t = unpaired-all c.loop-i.invariant (omega arith) (eqb-true _ 0 t)

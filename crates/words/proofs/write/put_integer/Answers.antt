@@ -4,9 +4,6 @@ use Rattle.words.specs.Stored.{stored-laid}
 use Rattle.words.specs.Signs.{bits-low, bits-high}
 use Rattle.words.proofs.write.put_integer.Goals as goal
 
-pub store_integer-requires : goal.store_integer-requires
-store_integer-requires c = omega (arith, c.room.ensures, c.if-room-ge21.true)
-
 pub returns-then-room-ge21 : goal.returns-then-room-ge21
 unfolding most
 returns-then-room-ge21 c = stored-laid (omega arith) (omega (arith, c.store_integer.ensures.1, c.room.ensures, c.if-room-ge21.true)) c.store_integer.ensures.0

@@ -4,4 +4,4 @@ use Rattle.words.specs.Hexes.{hex-pair}
 use Rattle.words.proofs.write.put_pair.Goals as goal
 
 pub returns : goal.returns
-returns c = laid_as (laid_then c.put_glyph-next.ensures c.put_glyph.ensures) (hex-pair _ (search rules))
+returns c = laid_as (rw c.from-x.ensures at (laid_then c.put_glyph-next.ensures c.put_glyph.ensures)) (hex-pair c.args.b (search rules))

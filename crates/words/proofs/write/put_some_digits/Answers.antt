@@ -7,9 +7,6 @@ pub returns-then-out-at : goal.returns-then-out-at
 unfolding most
 returns-then-out-at c = laid-counted c.digits_of.ensures (omega arith) c.if-out-at.true c.behind.ensures
 
-pub slice_bounds-digits-end : goal.slice_bounds-digits-end
-slice_bounds-digits-end c = omega (arith, c.store_decimal-n.ensures.1)
-
 pub slice_bounds-put_bytes-end : goal.slice_bounds-put_bytes-end
 slice_bounds-put_bytes-end c = local-long c.store_decimal-n.result c.args.x c.store_decimal-n.ensures.0.bytes (omega (arith, c.store_decimal-n.ensures.0.next)) (omega arith)
 

@@ -10,8 +10,5 @@ loop-k-init c = leads-start (omega arith) (omega arith)
 pub loop-k-preserved : goal.loop-k-preserved
 loop-k-preserved c = leads-on c.loop-k.invariant (hex-next c.loop-k.k c.args.x (omega arith)) (rw c.hex_digit.ensures at c.put_glyph-p.ensures)
 
-pub shape_of-out : goal.shape_of-out
-shape_of-out c = c.loop-k.invariant.long
-
 pub returns : goal.returns
 returns c = leads-end c.loop-k.invariant (hex-over c.loop-k.k c.args.x (omega arith))

@@ -8,11 +8,5 @@ returns-then-x-lt10 c = (digit-stored c.if-x-lt10.true, omega arith)
 pub returns-then-x-lt10000 : goal.returns-then-x-lt10000
 returns-then-x-lt10000 c = (c.store_short.ensures.0, omega (arith, c.store_short.ensures.1))
 
-pub store_four-requires : goal.store_four-requires
-store_four-requires c = omega (arith, c.store_short-p.ensures.1)
-
-pub overflow_add-result-then-x-lt100000000 : goal.overflow_add-result-then-x-lt100000000
-overflow_add-result-then-x-lt100000000 c = omega (arith, c.store_short-p.ensures.1)
-
 pub returns-then-x-lt100000000 : goal.returns-then-x-lt100000000
 returns-then-x-lt100000000 c = (stored_more 4 (omega arith) c.store_short-p.ensures.0 c.store_four.ensures, omega (arith, c.store_short-p.ensures.1))

@@ -3,6 +3,3 @@ use Rattle.words.proofs.write.store_hex.Given as goal
 
 abbrev pub invariant-loop-k : goal.invariant-loop-k
 invariant-loop-k l = Hexed l.initial.out l.at l.n l.x l.out l.k l.left
-
-abbrev pub decreases-loop-k : goal.decreases-loop-k
-decreases-loop-k l = l.k

@@ -2,9 +2,6 @@ use Rattle.std.proofs.Common.{arith, ◌∙◌, length-set}
 use Rattle.words.specs.Stored.{integer-stored}
 use Rattle.words.proofs.write.store_integer.Goals as goal
 
-pub overflow_add-first : goal.overflow_add-first
-overflow_add-first c = omega (arith, c.reached.ensures.1)
-
 pub store_decimal-requires : goal.store_decimal-requires
 store_decimal-requires c = rw length-set (omega (arith, c.reached.ensures.1, c.requires))
 

@@ -2,15 +2,6 @@ use Rattle.std.proofs.Common.{arith, length-set}
 use Rattle.words.specs.Stored.{short-stored}
 use Rattle.words.proofs.write.store_short.Goals as goal
 
-pub overflow_add-hundreds : goal.overflow_add-hundreds
-overflow_add-hundreds c = omega (arith, c.reached.ensures.1)
-
-pub overflow_add-tens : goal.overflow_add-tens
-overflow_add-tens c = omega (arith, c.reached-2.ensures.1, c.reached.ensures.1)
-
-pub overflow_add-ones : goal.overflow_add-ones
-overflow_add-ones c = omega (arith, c.reached-3.ensures.1, c.reached-2.ensures.1, c.reached.ensures.1)
-
 pub bounds-out-hundreds : goal.bounds-out-hundreds
 bounds-out-hundreds c = rw length-set (omega (arith, c.reached-3.ensures.1, c.reached-2.ensures.1, c.reached.ensures.1))
 
@@ -19,9 +10,6 @@ bounds-out-tens c = rw (length-set, length-set) (omega (arith, c.reached-3.ensur
 
 pub bounds-out-ones : goal.bounds-out-ones
 bounds-out-ones c = rw (length-set, length-set, length-set) (omega (arith, c.reached-3.ensures.1, c.reached-2.ensures.1, c.reached.ensures.1))
-
-pub overflow_add-result : goal.overflow_add-result
-overflow_add-result c = omega (arith, c.reached-3.ensures.1, c.reached-2.ensures.1, c.reached.ensures.1)
 
 pub returns : goal.returns
 returns c = (short-stored _ _ _ c.requires.0 c.reached.ensures.0 c.reached-2.ensures.0 c.reached-3.ensures.0, omega (arith, c.reached-3.ensures.1, c.reached-2.ensures.1, c.reached.ensures.1))

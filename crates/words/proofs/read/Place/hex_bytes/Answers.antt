@@ -1,4 +1,4 @@
-use Rattle.std.proofs.Common.{rules, arith, refl}
+use Rattle.std.proofs.Common.{arith, refl}
 use Rattle.lay.specs.Laid.{most, laid_as}
 use Rattle.words.specs.ReadHexes.{unhexing-start}
 use Rattle.words.specs.Blocks.{unhexed-long, pairs-over, unhexing-over, unhexing-rest}
@@ -8,27 +8,12 @@ pub loop-bytes-init : goal.loop-bytes-init
 unfolding most
 loop-bytes-init c = (unhexing-start _ _ (omega arith) (omega arith), refl)
 
-pub slice_bounds-unhex_block-end : goal.slice_bounds-unhex_block-end
-slice_bounds-unhex_block-end c = search (rules, c.loop-bytes.invariant.1)
-
-pub unhex_block-requires : goal.unhex_block-requires
-unhex_block-requires c = search (rules, c.loop-bytes.invariant.1)
-
-pub overflow_add-p : goal.overflow_add-p
-overflow_add-p c = omega (arith, (c.unhex_block.ensures c.loop-bytes-test.true).there.inside)
-
-pub loop-bytes-smaller : goal.loop-bytes-smaller
-loop-bytes-smaller c = omega (arith, (c.unhex_block.ensures c.loop-bytes-test.true).there.inside)
-
 pub loop-bytes-preserved : goal.loop-bytes-preserved
 loop-bytes-preserved c = (
   unhexing-over c.loop-bytes.invariant.0 _ (pairs-over 32 _ _ (c.unhex_block.ensures c.loop-bytes-test.true).there)
       (laid_as c.put_bytes-q.ensures (c.unhex_block.ensures c.loop-bytes-test.true).bytes),
   rw (c.unhex_block.ensures c.loop-bytes-test.true).bytes (unhexed-long 32 _ _),
 )
-
-pub shape_of-out : goal.shape_of-out
-shape_of-out c = omega (arith, c.loop-bytes.invariant.0.long, c.hex_pairs.auto)
 
 pub returns : goal.returns
 returns c = unhexing-rest c.loop-bytes.invariant.0 c.hex_pairs.ensures

@@ -1,10 +1,7 @@
-use Rattle.std.proofs.Common.{◌∙◌, arith}
+use Rattle.std.proofs.Common.{◌≡◌, ◌∙◌, arith}
 use Rattle.words.specs.ReadBytes.{peeked-in}
 use Rattle.words.specs.ReadDecimals.{digit-inside, natural-not, natural-nought, sure-start, sure-end, sure-room, sure-on}
 use Rattle.words.proofs.read.Place.natural.Goals as goal
-
-pub digit-first-requires : goal.digit-first-requires
-digit-first-requires c = c.peek.ensures.small
 
 pub returns-then-first-ge10 : goal.returns-then-first-ge10
 returns-then-first-ge10 c = natural-not c.peek.ensures c.digit-first.ensures (omega arith)
@@ -18,29 +15,20 @@ returns-then-first-eq0 c = natural-nought c.peek.ensures c.digit-first.ensures (
 pub loop-p-init : goal.loop-p-init
 loop-p-init c = sure-start c.peek.ensures c.digit-first.ensures (omega arith) c.if-first-eq0.false
 
-pub bounds-t-p : goal.bounds-t-p
-bounds-t-p c = omega (arith, c.sure_digits-sure.ensures.0)
-
-pub overflow_cast-t : goal.overflow_cast-t
-overflow_cast-t c = omega (arith, c.shared_slice_known-1.given c.loop-p.p)
-
-pub digit-d-requires : goal.digit-d-requires
-digit-d-requires c = omega (arith, c.shared_slice_known-1.given c.loop-p.p)
-
 pub returns-then-d-ge10 : goal.returns-then-d-ge10
-returns-then-d-ge10 c = sure-end c.loop-p.invariant (peeked-in _ _ (omega (arith, c.sure_digits-sure.ensures.0)) (omega (arith, c.shared_slice_known-1.given c.loop-p.p))) c.digit-d.ensures (omega arith)
+returns-then-d-ge10 c = sure-end c.loop-p.invariant (peeked-in _ _ (omega (arith, c.sure_digits-sure.ensures.0)) (omega (arith, c.type_inv.t c.loop-p.p))) (rw c.from.ensures at c.digit-d.ensures) (omega arith)
 
 pub overflow_mul-v : goal.overflow_mul-v
-overflow_mul-v c = let h = sure-room c.loop-p.invariant (peeked-in _ _ (omega (arith, c.sure_digits-sure.ensures.0)) (omega (arith, c.shared_slice_known-1.given c.loop-p.p))) c.digit-d.ensures (omega arith) (omega (arith, c.sure_digits-sure.ensures.1)) in omega arith
+overflow_mul-v c = let h = sure-room c.loop-p.invariant (peeked-in _ _ (omega (arith, c.sure_digits-sure.ensures.0)) (omega (arith, c.type_inv.t c.loop-p.p))) (rw c.from.ensures at c.digit-d.ensures) (omega arith) (omega (arith, c.sure_digits-sure.ensures.1)) in omega arith
 
 pub overflow_add-v : goal.overflow_add-v
-overflow_add-v c = let h = sure-room c.loop-p.invariant (peeked-in _ _ (omega (arith, c.sure_digits-sure.ensures.0)) (omega (arith, c.shared_slice_known-1.given c.loop-p.p))) c.digit-d.ensures (omega arith) (omega (arith, c.sure_digits-sure.ensures.1)) in omega arith
-
-pub overflow_add-p : goal.overflow_add-p
-overflow_add-p c = omega (arith, c.sure_digits-sure.ensures.0)
+overflow_add-v c = let h = sure-room c.loop-p.invariant (peeked-in _ _ (omega (arith, c.sure_digits-sure.ensures.0)) (omega (arith, c.type_inv.t c.loop-p.p))) (rw c.from.ensures at c.digit-d.ensures) (omega arith) (omega (arith, c.sure_digits-sure.ensures.1)) in omega arith
 
 pub loop-p-preserved : goal.loop-p-preserved
-loop-p-preserved c = sure-on c.loop-p.invariant (peeked-in _ _ (omega (arith, c.sure_digits-sure.ensures.0)) (omega (arith, c.shared_slice_known-1.given c.loop-p.p))) c.digit-d.ensures (omega arith) (omega (arith, c.sure_digits-sure.ensures.1))
+loop-p-preserved c = sure-on c.loop-p.invariant (peeked-in _ _ (omega (arith, c.sure_digits-sure.ensures.0)) (omega (arith, c.type_inv.t c.loop-p.p))) (rw c.from.ensures at c.digit-d.ensures) (omega arith) (omega (arith, c.sure_digits-sure.ensures.1))
 
 pub returns : goal.returns
-returns c = c.more_digits.ensures ∙ c.loop-p.invariant.same
+returns c =
+    let inside = digit-inside c.peek.ensures c.digit-first.ensures (omega arith) in
+    let end : c.loop-p.p ≡ c.sure_digits-sure.result = omega (arith, c.sure_digits-sure.ensures.2 inside, c.loop-p.auto) in
+    c.more_digits.ensures ∙ rw end at c.loop-p.invariant.same
