@@ -1,5 +1,5 @@
 -- What the answers of the readers mean, in the terms of the definitions. Assumes nothing.
-use Rattle.std.specs.Prelude.{◌≡◌, true, List, ℕ, ◌+◌, ◌^◌, ◌≤◌, ltb, length}
+use Rattle.std.specs.Prelude.{Some, None, ◌≡◌, true, List, ℕ, ◌+◌, ◌^◌, ◌≤◌, ltb, length}
 use Rattle.std.proofs.Math.Seq.{slice}
 use Rattle.paper.specs.Reader.{when◌then◌else◌, Reader, Out, got, no, turned, ◌>>=◌, ◌>>◌, give, repeat}
 use Rattle.paper.specs.Ledger.{Kind, constant, array, many, mapping, New, Head}
@@ -8,18 +8,11 @@ use Rattle.paper.specs.Listing.{tab, newline, comma, hex}
 use Rattle.paper.specs.Keeps.{number?, bytes?, kind_kept?}
 use Rattle.paper.specs.Scan.{heed, byte_is, ended, natural, integer, hex_bytes, read_string, read_new}
 use Rattle.table.specs.View.{kind_from}
-use Rattle.words.specs.Answers.{option}
-use Rattle.parse.specs.declared.PairLine.{PairLine}
-use Rattle.parse.specs.declared.PairLine.TheVariants as pair
+use Rattle.words.specs.Answers.{Scanned, option}
 use Rattle.parse.specs.declared.StringLine.{StringLine}
-use Rattle.parse.specs.declared.StringLine.TheVariants as string
 use Rattle.parse.specs.declared.TypeLine.{TypeLine}
-use Rattle.parse.specs.declared.TypeRead.{TypeRead}
-use Rattle.parse.specs.declared.TypeRead.TheVariants as type
-use Rattle.parse.specs.declared.NewRead.{NewRead}
-use Rattle.parse.specs.declared.NewRead.TheVariants as new
-use Rattle.parse.specs.declared.kinds.KindWord.{KindWord}
-use Rattle.parse.specs.declared.kinds.KindWord.TheVariants as kinds
+use Rattle.parse.specs.declared.NewLine.{NewLine}
+use Rattle.parse.specs.declared.kinds.Kind.{Kind as Numbers}
 
 -- ── pair ──
 
@@ -30,9 +23,9 @@ read_two = do
   b ← ended newline natural
   give (a, b)
 
-abbrev pub out_pair : PairLine → Out (ℕ × ℕ)
-out_pair (pair.Got a b c) = got (a, b) c.at
-out_pair pair.Bad = no 20 0
+abbrev pub out_pair : Scanned (ℕ × ℕ) → Out (ℕ × ℕ)
+out_pair (Some (x, c)) = got x c.at
+out_pair None = no 20 0
 
 -- ── string ──
 
@@ -52,11 +45,11 @@ pub record StringAt (t : List ℕ) (at start end next : ℕ) : Type 0 where
   pub spelt : slice start end t ≡ hex bytes
   pub small : bytes? bytes ≡ true
 
-abbrev pub SaysString : List ℕ → ℕ → StringLine → Type 0
-SaysString t at (string.Got start end c) = StringAt t at start end c.at
-SaysString t at string.Bad = read_string t at ≡ no 20 0
+abbrev pub SaysString : List ℕ → ℕ → Scanned StringLine → Type 0
+SaysString t at (Some (l, c)) = StringAt t at l.from l.to c.at
+SaysString t at None = read_string t at ≡ no 20 0
 
-pub record StringReads (t : List ℕ) (at : ℕ) (r : StringLine) : Type 0 where
+pub record StringReads (t : List ℕ) (at : ℕ) (r : Scanned StringLine) : Type 0 where
   pub says : SaysString t at r
 
 -- ── type ──
@@ -64,9 +57,9 @@ pub record StringReads (t : List ℕ) (at : ℕ) (r : StringLine) : Type 0 where
 abbrev pub head_of : TypeLine → Head
 head_of l = record { name = l.name; super = option l.sup; start = option l.start; count = l.count }
 
-abbrev pub out_type : TypeRead → Out (Head × ℕ)
-out_type (type.Got l c) = got (head_of l, l.fields) c.at
-out_type type.Bad = no 20 0
+abbrev pub out_type : Scanned TypeLine → Out (Head × ℕ)
+out_type (Some (l, c)) = got (head_of l, l.fields) c.at
+out_type None = no 20 0
 
 -- ── kind ──
 
@@ -126,17 +119,17 @@ pub record Half (w h : ℕ) : Type 0 where
   pub twice : 256 ^ w ≡ h + h
   pub most : h ≤ 9223372036854775808
 
-abbrev pub out_kind : KindWord → Out Kind
-out_kind (kinds.Got x c) = got (kind_from x.k x.a x.e) c.at
-out_kind kinds.Bad = no 20 0
+abbrev pub out_kind : Scanned Numbers → Out Kind
+out_kind (Some (x, c)) = got (kind_from x.k x.a x.e) c.at
+out_kind None = no 20 0
 
 -- a row of the table has room for the first number
-abbrev pub ToldKind : KindWord → Type 0
-ToldKind (kinds.Got x c) = x.k ≤ 32
-ToldKind kinds.Bad = Unit {0}
+abbrev pub ToldKind : Scanned Numbers → Type 0
+ToldKind (Some (x, c)) = x.k ≤ 32
+ToldKind None = Unit {0}
 
 -- the answer is what is kept of the kind that the reader `r` gives at `at`, if it keeps the rules
-pub record KindReads (r : Reader Kind) (t : List ℕ) (at : ℕ) (a : KindWord) : Type 0 where
+pub record KindReads (r : Reader Kind) (t : List ℕ) (at : ℕ) (a : Scanned Numbers) : Type 0 where
   pub says : out_kind a ≡ turned noted (keeping r t at)
   pub told : ToldKind a
 
@@ -150,14 +143,14 @@ kept_new = read_new >>= λ g. heed (kind_kept? g.kind) >> give g
 abbrev pub noted_new : New → New
 noted_new g = record { kind = noted g.kind; name = g.name }
 
-abbrev pub out_new : NewRead → Out New
-out_new (new.Got l c) = got (record { kind = kind_from l.k l.a l.e; name = l.name }) c.at
-out_new new.Bad = no 20 0
+abbrev pub out_new : Scanned NewLine → Out New
+out_new (Some (l, c)) = got (record { kind = kind_from l.kind.k l.kind.a l.kind.e; name = l.name }) c.at
+out_new None = no 20 0
 
-abbrev pub ToldNew : NewRead → Type 0
-ToldNew (new.Got l c) = l.k ≤ 32
-ToldNew new.Bad = Unit {0}
+abbrev pub ToldNew : Scanned NewLine → Type 0
+ToldNew (Some (l, c)) = l.kind.k ≤ 32
+ToldNew None = Unit {0}
 
-pub record NewReads (t : List ℕ) (at : ℕ) (r : NewRead) : Type 0 where
+pub record NewReads (t : List ℕ) (at : ℕ) (r : Scanned NewLine) : Type 0 where
   pub says : out_new r ≡ turned noted_new (kept_new t at)
   pub told : ToldNew r

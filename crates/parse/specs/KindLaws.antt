@@ -1,5 +1,5 @@
 -- The ways out of the readers of kinds, on plain values. Assumes nothing.
-use Rattle.std.specs.Prelude.{◌≡◌, Bool, ◌&&◌, not, List, ℕ, ◌+◌, ◌-◌, ◌^◌, ◌/◌, ◌≤◌, ◌<◌, leb}
+use Rattle.std.specs.Prelude.{Some, None, ◌≡◌, Bool, ◌&&◌, not, List, ℕ, ◌+◌, ◌-◌, ◌^◌, ◌/◌, ◌≤◌, ◌<◌, leb}
 use Rattle.std.proofs.Math.Path.{refl, ap}
 use Rattle.std.proofs.Common.{sym, ◌∙◌}
 use Rattle.std.proofs.Math.Bool.{true, false}
@@ -20,8 +20,7 @@ use Rattle.paper.specs.Scan.{heed, byte_is, ended, natural, integer, read_kind}
 use Rattle.table.specs.View.{kind_from}
 use Rattle.values.specs.Chunks.{kind-array, kind-many, kind-plain}
 use Rattle.parse.specs.declared.kinds.Kind.{Kind as Numbers}
-use Rattle.parse.specs.declared.kinds.KindWord.{KindWord}
-use Rattle.parse.specs.declared.kinds.KindWord.TheVariants as kinds
+use Rattle.words.specs.Answers.{Scanned}
 use Rattle.parse.specs.Answers.{keeping, constant_of, array_of, many_of, element_of, kinds_of, map_of, width_of, Half, KindReads}
 
 -- ── a number below 2 ^ 64, and its rules ──
@@ -103,16 +102,16 @@ module _ (k : ℕ) where
 -- ── what is read, held to its rules ──
 
 module _ {r : Reader Kind} {t : List ℕ} {at : ℕ} where
-  pub kind-bad : bad 20 0 ≡ r t at → KindReads r t at kinds.Bad
+  pub kind-bad : bad 20 0 ≡ r t at → KindReads r t at None
   unfolding keeping ◌>>=◌
   kind-bad h = record { says = rw (← h); told = tt }
 
   module _ {x : Kind} {e : ℕ} (h : got x e ≡ r t at) where
-    kind-broken : kind_kept? x ≡ false → KindReads r t at kinds.Bad
+    kind-broken : kind_kept? x ≡ false → KindReads r t at None
     unfolding keeping heed ◌>>=◌ ◌>>◌ when◌then◌else◌
     kind-broken b = record { says = rw (← h, b); told = tt }
 
-    kind-kept : kind_kept? x ≡ true → (n : Numbers) → kind_from n.k n.a n.e ≡ noted x → n.k ≤ 32 → KindReads r t at (kinds.Got n (record { at = e }))
+    kind-kept : kind_kept? x ≡ true → (n : Numbers) → kind_from n.k n.a n.e ≡ noted x → n.k ≤ 32 → KindReads r t at (Some (n, (record { at = e })))
     unfolding keeping heed ◌>>=◌ ◌>>◌ give when◌then◌else◌
     kind-kept b n is l = record { says = rw (← h, b, is); told = l }
 
@@ -127,12 +126,12 @@ kind-constant k a e l = go (ltb k 4) refl
     go false h = rw (lt-leb k 3 (omega (arith, ltb-false k 4 h)), eq-eqb k 4 (omega (arith, ltb-false k 4 h)))
 
 module _ (k : ℕ) (t : List ℕ) (at : ℕ) where
-  pub constant-no-comma : bad 20 0 ≡ byte_is comma t at → KindReads (constant_of k) t at kinds.Bad
+  pub constant-no-comma : bad 20 0 ≡ byte_is comma t at → KindReads (constant_of k) t at None
   unfolding constant_of ◌>>=◌ ◌>>◌
   constant-no-comma h = kind-bad (rw (← h))
 
   module _ {p : ℕ} (sep : got tt p ≡ byte_is comma t at) where
-    pub constant-no-value : bad 20 0 ≡ integer t p → KindReads (constant_of k) t at kinds.Bad
+    pub constant-no-value : bad 20 0 ≡ integer t p → KindReads (constant_of k) t at None
     unfolding constant_of ◌>>=◌ ◌>>◌
     constant-no-value h = kind-bad (rw (← sep, ← h))
 
@@ -145,33 +144,33 @@ module _ (k : ℕ) (t : List ℕ) (at : ℕ) where
       unfolding kind_kept? whole?
       kept_if s = rw (le-leb k 4 l) s
 
-      constant-kept : (a : ℕ) → (signed? (width_of k) (signed 8 x) ≡ true) × (signed (width_of k) a ≡ signed 8 x) → KindReads (constant_of k) t at (kinds.Got (record { k = k; a = a; e = 0 }) (record { at = e }))
+      constant-kept : (a : ℕ) → (signed? (width_of k) (signed 8 x) ≡ true) × (signed (width_of k) a ≡ signed 8 x) → KindReads (constant_of k) t at (Some ((record { k = k; a = a; e = 0 }), (record { at = e })))
       unfolding noted
       constant-kept a s = kind-kept constant-is (kept_if s.0) _ (kind-constant k a 0 l ∙ ap (constant k) s.1) (omega arith)
 
-      pub constant-low : x < h → KindReads (constant_of k) t at (kinds.Got (record { k = k; a = x; e = 0 }) (record { at = e }))
+      pub constant-low : x < h → KindReads (constant_of k) t at (Some ((record { k = k; a = x; e = 0 }), (record { at = e })))
       constant-low s = constant-kept x (fits_low (width_of k) H x s)
 
-      pub constant_wide : h ≤ x → h ≤ 18446744073709551615 - x → KindReads (constant_of k) t at kinds.Bad
+      pub constant_wide : h ≤ x → h ≤ 18446744073709551615 - x → KindReads (constant_of k) t at None
       constant_wide s u = kind-broken constant-is (kept_if (too_wide (width_of k) H x s u))
 
-      pub constant-high : x < 2 ^ 64 → 18446744073709551615 - x < h → KindReads (constant_of k) t at (kinds.Got (record { k = k; a = h + (h - 1 - (18446744073709551615 - x)); e = 0 }) (record { at = e }))
+      pub constant-high : x < 2 ^ 64 → 18446744073709551615 - x < h → KindReads (constant_of k) t at (Some ((record { k = k; a = h + (h - 1 - (18446744073709551615 - x)); e = 0 }), (record { at = e })))
       constant-high f s = constant-kept _ (fits-high (width_of k) H x f s)
 
 -- ── an array ──
 
 module _ (t : List ℕ) (at : ℕ) where
-  pub array-no-comma : bad 20 0 ≡ byte_is comma t at → KindReads array_of t at kinds.Bad
+  pub array-no-comma : bad 20 0 ≡ byte_is comma t at → KindReads array_of t at None
   unfolding array_of ◌>>=◌ ◌>>◌
   array-no-comma h = kind-bad (rw (← h))
 
   module _ {p : ℕ} (sep : got tt p ≡ byte_is comma t at) where
-    pub array-no-length : bad 20 0 ≡ ended comma natural t p → KindReads array_of t at kinds.Bad
+    pub array-no-length : bad 20 0 ≡ ended comma natural t p → KindReads array_of t at None
     unfolding array_of ◌>>=◌ ◌>>◌
     array-no-length h = kind-bad (rw (← sep, ← h))
 
     module _ {n q : ℕ} (long : got n q ≡ ended comma natural t p) where
-      pub array-no-element : bad 20 0 ≡ natural t q → KindReads array_of t at kinds.Bad
+      pub array-no-element : bad 20 0 ≡ natural t q → KindReads array_of t at None
       unfolding array_of ◌>>=◌ ◌>>◌
       array-no-element h = kind-bad (rw (← sep, ← long, ← h))
 
@@ -180,16 +179,16 @@ module _ (t : List ℕ) (at : ℕ) where
         unfolding array_of ◌>>=◌ ◌>>◌ give
         array-is = rw (← sep, ← long, ← element)
 
-        pub array_long : {b : Bool} → b ≡ leb n most_objects → not b ≡ true → KindReads array_of t at kinds.Bad
+        pub array_long : {b : Bool} → b ≡ leb n most_objects → not b ≡ true → KindReads array_of t at None
         unfolding kind_kept?
         array_long {b} is h = kind-broken array-is (rw (small_is n fits, ← is, not-true b h))
 
         module _ {b : Bool} (is : b ≡ leb n most_objects) (h : not b ≡ false) where
-          pub array-got : true ≡ number? (element_kind_rules any_type) e → KindReads array_of t at (kinds.Got (record { k = 15; a = n; e = e }) (record { at = d }))
+          pub array-got : true ≡ number? (element_kind_rules any_type) e → KindReads array_of t at (Some ((record { k = 15; a = n; e = e }), (record { at = d })))
           unfolding kind_kept? noted
           array-got s = kind-kept array-is (rw (small_is n fits, ← is, not-false b h, ← s)) _ (kind-array 15 n e refl) (omega arith)
 
-          pub array-gap : false ≡ number? (element_kind_rules any_type) e → KindReads array_of t at kinds.Bad
+          pub array-gap : false ≡ number? (element_kind_rules any_type) e → KindReads array_of t at None
           unfolding kind_kept?
           array-gap s = kind-broken array-is (rw (small_is n fits, ← is, not-false b h, ← s))
 
@@ -239,10 +238,10 @@ module _ (k : ℕ) (t : List ℕ) (at : ℕ) (lo : 17 ≤ k) (hi : k ≤ 19) whe
       behind (got u e) = element (natural t e)
       behind (bad n p) = refl
 
-  pub many-none : bad 20 0 ≡ element_of t at → KindReads (many_of k) t at kinds.Bad
+  pub many-none : bad 20 0 ≡ element_of t at → KindReads (many_of k) t at None
   many-none h = record { says = rw (many_is, ← h); told = tt }
 
-  pub many-got : {e d : ℕ} → got e d ≡ element_of t at → KindReads (many_of k) t at (kinds.Got (record { k = k; a = 0; e = e }) (record { at = d }))
+  pub many-got : {e d : ℕ} → got e d ≡ element_of t at → KindReads (many_of k) t at (Some ((record { k = k; a = 0; e = e }), (record { at = d })))
   unfolding noted
   many-got {e} h = record { says = rw (many_is, ← h, kind-many k 0 e lo hi); told = omega arith }
 
@@ -253,22 +252,22 @@ module _ (k : ℕ) (t : List ℕ) (at : ℕ) where
   unfolding give
   alone-is = refl
 
-  alone-gap : false ≡ number? (element_kind_rules any_type) k → KindReads (give (plain k)) t at kinds.Bad
+  alone-gap : false ≡ number? (element_kind_rules any_type) k → KindReads (give (plain k)) t at None
   unfolding kind_kept?
   alone-gap s = kind-broken alone-is (sym s)
 
-  alone-kept : true ≡ number? (element_kind_rules any_type) k → (n : ℕ) → kind_from n 0 k ≡ plain k → n ≤ 32 → KindReads (give (plain k)) t at (kinds.Got (record { k = n; a = 0; e = k }) (record { at = at }))
+  alone-kept : true ≡ number? (element_kind_rules any_type) k → (n : ℕ) → kind_from n 0 k ≡ plain k → n ≤ 32 → KindReads (give (plain k)) t at (Some ((record { k = n; a = 0; e = k }), (record { at = at })))
   unfolding kind_kept? noted
   alone-kept s n is hi = kind-kept alone-is (sym s) _ is hi
 
 -- ── a kind ──
 
 module _ {t : List ℕ} {at : ℕ} where
-  pub kind-none : bad 20 0 ≡ natural t at → KindReads read_kind t at kinds.Bad
+  pub kind-none : bad 20 0 ≡ natural t at → KindReads read_kind t at None
   unfolding read_kind ◌>>=◌
   kind-none h = kind-bad (rw (← h))
 
-  module _ {k e : ℕ} (h : got k e ≡ natural t at) {a : KindWord} where
+  module _ {k e : ℕ} (h : got k e ≡ natural t at) {a : Scanned Numbers} where
     -- what follows the number is read by r
     goes_on : {r : Reader Kind} → read_kind t at ≡ r t e → KindReads r t e a → KindReads read_kind t at a
     unfolding keeping ◌>>=◌
@@ -300,15 +299,15 @@ module _ {t : List ℕ} {at : ℕ} where
         ])
 
   module _ {k e : ℕ} (h : got k e ≡ natural t at) (fits : k < 2 ^ 64) where
-    pub kind-is-low : 5 ≤ k → k ≤ 14 → KindReads read_kind t at (kinds.Got (record { k = k; a = 0; e = k }) (record { at = e }))
+    pub kind-is-low : 5 ≤ k → k ≤ 14 → KindReads read_kind t at (Some ((record { k = k; a = 0; e = k }), (record { at = e })))
     kind-is-low lo hi =
         kind-is-alone h (omega arith) (λ q. omega arith) (λ q. omega arith)
         (alone-kept k t e (element-low k fits lo hi) k (kind-plain k 0 k (omega arith) (λ q. omega arith) (λ q. omega arith) (λ q. omega arith)) (omega arith))
 
-    pub kind-is-type : 32 ≤ k → KindReads read_kind t at (kinds.Got (record { k = 32; a = 0; e = k }) (record { at = e }))
+    pub kind-is-type : 32 ≤ k → KindReads read_kind t at (Some ((record { k = 32; a = 0; e = k }), (record { at = e })))
     kind-is-type lo =
         kind-is-alone h (omega arith) (λ q. omega arith) (λ q. omega arith)
         (alone-kept k t e (element-type k fits lo) 32 (kind-plain 32 0 k (omega arith) (λ q. omega arith) (λ q. omega arith) (λ q. omega arith)) (omega arith))
 
-    pub kind-is-gap : 15 < k → k < 32 → (17 ≤ k → 20 < k) → KindReads read_kind t at kinds.Bad
+    pub kind-is-gap : 15 < k → k < 32 → (17 ≤ k → 20 < k) → KindReads read_kind t at None
     kind-is-gap lo hi past = kind-is-alone h (omega arith) (λ q. omega arith) past (alone-gap k t e (element-gap k fits (omega arith) hi))

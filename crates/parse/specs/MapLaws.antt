@@ -1,14 +1,13 @@
 -- A map's kind: its element kinds are held to their rules one by one, and not when all are read. All that can go wrong is
 -- refused alike. Assumes nothing.
-use Rattle.std.specs.Prelude.{◌≡◌, Bool}
+use Rattle.std.specs.Prelude.{Some, None, ◌≡◌, Bool}
 use Rattle.std.proofs.Math.Path.{refl, ap}
-use Rattle.std.proofs.Common.{sym, ◌∙◌, lt_of_not-le, length-append}
+use Rattle.std.proofs.Common.{sym, ◌∙◌, length-append}
 use Rattle.std.proofs.Math.Bool.{true, false}
 use mathlib.Core.List.{List, [], ◌∷◌, ◌++◌, append_assoc, append-nil, map}
 use Prim.Native.Nat.{ℕ, zero, suc, ◌+◌, ◌-◌, ◌*◌, ◌^◌, ◌≤◌, ◌<◌, min}
 use native.Mathlib.Omega.{arith}
-use Rattle.std.proofs.Math.Decide.{dec_le}
-use Rattle.std.proofs.Math.Nat.{min-eq_left, min-eq_right}
+use Rattle.std.proofs.Math.Nat.{min_comm}
 use Rattle.std.proofs.Math.ListN.{length}
 use borrow.Author.Tests.{le-leb, lt-leb, lt-ltb}
 use Rattle.paper.specs.Reader.{when◌then◌else◌, Reader, Out, got, no as bad, and_then, turned, ◌>>=◌, ◌>>◌, give, each, times, repeat}
@@ -22,9 +21,8 @@ use Rattle.paper.specs.Scan.{heed, byte_is, natural}
 use Rattle.laws.specs.Packed.{packed, packed_none, packed_more, packed-room, packed-back}
 use Rattle.laws.specs.Laws.{not-got}
 use Rattle.table.specs.View.{kind_from}
-use Rattle.values.specs.Constants.{Capped}
-use Rattle.parse.specs.declared.kinds.KindWord.{KindWord}
-use Rattle.parse.specs.declared.kinds.KindWord.TheVariants as kinds
+use Rattle.words.specs.Answers.{Scanned}
+use Rattle.parse.specs.declared.kinds.Kind.{Kind as Numbers}
 use Rattle.parse.specs.Answers.{keeping, element_of, kinds_of, map_of, KindReads}
 use Rattle.parse.specs.Twenty.{Twenty, byte-twenty, natural-twenty, then-twenty, repeat-twenty}
 use Rattle.parse.specs.KindLaws.{kind-bad}
@@ -166,35 +164,28 @@ pub record KindsGoing (t : List ℕ) (from n at left bytes : ℕ) : Type 0 where
   pub is : bytes ≡ packed ks
   pub rest : repeat n element_of t from ≡ and_then (repeat left element_of t at) (λ more d. got (ks ++ more) d)
 
-pub kinds-begin : (t : List ℕ) (from n : ℕ) → KindsGoing t from n from n 0
-kinds-begin t from n = record { ks = []; count = omega arith; is = sym packed_none; rest = go (repeat n element_of t from) }
+pub kinds-begin : (t : List ℕ) (from : ℕ) {n left : ℕ} → left ≡ n → KindsGoing t from n from left 0
+kinds-begin t from {n} all = record { ks = []; count = omega arith; is = sym packed_none; rest = rw all (go (repeat n element_of t from)) }
   where
     go : (o : Out (List ℕ)) → o ≡ and_then o (λ more d. got ([] ++ more) d)
     go (got l d) = refl
     go (bad m p) = refl
-
-capped-min : (k r : ℕ) → Capped k 255 r → r ≡ min 255 k
-capped-min k r C =
-    elim (dec_le k 255) [
-      | yes d ↦ C.same d ∙ sym (min-eq_right d)
-      | no d ↦ (let more = lt_of_not-le d in C.top more ∙ sym (min-eq_left (omega arith)))
-    ]
 
 module _ {t : List ℕ} {from n at left bytes : ℕ} (g : KindsGoing t from n at left bytes) where
   -- so a byte more has room
   pub kinds-room : 0 < left → n ≤ 8 → bytes * 256 + 255 < 2 ^ 64
   kinds-room pos most = rw g.is (packed-room g.ks (omega (arith, g.count)))
 
-  one_more : 0 < left → repeat left element_of t at ≡ and_then (element_of t at) (λ a e. and_then (repeat (left - 1) element_of t e) (λ l d. got (a ∷ l) d))
-  one_more pos = let is : left ≡ suc (left - 1) = omega arith in ap (λ (k : ℕ). repeat k element_of t at) is ∙ repeat-more element_of t (left - 1) at
+  one_more : {rest : ℕ} → left ≡ suc rest → repeat left element_of t at ≡ and_then (element_of t at) (λ a e. and_then (repeat rest element_of t e) (λ l d. got (a ∷ l) d))
+  one_more {rest} is = ap (λ (k : ℕ). repeat k element_of t at) is ∙ repeat-more element_of t rest at
 
-  pub kinds-next : 0 < left → {k e r : ℕ} → got k e ≡ element_of t at → Capped k 255 r → KindsGoing t from n e (left - 1) (bytes * 256 + r)
-  kinds-next pos {k} {e} {r} h C =
+  pub kinds-next : {rest : ℕ} → left ≡ suc rest → {k e : ℕ} → got k e ≡ element_of t at → KindsGoing t from n e rest (bytes * 256 + min k 255)
+  kinds-next {rest} due {k} {e} h =
       record {
         ks = g.ks ++ k ∷ [];
         count = rw length-append (omega (arith, g.count));
-        is = rw (packed_more g.ks k, ← g.is, capped-min k r C);
-        rest = g.rest ∙ rw (one_more pos, ← h) (go (repeat (left - 1) element_of t e));
+        is = rw (packed_more g.ks k, ← g.is, min_comm k 255);
+        rest = g.rest ∙ rw (one_more due, ← h) (go (repeat rest element_of t e));
       }
     where
       go : (o : Out (List ℕ)) → and_then (and_then o (λ l d. got (k ∷ l) d)) (λ more d. got (g.ks ++ more) d) ≡ and_then o (λ more d. got (g.ks ++ k ∷ [] ++ more) d)
@@ -202,10 +193,12 @@ module _ {t : List ℕ} {from n at left bytes : ℕ} (g : KindsGoing t from n at
       go (bad m p) = refl
 
   module _ (lo : 2 ≤ n) (hi : n ≤ 8) where
-    pub kinds-bad : 0 < left → bad 20 0 ≡ element_of t at → KindReads (kinds_of n) t from kinds.Bad
-    kinds-bad pos h = record { says = sym (rw (kinds-held n t from (types-kept n lo hi), g.rest, one_more pos, ← h)); told = tt }
+    pub kinds-bad : 0 < left → bad 20 0 ≡ element_of t at → KindReads (kinds_of n) t from None
+    kinds-bad pos h =
+        let due : left ≡ suc (left - 1) = omega arith in
+        record { says = sym (rw (kinds-held n t from (types-kept n lo hi), g.rest, one_more due, ← h)); told = tt }
 
-    pub kinds-done : left ≤ 0 → KindReads (kinds_of n) t from (kinds.Got (record { k = 20; a = n; e = bytes }) (record { at = at }))
+    pub kinds-done : left ≤ 0 → KindReads (kinds_of n) t from (Some ((record { k = 20; a = n; e = bytes }), (record { at = at })))
     unfolding noted kind_from when◌then◌else◌
     kinds-done le =
         let none : left ≡ 0 = omega arith in
@@ -219,22 +212,22 @@ module _ {t : List ℕ} {from n at left bytes : ℕ} (g : KindsGoing t from n at
 -- ── a map ──
 
 module _ (t : List ℕ) (at : ℕ) where
-  pub map-no-comma : bad 20 0 ≡ byte_is comma t at → KindReads map_of t at kinds.Bad
+  pub map-no-comma : bad 20 0 ≡ byte_is comma t at → KindReads map_of t at None
   unfolding map_of ◌>>◌
   map-no-comma h = kind-bad (rw (← h))
 
   module _ {p : ℕ} (sep : got tt p ≡ byte_is comma t at) where
-    pub map-no-types : bad 20 0 ≡ natural t p → KindReads map_of t at kinds.Bad
+    pub map-no-types : bad 20 0 ≡ natural t p → KindReads map_of t at None
     unfolding map_of ◌>>=◌ ◌>>◌
     map-no-types h = kind-bad (rw (← sep, ← h))
 
     module _ {n q : ℕ} (types : got n q ≡ natural t p) where
-      pub map_on : {a : KindWord} → KindReads (kinds_of n) t q a → KindReads map_of t at a
+      pub map_on : {a : Scanned Numbers} → KindReads (kinds_of n) t q a → KindReads map_of t at a
       unfolding keeping map_of ◌>>=◌ ◌>>◌
       map_on R = record { says = R.says ∙ rw (← sep, ← types); told = R.told }
 
-      pub map-few : n < 2 → KindReads map_of t at kinds.Bad
+      pub map-few : n < 2 → KindReads map_of t at None
       map-few hi = map_on (record { says = rw (kinds-none n t q (types-few n hi)); told = tt })
 
-      pub map-many : n < 2 ^ 64 → 8 < n → KindReads map_of t at kinds.Bad
+      pub map-many : n < 2 ^ 64 → 8 < n → KindReads map_of t at None
       map-many fits lo = map_on (record { says = rw (kinds-none n t q (types-many n fits lo)); told = tt })

@@ -1,6 +1,6 @@
 -- A new field's line. Its kind is held to its rules as soon as it is read, and not when the whole line is: all that can go wrong
 -- is refused alike. Assumes nothing.
-use Rattle.std.specs.Prelude.{◌≡◌, refl, Bool, List, ℕ}
+use Rattle.std.specs.Prelude.{Some, None, ◌≡◌, refl, Bool, List, ℕ}
 use Rattle.std.proofs.Math.Path.{sym, ap}
 use Rattle.std.proofs.Common.{◌∙◌}
 use Rattle.std.proofs.Math.Bool.{true, false}
@@ -13,9 +13,7 @@ use Rattle.paper.specs.Scan.{heed, byte_is, literal, ended, natural, read_kind, 
 use Rattle.laws.specs.Laws.{not-got}
 use Rattle.table.specs.View.{kind_from}
 use Rattle.words.specs.declared.read.Place.{Place}
-use Rattle.parse.specs.declared.NewRead.TheVariants as new
 use Rattle.parse.specs.declared.kinds.Kind.{Kind as Numbers}
-use Rattle.parse.specs.declared.kinds.KindWord.TheVariants as kinds
 use Rattle.parse.specs.Answers.{keeping, KindReads, kept_new, noted_new, NewReads}
 use Rattle.parse.specs.Twenty.{Twenty, byte-twenty, ended-twenty}
 
@@ -67,7 +65,7 @@ module _ (t : List ℕ) where
   behind_kind o = ruled (behind_tab (and_then o (λ k e. and_then (byte_is tab t e) (λ u e. got k e))))
 
 module _ (t : List ℕ) (at : ℕ) where
-  pub new-not : bad 20 0 ≡ literal (ascii "new\t") t at → NewReads t at new.Bad
+  pub new-not : bad 20 0 ≡ literal (ascii "new\t") t at → NewReads t at None
   unfolding kept_new read_new ◌>>=◌ ◌>>◌
   new-not h = record { says = rw (← h); told = tt }
 
@@ -76,7 +74,7 @@ module _ (t : List ℕ) (at : ℕ) where
     unfolding kept_new read_new ended heed ◌>>=◌ ◌>>◌ give
     kept-is = rw (← word)
 
-    pub new-no-kind : KindReads read_kind t p kinds.Bad → NewReads t at new.Bad
+    pub new-no-kind : KindReads read_kind t p None → NewReads t at None
     unfolding keeping heed ◌>>=◌ ◌>>◌ give when◌then◌else◌
     new-no-kind K = record { says = ap (turned noted_new) (go (read_kind t p) (turned-bad noted _ K.says) ∙ sym kept-is); told = tt }
       where
@@ -96,7 +94,7 @@ module _ (t : List ℕ) (at : ℕ) where
         go (got k e) h = held k e (kind_kept? k) refl h
         go (bad n q) h = let x : 20 ≡ n = cc h in let y : 0 ≡ q = cc h in rw (← x, ← y)
 
-    module _ {x : Numbers} {q : Place} (K : KindReads read_kind t p (kinds.Got x q)) where
+    module _ {x : Numbers} {q : Place} (K : KindReads read_kind t p (Some (x, q))) where
       kept-kind : Before noted (keeping read_kind t p) (kind_from x.k x.a x.e) q.at
       kept-kind = turned-got noted _ K.says
 
@@ -106,13 +104,13 @@ module _ (t : List ℕ) (at : ℕ) where
       kept : kind_kept? kept-kind.value ≡ true
       kept = (keeping-got read_kind t p kept-kind.first).1
 
-      pub new-no-tab : bad 20 0 ≡ byte_is tab t q.at → NewReads t at new.Bad
+      pub new-no-tab : bad 20 0 ≡ byte_is tab t q.at → NewReads t at None
       new-no-tab h = record { says = rw (kept-is, ← read, ← h); told = tt }
 
       module _ {d : ℕ} (sep : got tt d ≡ byte_is tab t q.at) where
-        pub new-no-name : bad 20 0 ≡ ended newline natural t d → NewReads t at new.Bad
+        pub new-no-name : bad 20 0 ≡ ended newline natural t d → NewReads t at None
         new-no-name h = record { says = rw (kept-is, ← read, ← sep, ← h); told = tt }
 
-        pub new-got : {name : ℕ} {c : Place} → got name c.at ≡ ended newline natural t d → NewReads t at (new.Got (record { k = x.k; a = x.a; e = x.e; name = name }) c)
+        pub new-got : {name : ℕ} {c : Place} → got name c.at ≡ ended newline natural t d → NewReads t at (Some (record { kind = x; name = name }, c))
         unfolding when◌then◌else◌
         new-got h = record { says = rw (kept-is, ← read, ← sep, ← h, kept, kept-kind.is); told = K.told }

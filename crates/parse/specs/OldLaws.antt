@@ -1,6 +1,6 @@
 -- The lines of known fields, as a loop meets them: only the place behind them matters. Assumes nothing.
-use Rattle.std.specs.Prelude.{◌≡◌, List, ℕ, zero, suc, ◌-◌, ◌≤◌, ◌<◌}
-use Rattle.std.proofs.Common.{sym, ◌∙◌, arith, sub-one}
+use Rattle.std.specs.Prelude.{◌≡◌, List, ℕ, zero, suc, ◌≤◌, ◌<◌}
+use Rattle.std.proofs.Common.{sym, ◌∙◌, arith}
 use Rattle.paper.specs.Reader.{Out, got, no as bad, repeat}
 use Rattle.paper.specs.Listing.{old_line}
 use Rattle.paper.specs.Scan.{literal}
@@ -15,10 +15,9 @@ olds-none zero t at h = sym (pass-none (literal old_line) t at)
 olds-none (suc k) t at h = absurd (omega arith)
 
 -- another line is there, or it is not
-pub olds-on : (k : ℕ) (t : List ℕ) (at : ℕ) {e : ℕ} → 0 < k → got tt e ≡ literal old_line t at → olds k t at ≡ olds (k - 1) t e
+pub olds-on : {k more : ℕ} (t : List ℕ) (at : ℕ) {e : ℕ} → k ≡ suc more → got tt e ≡ literal old_line t at → olds more t e ≡ olds k t at
 unfolding forget
-olds-on zero t at h s = absurd (omega arith)
-olds-on (suc k) t at h s = pass-more (literal old_line) t k at ∙ rw (← s, sub-one)
+olds-on {k} {more} t at is s = rw is (sym (pass-more (literal old_line) t more at ∙ rw (← s)))
 
 pub olds-not : (k : ℕ) (t : List ℕ) (at : ℕ) → 0 < k → bad 20 0 ≡ literal old_line t at → olds k t at ≡ bad 20 0
 unfolding forget

@@ -1,5 +1,5 @@
 -- A string's line: its hex digits stay in the text, and there they are those that its bytes have. Assumes nothing.
-use Rattle.std.specs.Prelude.{◌≡◌, refl, Bool, true, false, List, [], ◌∷◌, ℕ, zero, suc, ◌+◌, ◌-◌, ◌≤◌, ◌<◌, eqb, length, get_or, take, drop}
+use Rattle.std.specs.Prelude.{Some, None, ◌≡◌, refl, Bool, true, false, List, [], ◌∷◌, ℕ, zero, suc, ◌+◌, ◌-◌, ◌≤◌, ◌<◌, eqb, length, get_or, take, drop}
 use Rattle.std.proofs.Math.Path.{sym}
 use Rattle.std.proofs.Common.{ap, ◌∙◌, lt_of_not-le, not-suc-le-zero, eqb-true}
 use native.Mathlib.Omega.{arith}
@@ -14,7 +14,6 @@ use Rattle.laws.specs.Says.{Bytes, span}
 use Rattle.laws.specs.Hexes.{hex_bytes-says}
 use Rattle.words.specs.ReadBytes.{ended-open, ended-got}
 use Rattle.words.specs.declared.read.Place.{Place}
-use Rattle.parse.specs.declared.StringLine.TheVariants as string
 use Rattle.parse.specs.Answers.{HexEnd, StringReads}
 
 -- ── where bytes stand ──
@@ -62,16 +61,16 @@ all-bytes (b ∷ t) h = (h 0, all-bytes t (λ i. h (suc i)))
 -- ── the ways out ──
 
 module _ {t : List ℕ} {at : ℕ} where
-  pub string-not : bad 20 0 ≡ literal (ascii "str\t") t at → StringReads t at string.Bad
+  pub string-not : bad 20 0 ≡ literal (ascii "str\t") t at → StringReads t at None
   unfolding read_string ◌>>◌
   string-not h = record { says = rw (← h) }
 
   module _ {start : ℕ} (word : got tt start ≡ literal (ascii "str\t") t at) {end : ℕ} (H : HexEnd t start end) where
-    pub string-open : bad 20 0 ≡ byte_is newline t end → StringReads t at string.Bad
+    pub string-open : bad 20 0 ≡ byte_is newline t end → StringReads t at None
     unfolding read_string ◌>>◌
     string-open h = record { says = rw (← word, ← ended-open newline hex_bytes t start (sym H.digits) h) }
 
-    pub string-got : Bytes t → {c : Place} → got tt c.at ≡ byte_is newline t end → StringReads t at (string.Got start end c)
+    pub string-got : Bytes t → {c : Place} → got tt c.at ≡ byte_is newline t end → StringReads t at (Some (record { from = start; to = end }, c))
     unfolding read_string ascii ◌>>◌
     string-got B h =
         let (four, inside) = literal-there 115 (116 ∷ 114 ∷ 9 ∷ []) (omega arith, (omega arith, (omega arith, (omega arith, tt)))) t at start word in

@@ -1,4 +1,4 @@
-// A kind in a listing: its numbers joined by commas. A kind that breaks a rule of its own is `Bad` like one that cannot be read.
+// A kind in a listing: its numbers joined by commas. A kind that breaks a rule of its own is `None` like one that cannot be read.
 ghost use Rattle.std.specs.Prelude.{◌≡◌, ◌≤◌};
 ghost use Rattle.paper.specs.Rules.{element_kind_rules, any_type};
 ghost use Rattle.paper.specs.Keeps.{number?};
@@ -7,13 +7,9 @@ ghost use Rattle.words.specs.Answers.{out_number};
 ghost use Rattle.parse.specs.Answers.{width_of, Half, constant_of, array_of, many_of, element_of, kinds_of, map_of, KindReads};
 
 use paper::Ledger;
-use values::constants::at_most;
-use words::read::{Number, Place, Step};
+use words::read::{Place, Scanned};
 
 const COMMA: u64 = 44;
-
-// 2 ^ 64 - 1
-const MOST: u64 = 18446744073709551615;
 
 // A kind by three numbers: the first, of which 32 stands for all above; a constant's bits, an array's length or a map's number
 // of types, and else 0; and the last, which is the element kind, or the kind's only number. A constant's is 0. A map has several
@@ -25,19 +21,13 @@ pub struct Kind {
     pub e: u64,
 }
 
-#[derive(Clone, Copy)]
-pub enum KindWord {
-    Got(Kind, Place),
-    Bad,
-}
-
 // An element kind: 5 to 14, or 32 upwards. Constants, arrays and maps are no elements, and the gaps are no kinds.
 fn is_element(k: u64) -> bool
     ensures { result ≡ number? (element_kind_rules any_type) k }
 {
     match k {
         5..=14 => true,
-        32..=MOST => true,
+        32..=u64::MAX => true,
         0..=4 | 15..=31 => false,
     }
 }
@@ -55,140 +45,113 @@ fn half_of(k: u64) -> u64
 }
 
 // A constant's value follows its number. It is read as 64 bits, and of a narrower value only those that the kind has are kept.
-fn constant(t: &[u8], p: Place, k: u64) -> KindWord
+fn constant(t: &[u8], p: Place, k: u64) -> Scanned<Kind>
     requires { k ≤ 4 }
     ensures { KindReads (constant_of k) t.now p.at result }
 {
-    let Step::To(value) = p.byte(t, COMMA) else {
-        return KindWord::Bad;
-    };
-    let Number::Got(bits, next) = value.integer(t) else {
-        return KindWord::Bad;
-    };
+    let value = p.byte(t, COMMA)?;
+    let (bits, next) = value.integer(t)?;
     let half = half_of(k);
     if bits < half {
-        return KindWord::Got(Kind { k, a: bits, e: 0 }, next);
+        return Some((Kind { k, a: bits, e: 0 }, next));
     }
     // The value is as far below -1 as its bits are below the top.
-    let below = MOST - bits;
+    let below = u64::MAX - bits;
     if half <= below {
-        return KindWord::Bad;
+        return None;
     }
     let above = half - 1 - below;
     let kept = half + above;
-    KindWord::Got(Kind { k, a: kept, e: 0 }, next)
+    Some((Kind { k, a: kept, e: 0 }, next))
 }
 
 // An array's length and element kind follow its number.
-fn array(t: &[u8], p: Place) -> KindWord
+fn array(t: &[u8], p: Place) -> Scanned<Kind>
     ensures { KindReads array_of t.now p.at result }
 {
-    let Step::To(length) = p.byte(t, COMMA) else {
-        return KindWord::Bad;
-    };
-    let Number::Got(n, element) = length.natural_ended(t, COMMA) else {
-        return KindWord::Bad;
-    };
-    let Number::Got(e, next) = element.natural(t) else {
-        return KindWord::Bad;
-    };
+    let length = p.byte(t, COMMA)?;
+    let (n, element) = length.natural_ended(t, COMMA)?;
+    let (e, next) = element.natural(t)?;
     if !Ledger::is_small(n) {
-        return KindWord::Bad;
+        return None;
     }
     if is_element(e) {
-        return KindWord::Got(Kind { k: 15, a: n, e }, next);
+        return Some((Kind { k: 15, a: n, e }, next));
     }
-    KindWord::Bad
+    None
 }
 
 // An element kind behind a comma.
-fn element(t: &[u8], p: Place) -> Number
+fn element(t: &[u8], p: Place) -> Scanned<u64>
     ensures { out_number result ≡ element_of t.now p.at }
 {
-    let Step::To(word) = p.byte(t, COMMA) else {
-        return Number::Bad;
-    };
-    let Number::Got(e, next) = word.natural(t) else {
-        return Number::Bad;
-    };
+    let word = p.byte(t, COMMA)?;
+    let (e, next) = word.natural(t)?;
     if is_element(e) {
-        return Number::Got(e, next);
+        return Some((e, next));
     }
-    Number::Bad
+    None
 }
 
 // Of a kind whose values have lengths of their own only the element kind follows the number.
-fn many(t: &[u8], p: Place, k: u64) -> KindWord
+fn many(t: &[u8], p: Place, k: u64) -> Scanned<Kind>
     requires { (17 ≤ k) × (k ≤ 19) }
     ensures { KindReads (many_of k) t.now p.at result }
 {
-    let Number::Got(e, next) = element(t, p) else {
-        return KindWord::Bad;
-    };
-    KindWord::Got(Kind { k, a: 0, e }, next)
+    let (e, next) = element(t, p)?;
+    Some((Kind { k, a: 0, e }, next))
 }
 
 // The n element kinds of a map. Eight bytes hold what is kept of them, and the first stands highest. A kind from 255 upwards
 // can be read, but it names no type, so 255 tells all that the rules ask of it.
-fn map_kinds(t: &[u8], p: Place, n: u64) -> KindWord
+fn map_kinds(t: &[u8], p: Place, n: u64) -> Scanned<Kind>
     requires { (2 ≤ n) × (n ≤ 8) }
     ensures { KindReads (kinds_of n) t.now p.at result }
 {
-    let mut at = p.at;
-    let mut left = n;
+    let mut at = p;
     let mut packed: u64 = 0;
-    while 0 < left {
-        let one = element(t, Place { at });
-        let Number::Got(e, next) = one else {
-            return KindWord::Bad;
-        };
-        packed = packed * 256 + at_most(e, 255);
-        at = next.at;
-        left -= 1;
+    for _ in 0..n {
+        let (e, next) = element(t, at)?;
+        packed = packed * 256 + e.min(255);
+        at = next;
     }
-    KindWord::Got(
+    Some((
         Kind {
             k: 20,
             a: n,
             e: packed,
         },
-        Place { at },
-    )
+        at,
+    ))
 }
 
 // A map's number of types and that many element kinds follow its number.
-fn mapping(t: &[u8], p: Place) -> KindWord
+fn mapping(t: &[u8], p: Place) -> Scanned<Kind>
     ensures { KindReads map_of t.now p.at result }
 {
-    let Step::To(types) = p.byte(t, COMMA) else {
-        return KindWord::Bad;
-    };
-    let Number::Got(n, kinds) = types.natural(t) else {
-        return KindWord::Bad;
-    };
+    let types = p.byte(t, COMMA)?;
+    let (n, kinds) = types.natural(t)?;
     if n < 2 {
-        return KindWord::Bad;
+        return None;
     }
     if 8 < n {
-        return KindWord::Bad;
+        return None;
     }
     map_kinds(t, kinds, n)
 }
 
 // A kind. Its number tells which, and what follows: the gaps at 16 and 21 to 31 are none, and from 32 upwards it names a type.
-pub fn kind_word(t: &[u8], p: Place) -> KindWord
+pub fn kind_word(t: &[u8], p: Place) -> Scanned<Kind>
     ensures { KindReads read_kind t.now p.at result }
 {
-    let Number::Got(k, next) = p.natural(t) else {
-        return KindWord::Bad;
-    };
+    let (k, next) = p.natural(t)?;
     match k {
         0..=4 => constant(t, next, k),
-        5..=14 => KindWord::Got(Kind { k, a: 0, e: k }, next),
+        5..=14 => Some((Kind { k, a: 0, e: k }, next)),
         15 => array(t, next),
         17..=19 => many(t, next, k),
         20 => mapping(t, next),
-        32..=MOST => KindWord::Got(Kind { k: 32, a: 0, e: k }, next),
-        16 | 21..=31 => KindWord::Bad,
+        32..=u64::MAX => Some((Kind { k: 32, a: 0, e: k }, next)),
+        16 | 21..=31 => None,
     }
 }

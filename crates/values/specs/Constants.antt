@@ -1,19 +1,13 @@
 -- A constant's number, from the bits that a table keeps of it. Assumes nothing.
-use Rattle.std.specs.Prelude.{◌≡◌, ℕ, ◌+◌, ◌-◌, ◌/◌, ◌^◌, ◌<◌, ◌≤◌, ℤ, negsuc, refl}
+use Rattle.std.specs.Prelude.{◌≡◌, ℕ, ◌+◌, ◌-◌, ◌/◌, ◌^◌, ◌<◌, ◌≤◌, min, ℤ, negsuc, refl}
 use Rattle.std.proofs.Common.{sym, ap, ◌∙◌, le-leb, le-ltb}
 use native.Mathlib.Omega.{arith}
-use Rattle.std.proofs.Math.Nat.{lt_of_not-le}
+use Rattle.std.proofs.Math.Nat.{lt_of_not-le, le_of_lt, min-eq_left, min-eq_right}
 use Rattle.std.proofs.Math.Decide.{dec_le}
 use Rattle.paper.specs.Reader.{when◌then◌else◌}
 use Rattle.paper.specs.Numbers.{signed}
 use Rattle.paper.specs.Ledger.{constant}
 use Rattle.table.specs.View.{kind_from}
-
--- a itself, or the most that is taken
-pub record Capped (a most r : ℕ) : Type 0 where
-  pub below : r ≤ most
-  pub same : a ≤ most → r ≡ a
-  pub top : most < a → r ≡ most
 
 -- bits past the range of w bytes say -1, as the highest within it do
 signed_top : (w most a : ℕ) → 256 ^ w ≡ most + 1 → 256 ^ w / 2 ≤ most → most ≤ a → signed w a ≡ negsuc 0
@@ -22,14 +16,13 @@ signed_top w most a is half le =
     let none : 256 ^ w - 1 - a ≡ 0 = omega arith in
     rw (le-ltb a (256 ^ w / 2) (omega arith), none)
 
-pub signed-capped : (w most : ℕ) → 256 ^ w ≡ most + 1 → 256 ^ w / 2 ≤ most → {a r : ℕ} → Capped a most r → signed w r ≡ signed w a
-signed-capped w most is half {a} {r} C =
+pub signed-capped : (w most a : ℕ) → 256 ^ w ≡ most + 1 → 256 ^ w / 2 ≤ most → signed w (min a most) ≡ signed w a
+signed-capped w most a is half =
     elim (dec_le a most) [
-      | yes d ↦ ap (signed w) (C.same d)
+      | yes d ↦ ap (signed w) (min-eq_left d)
       | no d ↦
-          (let lt = lt_of_not-le d in
-          let top = C.top lt in
-          signed_top w most r is half (omega arith) ∙ sym (signed_top w most a is half (omega arith)))
+          (let le = le_of_lt (lt_of_not-le d) in
+          rw (min-eq_right le) (signed_top w most most is half (omega arith) ∙ sym (signed_top w most a is half le)))
     ]
 
 module _ (k a : ℕ) {z : ℤ} where
@@ -37,15 +30,14 @@ module _ (k a : ℕ) {z : ℤ} where
   unfolding kind_from when◌then◌else◌
   constant-low w h p is e = rw (le-leb k 3 h, p, is)
 
-  module _ {r : ℕ} where
-    pub constant-i8 : k ≡ 0 → Capped a 255 r → z ≡ signed 1 r → (e : ℕ) → kind_from k a e ≡ constant k z
-    constant-i8 h C is = constant-low 1 (omega arith) (rw h) (is ∙ signed-capped 1 255 refl (omega arith) C)
+  pub constant-i8 : k ≡ 0 → z ≡ signed 1 (min a 255) → (e : ℕ) → kind_from k a e ≡ constant k z
+  constant-i8 h is = constant-low 1 (omega arith) (rw h) (is ∙ signed-capped 1 255 a refl (omega arith))
 
-    pub constant-i16 : k ≡ 1 → Capped a 65535 r → z ≡ signed 2 r → (e : ℕ) → kind_from k a e ≡ constant k z
-    constant-i16 h C is = constant-low 2 (omega arith) (rw h) (is ∙ signed-capped 2 65535 refl (omega arith) C)
+  pub constant-i16 : k ≡ 1 → z ≡ signed 2 (min a 65535) → (e : ℕ) → kind_from k a e ≡ constant k z
+  constant-i16 h is = constant-low 2 (omega arith) (rw h) (is ∙ signed-capped 2 65535 a refl (omega arith))
 
-    pub constant-i32 : k ≡ 2 → Capped a 4294967295 r → z ≡ signed 4 r → (e : ℕ) → kind_from k a e ≡ constant k z
-    constant-i32 h C is = constant-low 4 (omega arith) (rw h) (is ∙ signed-capped 4 4294967295 refl (omega arith) C)
+  pub constant-i32 : k ≡ 2 → z ≡ signed 4 (min a 4294967295) → (e : ℕ) → kind_from k a e ≡ constant k z
+  constant-i32 h is = constant-low 4 (omega arith) (rw h) (is ∙ signed-capped 4 4294967295 a refl (omega arith))
 
   pub constant_wide : 2 < k → k ≤ 4 → z ≡ signed 8 a → (e : ℕ) → kind_from k a e ≡ constant k z
   unfolding kind_from when◌then◌else◌

@@ -2,18 +2,8 @@
 ghost use Rattle.std.specs.Prelude.{◌≡◌, ℕ, ◌≤◌};
 ghost use Rattle.paper.specs.Ledger.{constant};
 ghost use Rattle.table.specs.View.{kind_from};
-ghost use Rattle.values.specs.Constants.{Capped};
 
 use numbers::sign;
-
-pub fn at_most(a: u64, most: u64) -> u64
-    ensures { Capped a most result }
-{
-    if most < a {
-        return most;
-    }
-    a
-}
 
 // The number that a constant's bits stand for. No table keeps more bits than the kind has, so none are cut off here.
 pub fn constant_of(k: u32, a: u64) -> i64
@@ -21,9 +11,9 @@ pub fn constant_of(k: u32, a: u64) -> i64
     ensures { (e : ℕ) → kind_from k a e ≡ constant k result }
 {
     match k {
-        0 => sign::signed1(at_most(a, 255)),
-        1 => sign::signed2(at_most(a, 65535)),
-        2 => sign::signed4(at_most(a, 4294967295)),
+        0 => sign::signed1(a.min(255)),
+        1 => sign::signed2(a.min(65535)),
+        2 => sign::signed4(a.min(4294967295)),
         _ => sign::signed8(a),
     }
 }

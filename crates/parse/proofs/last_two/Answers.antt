@@ -1,11 +1,11 @@
 use Rattle.parse.specs.LineLaws.{two-no-first, two-no-second, two-got}
 use Rattle.parse.proofs.last_two.Goals as goal
 
-pub returns-in_default : goal.returns-in_default
-returns-in_default c = two-no-first _ _ (rw c.in_default.is at c.natural_ended.ensures)
+pub returns-in_err-first : goal.returns-in_err-first
+returns-in_err-first c = rw c.from_residual.ensures (two-no-first _ _ c.in_err-first.ensures)
 
-pub returns-in_default-natural_ended : goal.returns-in_default-natural_ended
-returns-in_default-natural_ended c = two-no-second _ _ (rw c.in-Got.is at c.natural_ended.ensures) (rw c.in_default-natural_ended.is at c.natural_ended-2.ensures)
+pub returns-in_err-second : goal.returns-in_err-second
+returns-in_err-second c = rw c.from_residual-in_err-second.ensures (two-no-second _ _ c.in_ok-first.ensures c.in_err-second.ensures)
 
 pub returns : goal.returns
-returns c = two-got _ _ (rw c.in-Got.is at c.natural_ended.ensures) (rw c.in-Got-natural_ended.is at c.natural_ended-2.ensures)
+returns c = two-got _ _ c.in_ok-first.ensures c.in_ok-second.ensures

@@ -2,22 +2,22 @@ use Rattle.paper.specs.Listing.{ascii}
 use Rattle.parse.specs.NewLaws.{new-not, new-no-kind, new-no-tab, new-no-name, new-got}
 use Rattle.parse.proofs.new_line.Goals as goal
 
-pub returns-in_default : goal.returns-in_default
+pub returns-in_err-first : goal.returns-in_err-first
 unfolding ascii
-returns-in_default c = new-not _ _ (rw c.in_default.is at c.literal.ensures)
+returns-in_err-first c = rw c.from_residual.ensures (new-not _ _ c.in_err-first.ensures)
 
-pub returns-in_default-kind_word : goal.returns-in_default-kind_word
+pub returns-in_err-kind : goal.returns-in_err-kind
 unfolding ascii
-returns-in_default-kind_word c = new-no-kind _ _ (rw c.in-To.is at c.literal.ensures) (rw c.in_default-kind_word.is at c.kind_word.ensures)
+returns-in_err-kind c = rw c.from_residual-in_err-kind.ensures (new-no-kind _ _ c.in_ok-first.ensures c.in_err-kind.ensures)
 
-pub returns-in_default-byte : goal.returns-in_default-byte
+pub returns-in_err-second : goal.returns-in_err-second
 unfolding ascii
-returns-in_default-byte c = new-no-tab _ _ (rw c.in-To.is at c.literal.ensures) (rw c.in-Got.is at c.kind_word.ensures) (rw c.in_default-byte.is at c.byte.ensures)
+returns-in_err-second c = rw c.from_residual-in_err-second.ensures (new-no-tab _ _ c.in_ok-first.ensures c.in_ok-kind.ensures c.in_err-second.ensures)
 
-pub returns-in_default-natural_ended : goal.returns-in_default-natural_ended
+pub returns-in_err-name : goal.returns-in_err-name
 unfolding ascii
-returns-in_default-natural_ended c = new-no-name _ _ (rw c.in-To.is at c.literal.ensures) (rw c.in-Got.is at c.kind_word.ensures) (rw c.in-To-byte.is at c.byte.ensures) (rw c.in_default-natural_ended.is at c.natural_ended.ensures)
+returns-in_err-name c = rw c.from_residual-in_err-name.ensures (new-no-name _ _ c.in_ok-first.ensures c.in_ok-kind.ensures c.in_ok-second.ensures c.in_err-name.ensures)
 
 pub returns : goal.returns
 unfolding ascii
-returns c = new-got _ _ (rw c.in-To.is at c.literal.ensures) (rw c.in-Got.is at c.kind_word.ensures) (rw c.in-To-byte.is at c.byte.ensures) (rw c.in-Got-natural_ended.is at c.natural_ended.ensures)
+returns c = new-got _ _ c.in_ok-first.ensures c.in_ok-kind.ensures c.in_ok-second.ensures c.in_ok-name.ensures

@@ -1,15 +1,12 @@
-use Rattle.std.proofs.Common.{refl, sym, ◌∙◌, arith}
+use Rattle.std.proofs.Common.{sym, ◌-◌, ◌∙◌, arith}
 use Rattle.parse.specs.OldLaws.{olds-none, olds-on, olds-not}
 use Rattle.parse.proofs.old_lines.Goals as goal
 
-pub loop-left-init : goal.loop-left-init
-loop-left-init c = refl
+pub returns-in_err-at : goal.returns-in_err-at
+returns-in_err-at c = rw c.from_residual.ensures (sym (olds-not (c.args.n - c.loop.counter) _ c.loop.at.at (omega arith) c.in_err-at.ensures) ∙ c.loop.invariant)
 
-pub returns-in_default : goal.returns-in_default
-returns-in_default c = sym (olds-not c.loop-left.left _ c.loop-left.at (omega arith) (rw c.in_default.is at c.old_line.ensures)) ∙ c.loop-left.invariant
-
-pub loop-left-preserved : goal.loop-left-preserved
-loop-left-preserved c = sym (olds-on c.loop-left.left _ c.loop-left.at (omega arith) (rw c.in-To.is at c.old_line.ensures)) ∙ c.loop-left.invariant
+pub loop-preserved : goal.loop-preserved
+loop-preserved c = olds-on _ c.loop.at.at (omega arith) c.in_ok-at.ensures ∙ c.loop.invariant
 
 pub returns : goal.returns
-returns c = olds-none c.loop-left.left _ c.loop-left.at (omega arith) ∙ c.loop-left.invariant
+returns c = olds-none (c.args.n - c.loop.counter) _ c.loop.at.at (omega arith) ∙ c.loop.invariant

@@ -1,8 +1,6 @@
+use Rattle.std.proofs.Common.{◌-◌}
 use Rattle.parse.specs.MapLaws.{KindsGoing}
 use Rattle.parse.proofs.kinds.map_kinds.Given as goal
 
-abbrev pub invariant-loop-left : goal.invariant-loop-left
-invariant-loop-left l = KindsGoing l.t l.initial.at l.n l.at l.left l.packed
-
-abbrev pub decreases-loop-left : goal.decreases-loop-left
-decreases-loop-left l = l.left
+abbrev pub invariant-loop : goal.invariant-loop
+invariant-loop l = KindsGoing l.t l.initial.at.at l.n l.at.at (l.n - l.counter) l.packed
