@@ -21,15 +21,13 @@ fn are_bools(part: &[u8], at: usize, end: usize) -> bool
     ensures { result ≡ true → Bools part.now at end }
 {
     let mut others: u8 = 0;
-    let mut i = at;
-    while i < end {
+    for i in at..end {
         let b = part[i];
         if b != 0 {
             if b != 255 {
                 others = 1;
             }
         }
-        i += 1;
     }
     others == 0
 }
@@ -56,8 +54,7 @@ fn bools_in_turn(part: &[u8], c: Cursor, m: u64) -> Outcome<u64>
     ensures { Passed (repeat m (must (fixed 1) bool_rules)) part.now c.at result }
 {
     let mut here = c;
-    let mut rest = m;
-    while 0 < rest {
+    for _ in 0..m {
         let (b, next) = here.be1(part)?;
         if b != 0 {
             if b != 255 {
@@ -68,7 +65,6 @@ fn bools_in_turn(part: &[u8], c: Cursor, m: u64) -> Outcome<u64>
             }
         }
         here = next;
-        rest -= 1;
     }
     Ok((0, here))
 }
@@ -106,11 +102,7 @@ fn looks(part: &[u8], at: usize, rest: u64) -> u64
         return 0;
     }
     let room = ((part.len() - at) / 9) as u64;
-    let most = rest / 8;
-    if room < most {
-        return room;
-    }
-    most
+    room.min(rest / 8)
 }
 
 // As many numbers as end in so many looks.
@@ -120,12 +112,10 @@ fn v64s_there(part: &[u8], c: Cursor, n: u64) -> Run
 {
     let mut here = c;
     let mut count: u64 = 0;
-    let mut left = n;
-    while 0 < left {
+    for _ in 0..n {
         let a = here.past_v64s(part);
         count += a.count;
         here = a.next;
-        left -= 1;
     }
     Run { count, next: here }
 }
@@ -169,10 +159,8 @@ fn each_v64(part: &[u8], c: Cursor, m: u64) -> Cursor
     ensures { Over part.now m c.at result.at }
 {
     let mut here = c;
-    let mut rest = m;
-    while 0 < rest {
+    for _ in 0..m {
         here = here.pass_v64(part);
-        rest -= 1;
     }
     here
 }
@@ -182,10 +170,8 @@ fn v64s_in_turn(part: &[u8], c: Cursor, m: u64) -> Outcome<u64>
     ensures { Passed (repeat m v64) part.now c.at result }
 {
     let mut here = c;
-    let mut rest = m;
-    while 0 < rest {
+    for _ in 0..m {
         here = here.past_v64(part)?;
-        rest -= 1;
     }
     Ok((0, here))
 }
@@ -204,15 +190,6 @@ pub fn number_up_to(part: &[u8], c: Cursor, most: u64) -> Outcome<u64>
     Ok((n, next))
 }
 
-fn larger(a: u64, b: u64) -> u64
-    ensures { (a ≤ result) × (b ≤ result) }
-{
-    if a < b {
-        return b;
-    }
-    a
-}
-
 // n numbers that are there: the largest of them, and the cursor behind them.
 fn numbers_there(part: &[u8], c: Cursor, n: u64) -> Taken
     requires { c.at + 9 * n ≤ length part.now }
@@ -220,12 +197,10 @@ fn numbers_there(part: &[u8], c: Cursor, n: u64) -> Taken
 {
     let mut here = c;
     let mut largest: u64 = 0;
-    let mut left = n;
-    while 0 < left {
+    for _ in 0..n {
         let a = here.take_v64(part);
-        largest = larger(largest, a.number);
+        largest = largest.max(a.number);
         here = a.next;
-        left -= 1;
     }
     Taken {
         number: largest,
@@ -241,10 +216,7 @@ fn surely(part: &[u8], at: usize, rest: u64) -> u64
         return 0;
     }
     let room = ((part.len() - at) / 9) as u64;
-    if room < rest {
-        return room;
-    }
-    rest
+    room.min(rest)
 }
 
 // m numbers of strings. Of those that are surely there only the largest is held against the bound, and they are looked at one by one where it
@@ -272,11 +244,9 @@ pub fn strings_in_turn(part: &[u8], c: Cursor, m: u64, strings: u64) -> Outcome<
     ensures { Passed (repeat m (linked (at_most strings))) part.now c.at result }
 {
     let mut here = c;
-    let mut rest = m;
-    while 0 < rest {
+    for _ in 0..m {
         let (_, next) = number_up_to(part, here, strings)?;
         here = next;
-        rest -= 1;
     }
     Ok((0, here))
 }
