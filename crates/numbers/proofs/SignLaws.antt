@@ -4,8 +4,9 @@ use mathlib.Core.Path.{◌≡◌, refl, sym, ap, ◌∙◌}
 use mathlib.Core.Bool.{true, false}
 use Prim.Native.Nat.{ℕ, zero, suc, ◌+◌, ◌-◌, ◌*◌, ◌^◌, ◌/◌, ◌%◌, ◌≤◌, ◌<◌}
 use native.Mathlib.Omega.{arith}
-use native.Mathlib.Nat.{zero-add, lt_of_not-le, mod-lt, mod-eq_of_lt, mul-add-mod_self_right}
+use native.Mathlib.Nat.{zero-add, lt_of_not-le, mod-lt, mod-eq_of_lt, mul-add-mod_self_right, pow-suc, pow-le-pow_right, one-le-pow}
 use native.Mathlib.Decide.{dec_le}
+use lib.Dec.{lit<}
 use lib.IntN.{ℤ, pos, negsuc, neg_ℤ, ◌-ℤ◌, +ℤ_comm, -ℤ_one, +ℤ-neg_ℤ_cancel, neg_ℤ-+ℤ, neg_ℤ-neg_ℤ, pos-+ℤ-pos}
 use lib.Signed.{mag, lt_z}
 use mir.Syntax.{w64}
@@ -14,7 +15,23 @@ use mir.Facts.{to_z-of_z, to_z_pos}
 use borrow.Author.Tests.{lt-ltb, le-ltb, ltb-true}
 use Rattle.paper.specs.Reader.{when◌then◌else◌}
 use Rattle.paper.specs.Numbers.{signed, unsigned}
-use Rattle.numbers.specs.Signs.{Bits}
+use Rattle.numbers.specs.Signs.{Bits, Half}
+use Rattle.numbers.proofs.WriteLaws.{shifted}
+
+-- ── half of a width's range ──
+
+pub halved : (w h : ℕ) → 0 < w → w ≤ 8 → h ≡ 128 * 2 ^ (8 * (w - 1)) % 2 ^ 64 → Half w h
+halved zero h some most is = absurd (omega arith)
+halved (suc k) h some most is =
+    let top = pow-le-pow_right {n = 256} (lit< tt) {i = k} {j = 7} (omega arith) in
+    let same : suc k - 1 ≡ k = omega arith in
+    let e : h ≡ 128 * 256 ^ k = is ∙ rw (same, shifted k) (mod-eq_of_lt (omega (arith, top))) in
+    record {
+      two = rw (pow-suc 256 k) (omega arith);
+      some = omega (arith, one-le-pow k 256 (lit< tt));
+      most = omega (arith, top);
+      low = λ i. omega (arith, pow-le-pow_right {n = 256} (lit< tt) {i = k} {j = 6} (omega arith));
+    }
 
 -- ── from bits ──
 

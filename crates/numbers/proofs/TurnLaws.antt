@@ -14,7 +14,6 @@ use Rattle.paper.specs.Numbers.{high_first, fixed}
 use Rattle.numbers.specs.Turned.{low_bytes, Turned, TakenAt}
 use Rattle.numbers.proofs.FixedLaws.{high-first-more}
 use Rattle.numbers.proofs.WriteLaws.{shifted}
-use Rattle.numbers.specs.Begun.{one_byte}
 
 -- ── lowest first: x is the value of the i bytes so far ──
 
@@ -114,11 +113,6 @@ module _ {width x y rest i : ℕ} (T : Turning width x y rest i) where
       }
 
 -- ── the number that is taken ──
-
-pub taken-byte :
-    {f : List ℕ} {at b : ℕ} → at + 1 ≤ length f → b ≡ get_or f at 0 → b < 256
-    → TakenAt 1 f at (record { number = b; next = record { at = at + 1 } })
-taken-byte {f} {at} room is small = record { says = one_byte f at (omega arith) ∙ rw is; place = refl; below = small }
 
 pub taken :
     {width r : ℕ} {f : List ℕ} {at x : ℕ} → at + width ≤ length f → ((i : ℕ) → get_or f i 0 < 256)

@@ -127,14 +127,14 @@ fn fixed_at(s: &[u8], at: usize, width: usize) -> Outcome<u64>
     Ok((x, Cursor { at: at + width }))
 }
 
-// `width` bytes that are there, lowest first. Only so does the compiler make one load of them.
-fn low_first(s: &[u8], at: usize, width: usize) -> u64
-    requires { (width ≤ 8) × (at + width ≤ length s.now) }
-    ensures { result ≡ low_bytes (take width (drop at s.now)) }
+// `WIDTH` bytes that are there, lowest first. Only so does the compiler make one load of them.
+fn low_first<const WIDTH: usize>(s: &[u8], at: usize) -> u64
+    requires { (WIDTH ≤ 8) × (at + WIDTH ≤ length s.now) }
+    ensures { result ≡ low_bytes (take WIDTH (drop at s.now)) }
 {
     let mut x: u64 = 0;
     let mut i: usize = 0;
-    while i < width {
+    while i < WIDTH {
         let b = wide(s[at + i]);
         x += b << (8 * i);
         i += 1;
@@ -142,39 +142,21 @@ fn low_first(s: &[u8], at: usize, width: usize) -> u64
     x
 }
 
-// The lowest `width` bytes of x the other way round.
-fn turned(x: u64, width: u64) -> u64
-    requires { width ≤ 8 }
-    ensures { Turned width x result }
+// The lowest `WIDTH` bytes of x the other way round. Where the width is known, the compiler knows this for one instruction, before it
+// meets the bytes that are turned.
+fn turned<const WIDTH: usize>(x: u64) -> u64
+    requires { WIDTH ≤ 8 }
+    ensures { Turned WIDTH x result }
 {
     let mut y: u64 = 0;
     let mut rest = x;
-    let mut i: u64 = 0;
-    while i < width {
+    let mut i: usize = 0;
+    while i < WIDTH {
         y = y * 256 + rest % 256;
         rest /= 256;
         i += 1;
     }
     y
-}
-
-// Each width by itself: the compiler then knows the turning for one instruction, before it meets the bytes that are turned.
-fn turned2(x: u64) -> u64
-    ensures { Turned 2 x result }
-{
-    turned(x, 2)
-}
-
-fn turned4(x: u64) -> u64
-    ensures { Turned 4 x result }
-{
-    turned(x, 4)
-}
-
-fn turned8(x: u64) -> u64
-    ensures { Turned 8 x result }
-{
-    turned(x, 8)
 }
 
 // Which of the eight bytes of x end a v64: those without their top bit, which is set here.
@@ -247,7 +229,7 @@ fn long_v64(s: &[u8], at: usize) -> Taken
     requires { at + 9 ≤ length s.now }
     ensures { TakenV64 s.now at result }
 {
-    let x = low_first(s, at, 8);
+    let x = low_first::<8>(s, at);
     let marked = ends(x);
     if marked == 0 {
         let ninth = wide(s[at + 8]) << 56;
@@ -303,7 +285,7 @@ impl Cursor {
         ensures { Ended s.now self.at result.at × (result.at ≤ self.at + 9) }
     {
         let at = self.at;
-        let marked = ends(low_first(s, at, 8));
+        let marked = ends(low_first::<8>(s, at));
         let bit = u64::trailing_zeros(marked);
         Cursor {
             at: at + ((bit / 8) as usize) + 1,
@@ -340,7 +322,7 @@ impl Cursor {
         ensures { Ran s.now self.at result }
     {
         let at = self.at;
-        let marked = ends(low_first(s, at, 8));
+        let marked = ends(low_first::<8>(s, at));
         if marked == 0 {
             let next = Cursor { at: at + 9 };
             return Run { count: 1, next };
@@ -364,68 +346,22 @@ impl Cursor {
         Ok((n, next))
     }
 
-    pub fn be1(self, s: &[u8]) -> Outcome<u64>
-        ensures { Read (fixed 1) (256 ^ 1) s.now self.at result }
+    // A number of `WIDTH` bytes, highest first.
+    pub fn be<const WIDTH: usize>(self, s: &[u8]) -> Outcome<u64>
+        requires { WIDTH ≤ 8 }
+        ensures { Read (fixed WIDTH) (256 ^ WIDTH) s.now self.at result }
     {
-        fixed_at(s, self.at, 1)
-    }
-
-    pub fn be2(self, s: &[u8]) -> Outcome<u64>
-        ensures { Read (fixed 2) (256 ^ 2) s.now self.at result }
-    {
-        fixed_at(s, self.at, 2)
-    }
-
-    pub fn be4(self, s: &[u8]) -> Outcome<u64>
-        ensures { Read (fixed 4) (256 ^ 4) s.now self.at result }
-    {
-        fixed_at(s, self.at, 4)
-    }
-
-    pub fn be8(self, s: &[u8]) -> Outcome<u64>
-        ensures { Read (fixed 8) (256 ^ 8) s.now self.at result }
-    {
-        fixed_at(s, self.at, 8)
+        fixed_at(s, self.at, WIDTH)
     }
 
     // Numbers of a fixed width that are known to be there: no test, and in a loop over many the compiler reads several at once.
-    pub fn take1(self, s: &[u8]) -> Taken
-        requires { self.at + 1 ≤ length s.now }
-        ensures { TakenAt 1 s.now self.at result }
+    pub fn take<const WIDTH: usize>(self, s: &[u8]) -> Taken
+        requires { (WIDTH ≤ 8) × (self.at + WIDTH ≤ length s.now) }
+        ensures { TakenAt WIDTH s.now self.at result }
     {
         let at = self.at;
-        let number = wide(s[at]);
-        let next = Cursor { at: at + 1 };
-        Taken { number, next }
-    }
-
-    pub fn take2(self, s: &[u8]) -> Taken
-        requires { self.at + 2 ≤ length s.now }
-        ensures { TakenAt 2 s.now self.at result }
-    {
-        let at = self.at;
-        let number = turned2(low_first(s, at, 2));
-        let next = Cursor { at: at + 2 };
-        Taken { number, next }
-    }
-
-    pub fn take4(self, s: &[u8]) -> Taken
-        requires { self.at + 4 ≤ length s.now }
-        ensures { TakenAt 4 s.now self.at result }
-    {
-        let at = self.at;
-        let number = turned4(low_first(s, at, 4));
-        let next = Cursor { at: at + 4 };
-        Taken { number, next }
-    }
-
-    pub fn take8(self, s: &[u8]) -> Taken
-        requires { self.at + 8 ≤ length s.now }
-        ensures { TakenAt 8 s.now self.at result }
-    {
-        let at = self.at;
-        let number = turned8(low_first(s, at, 8));
-        let next = Cursor { at: at + 8 };
+        let number = turned::<WIDTH>(low_first::<WIDTH>(s, at));
+        let next = Cursor { at: at + WIDTH };
         Taken { number, next }
     }
 
@@ -473,7 +409,7 @@ impl Cursor {
         ensures { Read (fixed width) (256 ^ width) s.now self.at result }
     {
         if width == 8 {
-            return self.be8(s);
+            return self.be::<8>(s);
         }
         fixed_at(s, self.at, width)
     }

@@ -5,7 +5,7 @@ ghost use Rattle.paper.specs.Numbers.{signed};
 ghost use Rattle.paper.specs.Ledger.{float};
 ghost use Rattle.paper.specs.Keeps.{signed?};
 ghost use Rattle.paper.specs.Calls.{stored};
-ghost use Rattle.numbers.specs.Signs.{Bits};
+ghost use Rattle.numbers.specs.Signs.{Bits, Half};
 
 // The number that x stands for, at every width whose range has this half.
 fn from_bits(x: u64, half: u64) -> i64
@@ -46,58 +46,32 @@ fn to_bits(z: i64, half: u64) -> u64
     z as u64
 }
 
-pub fn signed1(x: u64) -> i64
-    requires { x < 256 ^ 1 }
-    ensures { result ≡ signed 1 x }
+// Half of what `WIDTH` bytes can hold.
+fn half_of<const WIDTH: usize>() -> u64
+    requires { (0 < WIDTH) × (WIDTH ≤ 8) }
+    ensures { Half WIDTH result }
 {
-    from_low_bits(x, 128)
+    128 << (8 * (WIDTH - 1))
 }
 
-pub fn signed2(x: u64) -> i64
-    requires { x < 256 ^ 2 }
-    ensures { result ≡ signed 2 x }
+// The number that x stands for in `WIDTH` bytes. At the widest the bound holds of every x.
+pub fn signed<const WIDTH: usize>(x: u64) -> i64
+    requires { (0 < WIDTH) × (WIDTH ≤ 8) × (x < 256 ^ WIDTH) }
+    ensures { result ≡ signed WIDTH x }
 {
-    from_low_bits(x, 32768)
+    let half = half_of::<WIDTH>();
+    if WIDTH == 8 {
+        return from_bits(x, half);
+    }
+    from_low_bits(x, half)
 }
 
-pub fn signed4(x: u64) -> i64
-    requires { x < 256 ^ 4 }
-    ensures { result ≡ signed 4 x }
+// The bits that stand for z in `WIDTH` bytes. At the widest every z has its place.
+pub fn unsigned<const WIDTH: usize>(z: i64) -> u64
+    requires { (0 < WIDTH) × (WIDTH ≤ 8) × (signed? WIDTH z ≡ true) }
+    ensures { Bits WIDTH z result }
 {
-    from_low_bits(x, 2147483648)
-}
-
-pub fn signed8(x: u64) -> i64
-    ensures { result ≡ signed 8 x }
-{
-    from_bits(x, 9223372036854775808)
-}
-
-pub fn unsigned1(z: i64) -> u64
-    requires { signed? 1 z ≡ true }
-    ensures { Bits 1 z result }
-{
-    to_bits(z, 128)
-}
-
-pub fn unsigned2(z: i64) -> u64
-    requires { signed? 2 z ≡ true }
-    ensures { Bits 2 z result }
-{
-    to_bits(z, 32768)
-}
-
-pub fn unsigned4(z: i64) -> u64
-    requires { signed? 4 z ≡ true }
-    ensures { Bits 4 z result }
-{
-    to_bits(z, 2147483648)
-}
-
-pub fn unsigned8(z: i64) -> u64
-    ensures { Bits 8 z result }
-{
-    to_bits(z, 9223372036854775808)
+    to_bits(z, half_of::<WIDTH>())
 }
 
 // The bits of an f32, as a number from 0 up.
@@ -112,5 +86,5 @@ pub fn f32_stored(bits: u64) -> i64
 pub fn f64_stored(bits: u64) -> i64
     ensures { result ≡ stored (float 8 bits) }
 {
-    signed8(bits)
+    signed::<8>(bits)
 }

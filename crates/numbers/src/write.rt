@@ -50,44 +50,17 @@ pub fn put_v64(out: &mut [u8], at: usize, x: u64) -> usize
     lay::put(out, p, rest as u8)
 }
 
-// x in `width` bytes, highest first.
-fn put_fixed(out: &mut [u8], at: usize, x: u64, width: u64) -> usize
-    requires { (width ≤ 8) × (x < 256 ^ width) }
-    ensures { Laid out.old at (put_fixed width x) out.new result }
+// x in `WIDTH` bytes, highest first. At eight the bound holds of every x.
+pub fn put_be<const WIDTH: usize>(out: &mut [u8], at: usize, x: u64) -> usize
+    requires { (WIDTH ≤ 8) × (x < 256 ^ WIDTH) }
+    ensures { Laid out.old at (put_fixed WIDTH x) out.new result }
 {
     let mut p = at;
-    let mut left = width;
+    let mut left = WIDTH;
     while 0 < left {
         left -= 1;
         let low = (x >> (8 * left)) % 256;
         p = lay::put(out, p, low as u8);
     }
     p
-}
-
-pub fn put_be1(out: &mut [u8], at: usize, x: u64) -> usize
-    requires { x < 256 ^ 1 }
-    ensures { Laid out.old at (put_fixed 1 x) out.new result }
-{
-    put_fixed(out, at, x, 1)
-}
-
-pub fn put_be2(out: &mut [u8], at: usize, x: u64) -> usize
-    requires { x < 256 ^ 2 }
-    ensures { Laid out.old at (put_fixed 2 x) out.new result }
-{
-    put_fixed(out, at, x, 2)
-}
-
-pub fn put_be4(out: &mut [u8], at: usize, x: u64) -> usize
-    requires { x < 256 ^ 4 }
-    ensures { Laid out.old at (put_fixed 4 x) out.new result }
-{
-    put_fixed(out, at, x, 4)
-}
-
-pub fn put_be8(out: &mut [u8], at: usize, x: u64) -> usize
-    ensures { Laid out.old at (put_fixed 8 x) out.new result }
-{
-    put_fixed(out, at, x, 8)
 }

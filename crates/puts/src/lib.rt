@@ -13,7 +13,7 @@ ghost use Rattle.table.specs.View.{kind_from};
 ghost use Rattle.words.specs.Answers.{option};
 ghost use Rattle.puts.specs.Kinds.{constant_of};
 
-use numbers::write::{put_be1, put_be2, put_be4, put_be8, put_v64};
+use numbers::write::{put_be, put_v64};
 use values::constants::at_most;
 
 // What an entry may leave out.
@@ -61,10 +61,10 @@ fn put_whole(out: &mut [u8], at: usize, k: u64, a: u64) -> usize
     ensures { Laid out.old at (put_whole k (constant_of k a)) out.new result }
 {
     match k {
-        0 => put_be1(out, at, at_most(a, 255)),
-        1 => put_be2(out, at, at_most(a, 65535)),
-        2 => put_be4(out, at, at_most(a, 4294967295)),
-        3 => put_be8(out, at, a),
+        0 => put_be::<1>(out, at, at_most(a, 255)),
+        1 => put_be::<2>(out, at, at_most(a, 65535)),
+        2 => put_be::<4>(out, at, at_most(a, 4294967295)),
+        3 => put_be::<8>(out, at, a),
         _ => put_v64(out, at, a),
     }
 }

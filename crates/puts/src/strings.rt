@@ -10,7 +10,7 @@ ghost use Rattle.lay.specs.Laid.{Laid};
 ghost use Rattle.table.specs.View.{strs_of, Ok, Holds, strings_in};
 ghost use Rattle.puts.specs.Strings.{end_behind, ends_behind, bytes_in};
 
-use numbers::write::{put_be4, put_v64};
+use numbers::write::{put_be, put_v64};
 use table::rows::{Span, string_at, strings};
 use values::constants::at_most;
 use words::read::Place;
@@ -58,7 +58,7 @@ fn put_ends(t: &[u8], work: &[u32], from: u32, out: &mut [u8], at: usize) -> usi
     while i < n {
         let s = digits(t, string_at(work, i));
         end = end_behind(end, s.len());
-        p = put_be4(out, p, end);
+        p = put_be::<4>(out, p, end);
         i += 1;
     }
     p

@@ -92,10 +92,10 @@ fn constant_bits(file: &[u8], c: Cursor, k: u64) -> Number
     ensures { Read (bits_of k) (2 ^ 64) file.now c.at result }
 {
     match k {
-        0 => c.be1(file),
-        1 => c.be2(file),
-        2 => c.be4(file),
-        3 => c.be8(file),
+        0 => c.be::<1>(file),
+        1 => c.be::<2>(file),
+        2 => c.be::<4>(file),
+        3 => c.be::<8>(file),
         _ => c.v64(file),
     }
 }

@@ -35,7 +35,7 @@ fn read_end(file: &[u8], c: Cursor, prev: u64, base: usize, work: &mut [u32]) ->
     ensures { EndRead file.now work.old work.new base prev c.at result }
 {
     let at = c.at;
-    let a = c.be4(file);
+    let a = c.be::<4>(file);
     let Number::Got(e, next) = a else {
         return a;
     };

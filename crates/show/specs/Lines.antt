@@ -84,7 +84,7 @@ module _ {e : ℕ} (K : Fixed e) {w : ℕ} (W : Width e w) {f : List ℕ} {from 
   pub fixed-none : {u : Refusal} → a ≡ Err u → {l : List ℕ} {at : ℕ} {m : List ℕ} {o : Behind} → Shows (λ s. element s e) (λ x. t (element_word x)) f from l at m o
   unfolding valued
   fixed-none is =
-      let cut = value-cut one_number as-bare is refl in
+      let cut = value-cut one_number as-bare is in
       shows-none (λ s x q h. not-got (cut.reads s x q (linkable-low s) h))
 
   pub fixed-nothing : {u : Refusal} → a ≡ Err u → {l : List ℕ} {at : ℕ} {m : List ℕ} {p : ℕ} → Shown (λ s. element s e) (λ x. t (element_word x)) f from l at m p

@@ -8,7 +8,7 @@ ghost use Rattle.values.specs.Items.{at_most, some_object};
 ghost use Rattle.texts.specs.Signs.{Sign, bits_of};
 ghost use Rattle.texts.specs.Elements.{flag_number, whole_width, whole_number, link_number, kept, reckoned, bound_in, in_bytes};
 
-use numbers::write::{put_be1, put_be2, put_be4, put_be8, put_v64};
+use numbers::write::{put_be, put_v64};
 use values::references::range_by;
 use words::read::{Place, Scanned, peek};
 
@@ -135,10 +135,10 @@ pub fn put_bits(out: &mut [u8], at: usize, e: u64, n: u64) -> usize
     ensures { Laid out.old at (in_bytes e n) out.new result }
 {
     match e {
-        6..=7 => put_be1(out, at, n),
-        8 => put_be2(out, at, n),
-        9 | 12 => put_be4(out, at, n),
-        10 | 13 => put_be8(out, at, n),
+        6..=7 => put_be::<1>(out, at, n),
+        8 => put_be::<2>(out, at, n),
+        9 | 12 => put_be::<4>(out, at, n),
+        10 | 13 => put_be::<8>(out, at, n),
         _ => put_v64(out, at, n),
     }
 }

@@ -19,7 +19,7 @@ pub fn four(file: &[u8], at: usize) -> Behind
     ensures { Told (fixed 4) it file.now at result }
 {
     let c = Cursor { at };
-    let a = c.be4(file);
+    let a = c.be::<4>(file);
     let Number::Got(value, next) = a else {
         return Behind { value: 0, at };
     };

@@ -47,10 +47,10 @@ fn number_of(part: &[u8], c: Cursor, k: u64) -> Outcome<u64>
     ensures { Read (bare k) (bound_of k) part.now c.at result }
 {
     match k {
-        6..=7 => c.be1(part),
-        8 => c.be2(part),
-        9 | 12 => c.be4(part),
-        10 | 13 => c.be8(part),
+        6..=7 => c.be::<1>(part),
+        8 => c.be::<2>(part),
+        9 | 12 => c.be::<4>(part),
+        10 | 13 => c.be::<8>(part),
         11 => c.v64(part),
         _ => number_up_to(part, c, 9223372036854775807),
     }
@@ -62,10 +62,10 @@ fn whole(n: u64, k: u64) -> i64
     ensures { result ≡ whole_made k n }
 {
     match k {
-        7 => sign::signed1(n),
-        8 => sign::signed2(n),
-        9 => sign::signed4(n),
-        _ => sign::signed8(n),
+        7 => sign::signed::<1>(n),
+        8 => sign::signed::<2>(n),
+        9 => sign::signed::<4>(n),
+        _ => sign::signed::<8>(n),
     }
 }
 
@@ -113,7 +113,7 @@ fn fill_flags(part: &[u8], out: &mut [i64], at: usize) -> usize
     let mut p = at;
     let mut from = Cursor { at: 0 };
     while p < end {
-        let a = from.take1(part);
+        let a = from.take::<1>(part);
         out[p] = store(Value::Flag(a.number == 255));
         p += 1;
         from = a.next;
@@ -130,8 +130,8 @@ fn fill_i8s(part: &[u8], out: &mut [i64], at: usize) -> usize
     let mut p = at;
     let mut from = Cursor { at: 0 };
     while p < end {
-        let a = from.take1(part);
-        out[p] = store(Value::Whole(sign::signed1(a.number)));
+        let a = from.take::<1>(part);
+        out[p] = store(Value::Whole(sign::signed::<1>(a.number)));
         p += 1;
         from = a.next;
     }
@@ -147,8 +147,8 @@ fn fill_i16s(part: &[u8], out: &mut [i64], at: usize) -> usize
     let mut p = at;
     let mut from = Cursor { at: 0 };
     while p < end {
-        let a = from.take2(part);
-        out[p] = store(Value::Whole(sign::signed2(a.number)));
+        let a = from.take::<2>(part);
+        out[p] = store(Value::Whole(sign::signed::<2>(a.number)));
         p += 1;
         from = a.next;
     }
@@ -164,8 +164,8 @@ fn fill_i32s(part: &[u8], out: &mut [i64], at: usize) -> usize
     let mut p = at;
     let mut from = Cursor { at: 0 };
     while p < end {
-        let a = from.take4(part);
-        out[p] = store(Value::Whole(sign::signed4(a.number)));
+        let a = from.take::<4>(part);
+        out[p] = store(Value::Whole(sign::signed::<4>(a.number)));
         p += 1;
         from = a.next;
     }
@@ -181,8 +181,8 @@ fn fill_i64s(part: &[u8], out: &mut [i64], at: usize) -> usize
     let mut p = at;
     let mut from = Cursor { at: 0 };
     while p < end {
-        let a = from.take8(part);
-        out[p] = store(Value::Whole(sign::signed8(a.number)));
+        let a = from.take::<8>(part);
+        out[p] = store(Value::Whole(sign::signed::<8>(a.number)));
         p += 1;
         from = a.next;
     }
@@ -198,7 +198,7 @@ fn fill_f32s(part: &[u8], out: &mut [i64], at: usize) -> usize
     let mut p = at;
     let mut from = Cursor { at: 0 };
     while p < end {
-        let a = from.take4(part);
+        let a = from.take::<4>(part);
         out[p] = store(Value::Float(4, a.number));
         p += 1;
         from = a.next;
@@ -215,7 +215,7 @@ fn fill_f64s(part: &[u8], out: &mut [i64], at: usize) -> usize
     let mut p = at;
     let mut from = Cursor { at: 0 };
     while p < end {
-        let a = from.take8(part);
+        let a = from.take::<8>(part);
         out[p] = store(Value::Float(8, a.number));
         p += 1;
         from = a.next;
@@ -233,7 +233,7 @@ fn v64s_there(part: &[u8], c: Cursor, out: &mut [i64], p: usize, n: usize) -> Cu
     let mut here = c;
     while i < n {
         let a = here.take_v64(part);
-        out[p + i] = store(Value::Whole(sign::signed8(a.number)));
+        out[p + i] = store(Value::Whole(sign::signed::<8>(a.number)));
         i += 1;
         here = a.next;
     }
@@ -249,7 +249,7 @@ fn long_v64s_there(part: &[u8], c: Cursor, out: &mut [i64], p: usize, n: usize) 
     let mut here = c;
     while i < n {
         let a = here.take_long_v64(part);
-        out[p + i] = store(Value::Whole(sign::signed8(a.number)));
+        out[p + i] = store(Value::Whole(sign::signed::<8>(a.number)));
         i += 1;
         here = a.next;
     }
@@ -291,7 +291,7 @@ fn fill_v64s(part: &[u8], out: &mut [i64], at: usize) -> usize
             let Ok((x, next)) = from.v64(part) else {
                 return p;
             };
-            out[p] = store(Value::Whole(sign::signed8(x)));
+            out[p] = store(Value::Whole(sign::signed::<8>(x)));
             p += 1;
             from = next;
         }

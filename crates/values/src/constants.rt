@@ -11,9 +11,9 @@ pub fn constant_of(k: u32, a: u64) -> i64
     ensures { (e : ℕ) → kind_from k a e ≡ constant k result }
 {
     match k {
-        0 => sign::signed1(a.min(255)),
-        1 => sign::signed2(a.min(65535)),
-        2 => sign::signed4(a.min(4294967295)),
-        _ => sign::signed8(a),
+        0 => sign::signed::<1>(a.min(255)),
+        1 => sign::signed::<2>(a.min(65535)),
+        2 => sign::signed::<4>(a.min(4294967295)),
+        _ => sign::signed::<8>(a),
     }
 }

@@ -55,7 +55,7 @@ fn bools_in_turn(part: &[u8], c: Cursor, m: u64) -> Outcome<u64>
 {
     let mut here = c;
     for _ in 0..m {
-        let (b, next) = here.be1(part)?;
+        let (b, next) = here.be::<1>(part)?;
         if b != 0 {
             if b != 255 {
                 return Err(Refusal {

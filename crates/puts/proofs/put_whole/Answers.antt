@@ -3,26 +3,26 @@ use Rattle.lay.specs.Laid.{laid_as}
 use Rattle.puts.specs.Kinds.{whole-fixed, whole-i64, whole-v64}
 use Rattle.puts.proofs.put_whole.Goals as goal
 
-pub put_be1-requires : goal.put_be1-requires
-put_be1-requires c = omega (arith, c.at_most.ensures.below)
+pub put_be-requires : goal.put_be-requires
+put_be-requires c = (omega arith, omega (arith, c.at_most.ensures.below))
 
-pub put_be2-requires : goal.put_be2-requires
-put_be2-requires c = omega (arith, c.at_most-in-1.ensures.below)
+pub put_be-requires-in-1 : goal.put_be-requires-in-1
+put_be-requires-in-1 c = (omega arith, omega (arith, c.at_most-in-1.ensures.below))
 
-pub put_be4-requires : goal.put_be4-requires
-put_be4-requires c = omega (arith, c.at_most-in-2.ensures.below)
+pub put_be-requires-in-2 : goal.put_be-requires-in-2
+put_be-requires-in-2 c = (omega arith, omega (arith, c.at_most-in-2.ensures.below))
 
 pub returns-in-0 : goal.returns-in-0
-returns-in-0 c = laid_as c.put_be1.ensures (whole-fixed _ _ 0 c.in-0.is (omega arith) c.at_most.ensures (omega arith))
+returns-in-0 c = laid_as c.put_be.ensures (whole-fixed _ _ 0 c.in-0.is (omega arith) c.at_most.ensures (omega arith))
 
 pub returns-in-1 : goal.returns-in-1
-returns-in-1 c = laid_as c.put_be2.ensures (whole-fixed _ _ 1 c.in-1.is (omega arith) c.at_most-in-1.ensures (omega arith))
+returns-in-1 c = laid_as c.put_be-in-1.ensures (whole-fixed _ _ 1 c.in-1.is (omega arith) c.at_most-in-1.ensures (omega arith))
 
 pub returns-in-2 : goal.returns-in-2
-returns-in-2 c = laid_as c.put_be4.ensures (whole-fixed _ _ 2 c.in-2.is (omega arith) c.at_most-in-2.ensures (omega arith))
+returns-in-2 c = laid_as c.put_be-in-2.ensures (whole-fixed _ _ 2 c.in-2.is (omega arith) c.at_most-in-2.ensures (omega arith))
 
 pub returns-in-3 : goal.returns-in-3
-returns-in-3 c = laid_as c.put_be8.ensures (whole-i64 _ _ (omega arith) c.in-3.is)
+returns-in-3 c = laid_as c.put_be-in-3.ensures (whole-i64 _ _ (omega arith) c.in-3.is)
 
 pub returns-in_default : goal.returns-in_default
 returns-in_default c = laid_as c.put_v64.ensures (whole-v64 _ _ (omega arith) (omega (arith, c.in_default.in_default-own.rest.1, c.in_default.in_default-own.rest.0.1, c.in_default.in_default-own.rest.0.0.1, c.in_default.in_default-own.rest.0.0.0.1)))

@@ -54,4 +54,4 @@ pub put_map-loop-rest-preserved : goal.put_map-loop-rest-preserved
 put_map-loop-rest-preserved t c = showing-next c.loop-rest.invariant c.loop-rest-test.true c.put_key_and_rest-here.auto.out c.put_key_and_rest-here.ensures
 
 pub put_map-returns : goal.put_map-returns
-put_map-returns t c = map-shows _ (more-types c.requires c.if-kinds-eq1.false) c.small-a.ensures c.in-Got.is c.put-word.ensures c.put_decimal-first.ensures (shows-all c.loop-rest.invariant c.loop-rest-test.false)
+put_map-returns t c = map-shows _ (more-types c.requires c.if-kinds-eq1.false) c.small-a.ensures c.in-Ok.is c.put-word.ensures c.put_decimal-first.ensures (shows-all c.loop-rest.invariant c.loop-rest-test.false)

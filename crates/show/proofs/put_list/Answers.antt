@@ -5,4 +5,4 @@ pub returns-in_default : goal.returns-in_default
 returns-in_default c = list-none _ c.small-a.ensures c.in_default.is
 
 pub returns : goal.returns
-returns c = list-shows _ c.small-a.ensures c.in-Got.is c.put_value.ensures
+returns c = list-shows _ c.small-a.ensures c.in-Ok.is c.put_value.ensures

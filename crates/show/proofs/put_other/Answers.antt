@@ -12,7 +12,7 @@ pub returns-in_default : goal.returns-in_default
 returns-in_default c = fixed-nothing c.requires c.width_of.ensures c.fixed-a.ensures (λ w. tab ∷ w) c.in_default.is
 
 pub value_of-requires : goal.value_of-requires
-value_of-requires c = (single-low c.requires, fixed-below c.requires c.width_of.ensures c.fixed-a.ensures (λ w. tab ∷ w) c.in-Got.is)
+value_of-requires c = (single-low c.requires, fixed-below c.requires c.width_of.ensures c.fixed-a.ensures (λ w. tab ∷ w) c.in-Ok.is)
 
 pub returns : goal.returns
-returns c = (fixed-shows c.requires c.width_of.ensures c.fixed-a.ensures (λ w. tab ∷ w) c.in-Got.is c.value_of.result c.value_of.ensures (laid_then c.put-word.ensures c.put_element.ensures)).text
+returns c = (fixed-shows c.requires c.width_of.ensures c.fixed-a.ensures (λ w. tab ∷ w) c.in-Ok.is c.value_of.result c.value_of.ensures (laid_then c.put-word.ensures c.put_element.ensures)).text

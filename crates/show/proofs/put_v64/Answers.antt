@@ -9,4 +9,4 @@ pub returns-in_default : goal.returns-in_default
 returns-in_default c = v64-shows (λ w. tab ∷ w) (number-none c.v64-a.ensures (λ n. tab ∷ decimalℤ (signed 8 n)) c.in_default.is)
 
 pub returns : goal.returns
-returns c = v64-shows (λ w. tab ∷ w) (number-shows c.v64-a.ensures (λ n. tab ∷ decimalℤ (signed 8 n)) c.in-Got.is (laid_then c.put-word.ensures c.put_integer-end.ensures))
+returns c = v64-shows (λ w. tab ∷ w) (number-shows c.v64-a.ensures (λ n. tab ∷ decimalℤ (signed 8 n)) c.in-Ok.is (laid_then c.put-word.ensures c.put_integer-end.ensures))

@@ -5,4 +5,4 @@ use Rattle.numbers.proofs.sign.f64_stored.Goals as goal
 
 pub returns : goal.returns
 unfolding stored when◌then◌else◌
-returns c = to_z-of_z {w = w64} (record { sfits = c.signed8.type_inv }) ∙ c.signed8.ensures
+returns c = to_z-of_z {w = w64} (record { sfits = c.signed.type_inv }) ∙ c.signed.ensures

@@ -19,11 +19,11 @@ digits-s-requires c = c.string_at.ensures.within _ c.requires
 pub end_behind-end-requires : goal.end_behind-end-requires
 end_behind-end-requires c = c.loop-i.invariant.0
 
-pub put_be4-p-requires : goal.put_be4-p-requires
-put_be4-p-requires c = c.end_behind-end.ensures.1
+pub put_be-p-requires : goal.put_be-p-requires
+put_be-p-requires c = (omega arith, c.end_behind-end.ensures.1)
 
 pub loop-i-preserved : goal.loop-i-preserved
-loop-i-preserved c = (c.end_behind-end.ensures.1, leads-on c.loop-i.invariant.1 (ends_more _ _ (omega (arith, c.requires.strs-count)) c.string_at.ensures c.digits-s.ensures _ _ c.end_behind-end.ensures.0) c.put_be4-p.ensures)
+loop-i-preserved c = (c.end_behind-end.ensures.1, leads-on c.loop-i.invariant.1 (ends_more _ _ (omega (arith, c.requires.strs-count)) c.string_at.ensures c.digits-s.ensures _ _ c.end_behind-end.ensures.0) c.put_be-p.ensures)
 
 pub shape_of-out : goal.shape_of-out
 shape_of-out c = c.loop-i.invariant.1.long

@@ -2,7 +2,7 @@ use Rattle.trail.specs.Texts.{four-none, four-one}
 use Rattle.trail.proofs.texts.four.Goals as goal
 
 pub returns-in_default : goal.returns-in_default
-returns-in_default c = four-none c.be4-a.ensures c.in_default.is
+returns-in_default c = four-none c.be-a.ensures c.in_default.is
 
 pub returns : goal.returns
-returns c = four-one c.be4-a.ensures c.in-Got.is
+returns c = four-one c.be-a.ensures c.in-Got.is

@@ -8,11 +8,11 @@ overflow_add-end c = omega (arith, c.fitting-n.ensures.inside)
 pub loop-p-init : goal.loop-p-init
 loop-p-init c = row-start _ _ _ _ _ _
 
-pub take8-a-requires : goal.take8-a-requires
-take8-a-requires c = omega (arith, c.loop-p.invariant.place, c.fitting-n.ensures.few)
+pub take-a-requires : goal.take-a-requires
+take-a-requires c = (omega arith, omega (arith, c.loop-p.invariant.place, c.fitting-n.ensures.few))
 
 pub store-requires : goal.store-requires
-store-requires c = (stood-whole 10 _ (to_z-of_z {w = w64} (record { sfits = c.signed8.type_inv })) c.signed8.type_inv (omega arith) (omega arith) c.signed8.ensures).fits
+store-requires c = (stood-whole 10 _ (to_z-of_z {w = w64} (record { sfits = c.signed.type_inv })) c.signed.type_inv (omega arith) (omega arith) c.signed.ensures).fits
 
 pub bounds-out-p : goal.bounds-out-p
 bounds-out-p c = omega (arith, c.loop-p.invariant.filling.long, c.fitting-n.ensures.inside)
@@ -21,7 +21,7 @@ pub overflow_add-p : goal.overflow_add-p
 overflow_add-p c = omega (arith, c.loop-p.invariant.filling.long, c.fitting-n.ensures.inside)
 
 pub loop-p-preserved : goal.loop-p-preserved
-loop-p-preserved c = row_next wide-10 c.loop-p.invariant (omega arith) (omega (arith, c.loop-p.invariant.place, c.fitting-n.ensures.few)) c.take8-a.ensures (stood-whole 10 _ (to_z-of_z {w = w64} (record { sfits = c.signed8.type_inv })) c.signed8.type_inv (omega arith) (omega arith) c.signed8.ensures) (to_z-of_z {w = w64} (record { sfits = c.store.type_inv }) ∙ c.store.ensures)
+loop-p-preserved c = row_next wide-10 c.loop-p.invariant (omega arith) (omega (arith, c.loop-p.invariant.place, c.fitting-n.ensures.few)) c.take-a.ensures (stood-whole 10 _ (to_z-of_z {w = w64} (record { sfits = c.signed.type_inv })) c.signed.type_inv (omega arith) (omega arith) c.signed.ensures) (to_z-of_z {w = w64} (record { sfits = c.store.type_inv }) ∙ c.store.ensures)
 
 pub shape_of-out : goal.shape_of-out
 shape_of-out c = c.loop-p.invariant.filling.long

@@ -8,14 +8,14 @@ overflow_add-end c = omega (arith, c.fitting-n.ensures.inside)
 pub loop-p-init : goal.loop-p-init
 loop-p-init c = row-start _ _ _ _ _ _
 
-pub take1-a-requires : goal.take1-a-requires
-take1-a-requires c = omega (arith, c.loop-p.invariant.place, c.fitting-n.ensures.few)
+pub take-a-requires : goal.take-a-requires
+take-a-requires c = (omega arith, omega (arith, c.loop-p.invariant.place, c.fitting-n.ensures.few))
 
-pub signed1-requires : goal.signed1-requires
-signed1-requires c = c.take1-a.ensures.below
+pub signed-requires : goal.signed-requires
+signed-requires c = (omega arith, omega arith, c.take-a.ensures.below)
 
 pub store-requires : goal.store-requires
-store-requires c = (stood-whole 7 _ (to_z-of_z {w = w64} (record { sfits = c.signed1.type_inv })) c.signed1.type_inv (omega arith) (omega arith) c.signed1.ensures).fits
+store-requires c = (stood-whole 7 _ (to_z-of_z {w = w64} (record { sfits = c.signed.type_inv })) c.signed.type_inv (omega arith) (omega arith) c.signed.ensures).fits
 
 pub bounds-out-p : goal.bounds-out-p
 bounds-out-p c = omega (arith, c.loop-p.invariant.filling.long, c.fitting-n.ensures.inside)
@@ -24,7 +24,7 @@ pub overflow_add-p : goal.overflow_add-p
 overflow_add-p c = omega (arith, c.loop-p.invariant.filling.long, c.fitting-n.ensures.inside)
 
 pub loop-p-preserved : goal.loop-p-preserved
-loop-p-preserved c = row_next wide-7 c.loop-p.invariant (omega arith) (omega (arith, c.loop-p.invariant.place, c.fitting-n.ensures.few)) c.take1-a.ensures (stood-whole 7 _ (to_z-of_z {w = w64} (record { sfits = c.signed1.type_inv })) c.signed1.type_inv (omega arith) (omega arith) c.signed1.ensures) (to_z-of_z {w = w64} (record { sfits = c.store.type_inv }) ∙ c.store.ensures)
+loop-p-preserved c = row_next wide-7 c.loop-p.invariant (omega arith) (omega (arith, c.loop-p.invariant.place, c.fitting-n.ensures.few)) c.take-a.ensures (stood-whole 7 _ (to_z-of_z {w = w64} (record { sfits = c.signed.type_inv })) c.signed.type_inv (omega arith) (omega arith) c.signed.ensures) (to_z-of_z {w = w64} (record { sfits = c.store.type_inv }) ∙ c.store.ensures)
 
 pub shape_of-out : goal.shape_of-out
 shape_of-out c = c.loop-p.invariant.filling.long

@@ -37,13 +37,13 @@ pub returns-in_default : goal.returns-in_default
 returns-in_default c = number_cut refl c.loop-from.invariant c.loop-from-test.true (read-v64 c.v64.ensures) c.in_default.is
 
 pub store-requires : goal.store-requires
-store-requires c = (stood-v64 11 _ (to_z-of_z {w = w64} (record { sfits = c.signed8.type_inv })) c.signed8.type_inv refl c.signed8.ensures).fits
+store-requires c = (stood-v64 11 _ (to_z-of_z {w = w64} (record { sfits = c.signed.type_inv })) c.signed.type_inv refl c.signed.ensures).fits
 
 pub loop-from-smaller : goal.loop-from-smaller
 loop-from-smaller c = omega (arith, c.loop-from.invariant.long)
 
 pub loop-from-preserved : goal.loop-from-preserved
-loop-from-preserved c = number-next refl c.loop-from.invariant c.loop-from-test.true (read-v64 c.v64.ensures) c.in-Ok.is (stood-v64 11 _ (to_z-of_z {w = w64} (record { sfits = c.signed8.type_inv })) c.signed8.type_inv refl c.signed8.ensures) (to_z-of_z {w = w64} (record { sfits = c.store.type_inv }) ∙ c.store.ensures)
+loop-from-preserved c = number-next refl c.loop-from.invariant c.loop-from-test.true (read-v64 c.v64.ensures) c.in-Ok.is (stood-v64 11 _ (to_z-of_z {w = w64} (record { sfits = c.signed.type_inv })) c.signed.type_inv refl c.signed.ensures) (to_z-of_z {w = w64} (record { sfits = c.store.type_inv }) ∙ c.store.ensures)
 
 pub shape_of-out : goal.shape_of-out
 shape_of-out c = c.loop-from.invariant.long

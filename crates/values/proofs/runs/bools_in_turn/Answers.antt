@@ -12,15 +12,15 @@ pub loop-init : goal.loop-init
 loop-init c = running-begin (must (fixed 1) bool_rules) _ _ _
 
 pub returns-in_err-b : goal.returns-in_err-b
-returns-in_err-b c = rw (handed c.from_residual.ensures.1) (running-no c.loop.invariant (omega arith) (bool-cut c.be1.ensures c.in_err-b.was) refl)
+returns-in_err-b c = rw (handed c.from_residual.ensures.1) (running-no c.loop.invariant (omega arith) (bool-cut c.be.ensures c.in_err-b.was) refl)
 
 pub returns-then-b-ne255 : goal.returns-then-b-ne255
-returns-then-b-ne255 c = running-no c.loop.invariant (omega arith) (bool-wrong c.be1.ensures c.in_ok-b.was c.if-b-ne0.true c.if-b-ne255.true) refl
+returns-then-b-ne255 c = running-no c.loop.invariant (omega arith) (bool-wrong c.be.ensures c.in_ok-b.was c.if-b-ne0.true c.if-b-ne255.true) refl
 
 pub loop-preserved : goal.loop-preserved
 loop-preserved c = running-turn _ (running-next c.loop.invariant (omega arith) (elim c.if-b-ne0.branch [
-  | then-b-ne0+else-b-ne255 w ↦ bool-true c.be1.ensures c.in_ok-b.was w.if-b-ne255.false
-  | else-b-ne0 w ↦ bool_false c.be1.ensures c.in_ok-b.was w.if-b-ne0.false
+  | then-b-ne0+else-b-ne255 w ↦ bool-true c.be.ensures c.in_ok-b.was w.if-b-ne255.false
+  | else-b-ne0 w ↦ bool_false c.be.ensures c.in_ok-b.was w.if-b-ne0.false
 ]) refl)
 
 pub returns : goal.returns

@@ -1,5 +1,0 @@
-use Rattle.std.proofs.Common.{refl, ◌∙◌, to_z-of_z, w64}
-use Rattle.numbers.proofs.sign.signed2.Goals as goal
-
-pub returns : goal.returns
-returns c = to_z-of_z {w = w64} (record { sfits = c.from_low_bits.type_inv }) ∙ c.from_low_bits.ensures 2 refl
