@@ -12,13 +12,13 @@ pub returns-then-out-p : goal.returns-then-out-p
 returns-then-out-p c = links-full c.loop-from.invariant c.loop-from-test.true c.if-out-p.true
 
 pub objects_there-from-requires : goal.objects_there-from-requires
-objects_there-from-requires c = (omega (arith, c.fitting-n.ensures.few), omega (arith, c.fitting-n.ensures.inside))
+objects_there-from-requires c = (omega (arith, c.min-n.ensures), omega (arith, c.min-n.ensures))
 
 pub overflow_add-p : goal.overflow_add-p
-overflow_add-p c = omega (arith, c.fitting-n.ensures.inside)
+overflow_add-p c = omega (arith, c.min-n.ensures)
 
 pub loop-from-smaller-then-n-gt0 : goal.loop-from-smaller-then-n-gt0
-loop-from-smaller-then-n-gt0 c = omega (arith, c.fitting-n.ensures.inside, c.loop-from.invariant.long)
+loop-from-smaller-then-n-gt0 c = omega (arith, c.min-n.ensures, c.loop-from.invariant.long)
 
 pub loop-from-preserved-then-n-gt0 : goal.loop-from-preserved-then-n-gt0
 loop-from-preserved-then-n-gt0 c = links-on c.loop-from.invariant c.objects_there-from.ensures
