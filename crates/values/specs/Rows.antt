@@ -1,13 +1,12 @@
 -- A column of values of a fixed width: their number is known before the first is stored. One law for every width. Assumes nothing.
 use Rattle.std.specs.Prelude.{Ok, Err, ◌≡◌, ℕ, suc, ◌+◌, ◌-◌, ◌*◌, ◌/◌, ◌%◌, ◌^◌, ◌<◌, ◌≤◌, min, true, false, List, length, ℤ, ◌==◌, ◌≢◌, nat_eq, slice_set}
 use Rattle.std.proofs.Math.Path.{refl, sym, ap}
-use Rattle.std.proofs.Common.{◌∙◌, arith, lt_of_not-le, mod-lt, lit<, lit≤, length-set, mul-le-mul_left, mul-le-mul_right, div-mul-le_self, lt-ltb, le-leb, ne_eqb}
+use Rattle.std.proofs.Common.{◌∙◌, arith, lt_of_not-le, mod-lt, lit<, lit≤, length-set, mul-le-mul_left, mul-le-mul_right, div-mul-le_self, le-leb, ne_eqb}
 use Rattle.std.proofs.Math.Nat.{div-add-mod, one-le-pow, mod-eq_of_lt, le_of_lt, min-eq_left, min-eq_right, min-le_left}
 use Rattle.std.proofs.Math.Decide.{dec_le}
-use Rattle.std.specs.Int.Signed.{mag}
 use Rattle.std.proofs.lemmas.Bool.{lt-leb}
 use Rattle.paper.specs.Reader.{when◌then◌else◌, Out, got}
-use Rattle.paper.specs.Numbers.{signed, fixed, v64}
+use Rattle.paper.specs.Numbers.{fixed, v64}
 use Rattle.paper.specs.Rules.{single_kind?}
 use Rattle.paper.specs.Calls.{stored}
 use Rattle.numbers.specs.Cursors.{Outcome, Read, was-got, answer-no}
@@ -18,11 +17,11 @@ use Rattle.numbers.specs.declared.Refusal.{Refusal}
 use Rattle.values.specs.Held.{fixed-cut, ruled-taken, ruled-refused}
 use Rattle.values.specs.Items.{linked, at_most}
 use Rattle.values.specs.Listed.{single-5}
-use Rattle.values.specs.Bare.{bare, bound_of, made, whole_made, made-whole, made-link, whole-8, bare-link, bound-link}
+use Rattle.values.specs.Bare.{bare, bound_of, made, made-link, bare-link, bound-link}
 use Rattle.values.specs.Columns.{element_of, Storable, value-got, value-cut}
 use Rattle.values.specs.Filling.{Filled, Filling, fill_start, fill_done, fill-full, fill-cut, fill-no, fill-next}
 use Rattle.values.specs.declared.columns.Value.{Value}
-use Rattle.values.specs.declared.columns.Value.TheVariants.{Flag, Whole, Float, Object}
+use Rattle.values.specs.declared.columns.Value.TheVariants.{Object}
 use Rattle.numbers.specs.declared.Fault.TheVariants as fault
 
 -- kind k has values of w bytes

@@ -1,11 +1,7 @@
 use Rattle.std.proofs.Common.{arith}
 use Rattle.numbers.specs.Cursors.{handed}
-use Rattle.values.specs.Annotations.{placed?, annotated}
-use Rattle.values.specs.Pass.{running-begin, running-next, running-no, running-done, running-turn}
+use Rattle.values.specs.Pass.{running-next, running-no, running-done, running-turn}
 use Rattle.values.proofs.annotations.annotations.Goals as goal
-
-pub loop-init : goal.loop-init
-loop-init c = running-begin (annotated (placed? _)) _ _ _
 
 pub returns-in_err-next : goal.returns-in_err-next
 returns-in_err-next c = rw (handed c.from_residual.ensures.1) (running-no c.loop.invariant (omega arith) c.annotation.ensures c.in_err-next.was)

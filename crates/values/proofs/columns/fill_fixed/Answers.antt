@@ -1,9 +1,6 @@
 use Rattle.std.proofs.Common.{◌∙◌, arith, to_z-of_z, w64}
-use Rattle.values.specs.Rows.{stood, row-start, row-room, row_next, row_done}
+use Rattle.values.specs.Rows.{stood, row-room, row_next, row_done}
 use Rattle.values.proofs.columns.fill_fixed.Goals as goal
-
-pub loop-p-init : goal.loop-p-init
-loop-p-init g c = row-start _ _ _ _ _ _
 
 pub take-a-requires : goal.take-a-requires
 take-a-requires g c = (c.requires.1.most, row-room c.requires.1 c.loop-p.invariant (omega arith) _ c.min-n.ensures)

@@ -1,11 +1,8 @@
 use Rattle.std.proofs.Common.{◌∙◌, arith, to_z-of_z, w64}
 use Rattle.numbers.specs.Turned.{TakenV64}
-use Rattle.values.specs.Rows.{stood, v64-listed, on-start, on-v64, on-done}
+use Rattle.values.specs.Rows.{stood, v64-listed, on-v64}
 use Rattle.values.proofs.columns.v64s_there.Goals as goal
 use Rattle.values.proofs.columns.v64s_there.Goals.{then-this-ne0, else-this-ne0}
-
-pub loop-i-init : goal.loop-i-init
-loop-i-init g c = on-start _ _ _ _ _
 
 pub value_of-requires : goal.value_of-requires
 value_of-requires g c = let T : TakenV64 c.args.part.now c.loop-i.here.at c.if-this-ne0.a = elim c.if-this-ne0.branch [
@@ -20,6 +17,3 @@ loop-i-preserved g c = let T : TakenV64 c.args.part.now c.loop-i.here.at c.if-th
   | else-this-ne0 w ↦ rw w.a-is w.take_v64-a.ensures
 ] in
     on-v64 T (omega (arith, c.loop-i.invariant.most)) c.loop-i.invariant (stood c.value_of.ensures) (to_z-of_z {w = w64} (record { sfits = c.store.type_inv }) ∙ c.store.ensures)
-
-pub returns : goal.returns
-returns g c = on-done _ c.loop-i.invariant (omega arith)

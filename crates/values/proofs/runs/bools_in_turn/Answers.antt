@@ -1,15 +1,9 @@
 use Rattle.std.proofs.Common.{refl, arith}
 use Rattle.numbers.specs.Cursors.{handed}
-use Rattle.paper.specs.Reader.{must}
-use Rattle.paper.specs.Numbers.{fixed}
-use Rattle.paper.specs.Rules.{bool_rules}
-use Rattle.values.specs.Pass.{running-begin, running-next, running-no, running-done, running-turn}
+use Rattle.values.specs.Pass.{running-next, running-no, running-done, running-turn}
 use Rattle.values.specs.Held.{bool-cut, bool_false, bool-true, bool-wrong}
 use Rattle.values.proofs.runs.bools_in_turn.Goals as goal
 use Rattle.values.proofs.runs.bools_in_turn.Goals.{then-b-ne0+else-b-ne255, else-b-ne0}
-
-pub loop-init : goal.loop-init
-loop-init c = running-begin (must (fixed 1) bool_rules) _ _ _
 
 pub returns-in_err-b : goal.returns-in_err-b
 returns-in_err-b c = rw (handed c.from_residual.ensures.1) (running-no c.loop.invariant (omega arith) (bool-cut c.be.ensures c.in_err-b.was) refl)

@@ -1,11 +1,7 @@
 use Rattle.std.proofs.Common.{arith}
 use Rattle.numbers.specs.Cursors.{handed}
-use Rattle.values.specs.Items.{linked, at_most}
-use Rattle.values.specs.Pass.{read-passed, running-begin, running-next, running-no, running-done, running-turn}
+use Rattle.values.specs.Pass.{read-passed, running-next, running-no, running-done, running-turn}
 use Rattle.values.proofs.runs.strings_in_turn.Goals as goal
-
-pub loop-init : goal.loop-init
-loop-init c = running-begin (linked (at_most _)) _ _ _
 
 pub returns-in_err-next : goal.returns-in_err-next
 returns-in_err-next c = rw (handed c.from_residual.ensures.1) (running-no c.loop.invariant (omega arith) (read-passed c.number_up_to.ensures) c.in_err-next.was)

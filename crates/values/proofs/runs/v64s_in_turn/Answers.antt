@@ -1,11 +1,7 @@
 use Rattle.std.proofs.Common.{arith}
 use Rattle.numbers.specs.Cursors.{handed}
-use Rattle.paper.specs.Numbers.{v64}
-use Rattle.values.specs.Pass.{running-begin, running-past, running-stop, running-done, running-turn}
+use Rattle.values.specs.Pass.{running-past, running-stop, running-done, running-turn}
 use Rattle.values.proofs.runs.v64s_in_turn.Goals as goal
-
-pub loop-init : goal.loop-init
-loop-init c = running-begin v64 _ _ _
 
 pub returns-in_err-here : goal.returns-in_err-here
 returns-in_err-here c = rw (handed c.from_residual.ensures.1) (running-stop c.loop.invariant (omega arith) c.past_v64.ensures c.in_err-here.was)
