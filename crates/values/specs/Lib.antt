@@ -11,6 +11,7 @@ pub mod Chunks
 -- Maps of several types
 pub mod Maps
 pub mod Spans
+pub mod Turns
 pub mod Ways
 pub mod MapChunks
 pub mod Quick
