@@ -1,8 +1,8 @@
 -- Readings one after the other as a loop counts them: of n there are i behind it. Assumes nothing.
-use Rattle.std.specs.Prelude.{Ok, Err, ◌≡◌, ℕ, ◌+◌, ◌-◌, ◌<◌, ◌≤◌, List, length}
-use Rattle.std.proofs.Common.{refl, arith}
+use Rattle.std.specs.Prelude.{Ok, Err, ◌≡◌, ℕ, ◌+◌, ◌-◌, ◌<◌, ◌≤◌, List}
+use Rattle.std.proofs.Common.{arith}
 use Rattle.paper.specs.Reader.{Reader, repeat}
-use Rattle.numbers.specs.Cursors.{Outcome, Step, Past}
+use Rattle.numbers.specs.Cursors.{Outcome}
 use Rattle.numbers.specs.declared.Cursor.{Cursor}
 use Rattle.numbers.specs.declared.Refusal.{Refusal}
 use Rattle.values.specs.Pass.{Passed, Running, running-start, running-done, running-next, running-no}
