@@ -1,11 +1,13 @@
 -- Passing over elements, and holding them to the rules
 pub mod Pass
+pub mod Turns
 pub mod Overs
 pub mod Listed
 pub mod Annotations
 pub mod Items
 pub mod Ups
 pub mod Held
+pub mod Linked
 pub mod RangeLaws
 pub mod Chunks
 -- Maps of several types

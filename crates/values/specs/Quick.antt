@@ -9,7 +9,8 @@ use Rattle.paper.specs.Numbers.{fixed, coding, low_first, v64, number}
 use Rattle.numbers.specs.Cursors.{Step, out_step, Past}
 use Rattle.numbers.specs.Begun.{one_byte}
 use Rattle.numbers.specs.declared.Cursor.{Cursor}
-use Rattle.values.specs.Pass.{forget, Passed, Running, running-start, running-on, running-done}
+use Rattle.values.specs.Pass.{forget, Passed, Running, running-on, running-done}
+use Rattle.values.specs.Turns.{turning-start}
 use Rattle.values.specs.Held.{fixed-there}
 use Rattle.values.specs.Items.{in_range, range-found, linked, at_most, some_object, item, item-object}
 use Rattle.values.specs.Spans.{ranges, item_in, Grouped, Spanned, lendable, parts-match}
@@ -181,18 +182,20 @@ pub record Paired (key value : Bounds) (f : List ℕ) (n from rest at : ℕ) : T
   pub inside : at ≤ length f
 
 module _ {key value : Bounds} {f : List ℕ} {n from : ℕ} where
-  pub paired-start : from ≤ length f → Paired key value f n from n from
-  paired-start h = record { runs = λ S. running-start _ f n from; inside = h }
+  -- as a loop counts them, i are behind it
+  pub paired-start : from ≤ length f → Paired key value f n from (n - 0) from
+  paired-start h = record { runs = λ S. turning-start _ f n from; inside = h }
 
   pub paired-next :
-      {rest at mid end : ℕ} → Paired key value f n from rest at → 0 < rest
+      {i at mid end : ℕ} → Paired key value f n from (n - i) at → i < n
       → Stands key.width key.low key.high f at mid → Stands value.width value.low value.high f mid end
-      → Paired key value f n from (rest - 1) end
-  paired-next P due K W =
-      record { runs = λ S. running-on (P.runs S) due _ (S.over K W).says (λ h. W.inside); inside = W.inside }
+      → Paired key value f n from (n - (i + 1)) end
+  paired-next {i} P due K W =
+      let less : n - (i + 1) ≡ n - i - 1 = omega arith in
+      record { runs = λ S. rw less (running-on (P.runs S) (omega arith) _ (S.over K W).says (λ h. W.inside)); inside = W.inside }
 
-  pub paired-done : {rest at : ℕ} → Paired key value f n from rest at → rest ≤ 0 → Paired key value f n from 0 at
-  paired-done {rest} {at} P h = let z : rest ≡ 0 = omega arith in rw z at P
+  pub paired-done : {i at : ℕ} → Paired key value f n from (n - i) at → n ≤ i → Paired key value f n from 0 at
+  paired-done {i} {at} P h = let z : n - i ≡ 0 = omega arith in rw z at P
 
   pub paired-passed : {at : ℕ} {p : Reader (List ℕ)} → Paired key value f n from 0 at → Steps key value f p → Passed (repeat n p) f from (Ok (0, record { at = at }))
   paired-passed P S = running-done (P.runs S) 0 (omega arith)

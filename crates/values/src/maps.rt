@@ -23,10 +23,8 @@ fn first_unit(types: u64) -> u64
     ensures { result ≡ 256 ^ (types - 1) }
 {
     let mut unit: u64 = 1;
-    let mut i: u64 = 1;
-    while i < types {
+    for _ in 1..types {
         unit *= 256;
-        i += 1;
     }
     unit
 }
@@ -40,12 +38,10 @@ pub fn map_kinds(types: u64, packed: u64, kinds: &mut [u64]) -> usize
     let n = types as usize;
     let mut unit = first_unit(types);
     let mut rest = packed;
-    let mut i: usize = 0;
-    while i < n {
+    for i in 0..n {
         kinds[i] = rest / unit;
         rest %= unit;
         unit /= 256;
-        i += 1;
     }
     n
 }
@@ -177,7 +173,7 @@ fn number_behind(part: &[u8], at: usize, low: u64, high: u64) -> usize
     ensures { result < FAR → Numbered low high part.now at result }
 {
     if at < part.len() {
-        let b = part[at] as u64;
+        let b = u64::from(part[at]);
         if b < 128 {
             return held(b, at + 1, low, high);
         }
@@ -205,8 +201,7 @@ fn pairs_behind(part: &[u8], at: usize, n: u64, key: Bounds, value: Bounds) -> u
     ensures { result ≤ length part.now → Paired key value part.now n at 0 result }
 {
     let mut here = at;
-    let mut rest = n;
-    while 0 < rest {
+    for _ in 0..n {
         let next = one_behind(part, here, key.width, key.low, key.high);
         if part.len() < next {
             return 18446744073709551615;
@@ -216,57 +211,8 @@ fn pairs_behind(part: &[u8], at: usize, n: u64, key: Bounds, value: Bounds) -> u
             return 18446744073709551615;
         }
         here = end;
-        rest -= 1;
     }
     here
-}
-
-// The bounds of a string's number.
-fn string_bounds(strings: u64) -> Bounds
-    ensures { (pools a b : List ℕ) → Quick (item strings pools a b 14) result }
-{
-    if strings == 18446744073709551615 {
-        return Bounds {
-            width: 9,
-            low: 0,
-            high: 0,
-        };
-    }
-    Bounds {
-        width: 0,
-        low: 0,
-        high: strings,
-    }
-}
-
-// An end of a range in the width of the numbers that are held to it.
-fn wide(x: u32) -> u64
-    ensures { (result ≡ x) × (result < FAR) }
-{
-    x as u64
-}
-
-// The bounds of an object's number, where kind k names a type that has one range.
-fn linked_bounds(k: u64, starts: &[u32], first: &[u32], last: &[u32]) -> Bounds
-    requires { (32 ≤ k) × Grouped starts.now first.now last.now }
-    ensures { (strings : ℕ) (pools : List ℕ) → Quick (item_in strings pools starts.now first.now last.now k) result }
-{
-    let s = span_of(starts, k);
-    let from = s.from;
-    if s.to - from == 1 {
-        let low = wide(first[from]);
-        let high = wide(last[from]);
-        return Bounds {
-            width: 0,
-            low,
-            high,
-        };
-    }
-    Bounds {
-        width: 9,
-        low: 0,
-        high: 0,
-    }
 }
 
 // The bounds of an element of so many bytes.
@@ -280,23 +226,52 @@ fn wide_bounds(width: usize) -> Bounds
     }
 }
 
+// The bounds of a number.
+fn number_bounds(low: u64, high: u64) -> Bounds
+    ensures { (result.width ≡ 0) × (result.low ≡ low) × (result.high ≡ high) }
+{
+    Bounds {
+        width: 0,
+        low,
+        high,
+    }
+}
+
+// The bounds of a string's number.
+fn string_bounds(strings: u64) -> Bounds
+    ensures { (pools a b : List ℕ) → Quick (item strings pools a b 14) result }
+{
+    if strings == 18446744073709551615 {
+        return wide_bounds(9);
+    }
+    number_bounds(0, strings)
+}
+
+// The bounds of an object's number, where kind k names a type that has one range.
+fn linked_bounds(k: u64, starts: &[u32], first: &[u32], last: &[u32]) -> Bounds
+    requires { (32 ≤ k) × Grouped starts.now first.now last.now }
+    ensures { (strings : ℕ) (pools : List ℕ) → Quick (item_in strings pools starts.now first.now last.now k) result }
+{
+    let s = span_of(starts, k);
+    let from = s.from;
+    if s.to - from == 1 {
+        return number_bounds(u64::from(first[from]), u64::from(last[from]));
+    }
+    wide_bounds(9)
+}
+
 // The bounds of an element of kind k. Annotations and bools have no quick way.
 fn bounds_of(k: u64, strings: u64, starts: &[u32], first: &[u32], last: &[u32]) -> Bounds
     requires { (element_kind? k ≡ true) × Grouped starts.now first.now last.now }
     ensures { (pools : List ℕ) → Quick (item_in strings pools starts.now first.now last.now k) result }
 {
     match k {
-        5 => wide_bounds(9),
-        6 => wide_bounds(9),
+        5 | 6 => wide_bounds(9),
         7 => wide_bounds(1),
         8 => wide_bounds(2),
         9 | 12 => wide_bounds(4),
         10 | 13 => wide_bounds(8),
-        11 => Bounds {
-            width: 0,
-            low: 0,
-            high: 18446744073709551615,
-        },
+        11 => number_bounds(0, 18446744073709551615),
         14 => string_bounds(strings),
         _ => linked_bounds(k, starts, first, last),
     }
@@ -346,11 +321,9 @@ fn map(
         }
     }
     let mut here = begin;
-    let mut rest = n;
-    while 0 < rest {
+    for _ in 0..n {
         let (_, next) = key_and_rest(part, here, kinds, strings, pools, starts, first, last)?;
         here = next;
-        rest -= 1;
     }
     Ok((0, here))
 }
@@ -400,11 +373,9 @@ pub fn maps(
     ensures { MapsChecked n strings pools.now starts.now first.now last.now kinds.now part.now result }
 {
     let mut here = Cursor { at: 0 };
-    let mut rest = n;
-    while 0 < rest {
+    for _ in 0..n {
         let (_, next) = map(part, here, kinds, strings, pools, starts, first, last)?;
         here = next;
-        rest -= 1;
     }
     Ok((0, here))
 }

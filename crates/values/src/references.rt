@@ -1,32 +1,20 @@
 // References: numbers of objects, which lie in the ranges of a type.
-ghost use Rattle.std.specs.Prelude.{◌≡◌, ◌<◌, ◌≤◌, length};
+ghost use Rattle.std.specs.Prelude.{◌≡◌, ℕ, ◌<◌, ◌≤◌, Bool, length};
 ghost use Rattle.paper.specs.Reader.{repeat};
 ghost use Rattle.values.specs.Pass.{Passed};
 ghost use Rattle.values.specs.Items.{in_range, linked, some_object};
+ghost use Rattle.values.specs.Linked.{Tells};
 ghost use Rattle.values.specs.RangeLaws.{Placed};
 
 use crate::guides::{bits_of, guess};
 use numbers::{Cursor, Fault, Outcome, Refusal};
-use std::num;
-
-// An end of a range in the width of the numbers that are held against it. Said once, it spares each load a fact.
-fn wide(x: u32) -> u64
-    ensures { result ≡ x }
-{
-    x as u64
-}
 
 // Whether object n lies in the i-th range.
 fn lies_in(first: &[u32], last: &[u32], i: usize, n: u64) -> bool
     requires { (length first.now ≡ length last.now) × (i < length first.now) }
     ensures { result ≡ in_range first.now last.now i n }
 {
-    let before = wide(first[i]);
-    let end = wide(last[i]);
-    if n <= before {
-        return false;
-    }
-    n <= end
+    u64::from(first[i]) < n && n <= u64::from(last[i])
 }
 
 // The range in which object n lies, or how many there are.
@@ -34,14 +22,12 @@ fn search(first: &[u32], last: &[u32], n: u64) -> usize
     requires { length first.now ≡ length last.now }
     ensures { Placed first.now last.now n result }
 {
-    let mut i: usize = 0;
-    while i < first.len() {
+    for i in 0..first.len() {
         if lies_in(first, last, i, n) {
             return i;
         }
-        i += 1;
     }
-    i
+    first.len()
 }
 
 // How far to go on: over a half that ends before n, or not at all. A difference below 0 has its top bit set, and a product
@@ -50,7 +36,7 @@ fn over(last: &[u32], at: usize, half: usize, n: u64) -> usize
     requires { at < length last.now }
     ensures { result ≤ half }
 {
-    let below = num::wrapping_sub_u64(wide(last[at]), n);
+    let below = u64::from(last[at]).wrapping_sub(n);
     let before = (below >> 63) as usize;
     half * before
 }
@@ -81,40 +67,7 @@ fn range_of(first: &[u32], last: &[u32], n: u64) -> usize
     search(first, last, n)
 }
 
-// The number of an object, or 0.
-fn reference(part: &[u8], c: Cursor, first: &[u32], last: &[u32]) -> Outcome<u64>
-    requires { length first.now ≡ length last.now }
-    ensures { Passed (linked (some_object first.now last.now)) part.now c.at result }
-{
-    let (n, next) = c.v64(part)?;
-    if n == 0 {
-        return Ok((n, next));
-    }
-    if first.len() <= range_of(first, last, n) {
-        return Err(Refusal {
-            fault: Fault::Reference,
-            place: c.at,
-        });
-    }
-    Ok((n, next))
-}
-
-// m numbers of objects.
-pub fn references(part: &[u8], c: Cursor, m: u64, first: &[u32], last: &[u32]) -> Outcome<u64>
-    requires { length first.now ≡ length last.now }
-    ensures { Passed (repeat m (linked (some_object first.now last.now))) part.now c.at result }
-{
-    let mut here = c;
-    let mut rest = m;
-    while 0 < rest {
-        let (_, next) = reference(part, here, first, last)?;
-        here = next;
-        rest -= 1;
-    }
-    Ok((0, here))
-}
-
-// The same as `range_of`, with a look at the range that a guide names before it.
+// The same, with a look at the range that a guide names before it.
 fn guided_range(guide: &[u32], bits: u32, first: &[u32], last: &[u32], n: u64) -> usize
     requires { (bits < 64) × (length first.now ≡ length last.now) }
     ensures { Placed first.now last.now n result }
@@ -136,32 +89,50 @@ pub fn range_by(guide: &[u32], first: &[u32], last: &[u32], n: u64) -> usize
     guided_range(guide, bits_of(guide), first, last, n)
 }
 
-// The same as `reference`, with a guide.
-fn guided_reference(
-    part: &[u8],
-    c: Cursor,
-    guide: &[u32],
-    bits: u32,
-    first: &[u32],
-    last: &[u32],
-) -> Outcome<u64>
-    requires { (bits < 64) × (length first.now ≡ length last.now) }
-    ensures { Passed (linked (some_object first.now last.now)) part.now c.at result }
+// Whether n is the number of an object, or 0.
+fn object(first: &[u32], last: &[u32], n: u64) -> bool
+    requires { length first.now ≡ length last.now }
+    ensures { result ≡ some_object first.now last.now n }
 {
-    let (n, next) = c.v64(part)?;
-    if n == 0 {
-        return Ok((n, next));
-    }
-    if first.len() <= guided_range(guide, bits, first, last, n) {
-        return Err(Refusal {
-            fault: Fault::Reference,
-            place: c.at,
-        });
-    }
-    Ok((n, next))
+    n == 0 || range_of(first, last, n) < first.len()
 }
 
-// The same as `references`, with a guide.
+// The same, with a guide.
+fn guided_object(guide: &[u32], bits: u32, first: &[u32], last: &[u32], n: u64) -> bool
+    requires { (bits < 64) × (length first.now ≡ length last.now) }
+    ensures { result ≡ some_object first.now last.now n }
+{
+    n == 0 || guided_range(guide, bits, first, last, n) < first.len()
+}
+
+// m numbers, each of which the test takes. Each test has a loop of its own.
+fn linked_numbers<F: Fn(u64) -> bool>(part: &[u8], c: Cursor, m: u64, test: F) -> Outcome<u64>
+    requires { F.IsAlwaysCallable test }
+    ensures { (ok : ℕ → Bool) → Tells ok (F.post test) → Passed (repeat m (linked ok)) part.now c.at result }
+{
+    let mut here = c;
+    for _ in 0..m {
+        let (n, next) = here.v64(part)?;
+        if !test(n) {
+            return Err(Refusal {
+                fault: Fault::Reference,
+                place: here.at,
+            });
+        }
+        here = next;
+    }
+    Ok((0, here))
+}
+
+// m numbers of objects.
+pub fn references(part: &[u8], c: Cursor, m: u64, first: &[u32], last: &[u32]) -> Outcome<u64>
+    requires { length first.now ≡ length last.now }
+    ensures { Passed (repeat m (linked (some_object first.now last.now))) part.now c.at result }
+{
+    linked_numbers(part, c, m, move |n| object(first, last, n))
+}
+
+// The same, with a guide.
 pub fn guided_references(
     part: &[u8],
     c: Cursor,
@@ -174,12 +145,10 @@ pub fn guided_references(
     ensures { Passed (repeat m (linked (some_object first.now last.now))) part.now c.at result }
 {
     let bits = bits_of(guide);
-    let mut here = c;
-    let mut rest = m;
-    while 0 < rest {
-        let (_, next) = guided_reference(part, here, guide, bits, first, last)?;
-        here = next;
-        rest -= 1;
-    }
-    Ok((0, here))
+    linked_numbers(
+        part,
+        c,
+        m,
+        move |n| guided_object(guide, bits, first, last, n),
+    )
 }

@@ -1,6 +1,6 @@
 use Rattle.std.proofs.Common.{refl, arith}
 use Rattle.numbers.specs.Cursors.{handed, was-got}
-use Rattle.values.specs.Pass.{running-start, running-next, running-no, running-done}
+use Rattle.values.specs.Turns.{turning-start, turning-next, turning-no, turning-done}
 use Rattle.values.specs.Maps.{passed-inside}
 use Rattle.values.specs.Quick.{skips-passed, paired-passed, key-steps}
 use Rattle.values.specs.Ways.{first_kind, last-kind, rest-asked, rest-falls, way_no, way-keys, way-key-no, way-rest, way-last}
@@ -51,17 +51,17 @@ map-pairs_behind-end-requires t c = (was-got c.small.ensures c.in_ok-n.was).insi
 pub map-returns-then-end-part : goal.map-returns-then-end-part
 map-returns-then-end-part t c = way-keys _ _ _ _ _ _ c.requires.in_bounds.0 c.small.ensures c.in_ok-n.was (paired-passed (c.pairs_behind-end.ensures c.if-end-part.true) (key-steps _ _ _ _ _ _ (omega arith) (c.bounds_of-key.ensures _) (c.bounds_of-value.ensures _)))
 
-pub map-loop-rest-init : goal.map-loop-rest-init
-map-loop-rest-init t c = running-start _ _ _ _
+pub map-loop-init : goal.map-loop-init
+map-loop-init t c = turning-start _ _ _ _
 
 pub map-key_and_rest-requires : goal.map-key_and_rest-requires
-map-key_and_rest-requires t c = (omega arith, ((c.requires.in_bounds.0, c.requires.in_bounds.1), (c.loop-rest.invariant.inside ((was-got c.small.ensures c.in_ok-n.was).inside c.requires.at_in_bounds.0), c.requires.at_in_bounds.1)))
+map-key_and_rest-requires t c = (omega arith, ((c.requires.in_bounds.0, c.requires.in_bounds.1), (c.loop.invariant.inside ((was-got c.small.ensures c.in_ok-n.was).inside c.requires.at_in_bounds.0), c.requires.at_in_bounds.1)))
 
 pub map-returns-in_err-next : goal.map-returns-in_err-next
-map-returns-in_err-next t c = rw (handed c.from_residual-in_err-next.ensures.1) (way-keys _ _ _ _ _ _ c.requires.in_bounds.0 c.small.ensures c.in_ok-n.was (running-no c.loop-rest.invariant c.loop-rest-test.true c.key_and_rest.ensures c.in_err-next.was))
+map-returns-in_err-next t c = rw (handed c.from_residual-in_err-next.ensures.1) (way-keys _ _ _ _ _ _ c.requires.in_bounds.0 c.small.ensures c.in_ok-n.was (turning-no c.loop.invariant c.loop-test.true c.key_and_rest.ensures c.in_err-next.was))
 
-pub map-loop-rest-preserved : goal.map-loop-rest-preserved
-map-loop-rest-preserved t c = running-next c.loop-rest.invariant c.loop-rest-test.true c.key_and_rest.ensures c.in_ok-next.was
+pub map-loop-preserved : goal.map-loop-preserved
+map-loop-preserved t c = turning-next c.loop.invariant c.loop-test.true c.key_and_rest.ensures c.in_ok-next.was
 
 pub map-returns : goal.map-returns
-map-returns t c = way-keys _ _ _ _ _ _ c.requires.in_bounds.0 c.small.ensures c.in_ok-n.was (running-done c.loop-rest.invariant 0 c.loop-rest-test.false)
+map-returns t c = way-keys _ _ _ _ _ _ c.requires.in_bounds.0 c.small.ensures c.in_ok-n.was (turning-done c.loop.invariant 0 c.loop-test.false)
