@@ -138,13 +138,6 @@ pub record Running {A : Type 0} (r : Reader A) (f : List ℕ) (m from rest at : 
 pub running-start : {A : Type 0} (r : Reader A) (f : List ℕ) (m from : ℕ) → Running r f m from m from
 running-start r f m from = record { says = refl; inside = λ h. h }
 
--- counted up from 0, as a loop does
-pub running-begin : {A : Type 0} (r : Reader A) (f : List ℕ) (m from : ℕ) → Running r f m from (m - 0) from
-running-begin r f m from = let all : m - 0 ≡ m = omega arith in rw all (running-start r f m from)
-
-pub running-turn : {A : Type 0} {r : Reader A} {f : List ℕ} {m from at : ℕ} (i : ℕ) → Running r f m from (m - i - 1) at → Running r f m from (m - (i + 1)) at
-running-turn {m = m} i R = let less : m - (i + 1) ≡ m - i - 1 = omega arith in rw less R
-
 module _ {A : Type 0} {r : Reader A} {f : List ℕ} {m from rest at : ℕ} (R : Running r f m from rest at) where
   pub running-done : (x : ℕ) → rest ≤ 0 → Passed (repeat m r) f from (Ok (x, record { at = at }))
   unfolding forget

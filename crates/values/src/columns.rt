@@ -178,7 +178,8 @@ fn fill_v64s(part: &[u8], out: &mut [i64], at: usize) -> usize
     p
 }
 
-// The same of strings and objects. A file has fewer of them than 2^63, so a column can store their numbers, and nothing is lost of one.
+// The same of strings and objects. A file has fewer of them than 2^63, so a column can store their numbers, and nothing is lost of one. None of
+// them is long, so there is nothing to guess, and a larger number is refused: one loop for these and for v64 would ask at each step which it is.
 fn objects_there(part: &[u8], c: Cursor, out: &mut [i64], p: usize, n: usize) -> Cursor
     requires { (c.at + 9 * n ≤ length part.now) × (p + n ≤ length out.old) }
     ensures { On IsLink part.now c.at out.old p n out.new result.at }

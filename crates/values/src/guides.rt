@@ -66,11 +66,10 @@ pub fn make_guide(last: &[u32], guide: &mut [u32])
     requires { length guide.old ≡ 65 }
     ensures { length guide.new ≡ 65 }
 {
-    let n = last.len();
-    if n == 0 {
+    let Some(object) = last.last() else {
         return;
-    }
-    let bits = bits_out(last[n - 1]);
+    };
+    let bits = bits_out(*object);
     guide[64] = bits;
     mark_all(last, bits, guide);
 }

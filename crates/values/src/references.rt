@@ -106,7 +106,12 @@ fn guided_object(guide: &[u32], bits: u32, first: &[u32], last: &[u32], n: u64) 
 }
 
 // m numbers, each of which the test takes. Each test has a loop of its own.
-fn linked_numbers<F: Fn(u64) -> bool>(part: &[u8], c: Cursor, m: u64, test: F) -> Outcome<u64>
+pub(crate) fn linked_numbers<F: Fn(u64) -> bool>(
+    part: &[u8],
+    c: Cursor,
+    m: u64,
+    test: F,
+) -> Outcome<u64>
     requires { F.IsAlwaysCallable test }
     ensures { (ok : ℕ → Bool) → Tells ok (F.post test) → Passed (repeat m (linked ok)) part.now c.at result }
 {

@@ -12,6 +12,7 @@ ghost use Rattle.values.specs.Held.{Bools};
 ghost use Rattle.values.specs.Overs.{Looks, RanTo};
 ghost use Rattle.values.specs.Ups.{Up, Surely};
 
+use crate::references::linked_numbers;
 use numbers::{Cursor, Fault, Outcome, Refusal, Run, Taken};
 
 // Whether all bytes from `at` up to `end` are 00 or FF. There is no way out of the loop before its end, so that the compiler looks at many
@@ -93,16 +94,19 @@ pub fn fixed_widths(part: &[u8], c: Cursor, m: u64, width: u64) -> Outcome<u64>
     })
 }
 
+// How many v64 are surely there: one has nine bytes at most.
+fn sure(part: &[u8], at: usize) -> u64
+    ensures { 0 < result → at + 9 * result ≤ length part.now }
+{
+    (part.len().saturating_sub(at) / 9) as u64
+}
+
 // How many times eight bytes can be looked at for the ends of at most `rest` numbers: each time there is a ninth behind them, and no more than
 // eight numbers are passed over.
 fn looks(part: &[u8], at: usize, rest: u64) -> u64
     ensures { Looks (length part.now) at rest result }
 {
-    if part.len() < at {
-        return 0;
-    }
-    let room = ((part.len() - at) / 9) as u64;
-    room.min(rest / 8)
+    sure(part, at).min(rest / 8)
 }
 
 // As many numbers as end in so many looks.
@@ -120,7 +124,8 @@ fn v64s_there(part: &[u8], c: Cursor, n: u64) -> Run
     Run { count, next: here }
 }
 
-// m numbers of one byte or more: as many as are surely there are passed over at once, again and again, and then the last few.
+// m numbers of one byte or more: as many as are surely there are passed over at once, again and again, and then the last few. How many that
+// are is known only behind them, so no range counts the turns.
 pub fn v64s(part: &[u8], c: Cursor, m: u64) -> Outcome<u64>
     ensures { Passed (repeat m v64) part.now c.at result }
 {
@@ -208,19 +213,15 @@ fn numbers_there(part: &[u8], c: Cursor, n: u64) -> Taken
     }
 }
 
-// How many of `rest` numbers are surely there: a v64 has nine bytes at most.
+// How many of `rest` numbers are surely there.
 fn surely(part: &[u8], at: usize, rest: u64) -> u64
     ensures { Surely (length part.now) at rest result }
 {
-    if part.len() < at {
-        return 0;
-    }
-    let room = ((part.len() - at) / 9) as u64;
-    room.min(rest)
+    sure(part, at).min(rest)
 }
 
 // m numbers of strings. Of those that are surely there only the largest is held against the bound, and they are looked at one by one where it
-// is past it.
+// is past it. No range counts the turns: each asks anew how many are surely there.
 pub fn string_numbers(part: &[u8], c: Cursor, m: u64, strings: u64) -> Outcome<u64>
     ensures { Passed (repeat m (linked (at_most strings))) part.now c.at result }
 {
@@ -243,10 +244,5 @@ pub fn string_numbers(part: &[u8], c: Cursor, m: u64, strings: u64) -> Outcome<u
 pub fn strings_in_turn(part: &[u8], c: Cursor, m: u64, strings: u64) -> Outcome<u64>
     ensures { Passed (repeat m (linked (at_most strings))) part.now c.at result }
 {
-    let mut here = c;
-    for _ in 0..m {
-        let (_, next) = number_up_to(part, here, strings)?;
-        here = next;
-    }
-    Ok((0, here))
+    linked_numbers(part, c, m, move |n| n <= strings)
 }

@@ -1,7 +1,0 @@
-use Rattle.std.proofs.Common.{◌-◌}
-use Rattle.values.specs.Items.{linked, at_most}
-use Rattle.values.specs.Pass.{Running}
-use Rattle.values.proofs.runs.strings_in_turn.Given as goal
-
-abbrev pub invariant-loop : goal.invariant-loop
-invariant-loop l = Running (linked (at_most l.strings)) l.part l.m l.initial.here.at (l.m - l.counter) l.here.at
