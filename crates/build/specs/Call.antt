@@ -1,5 +1,5 @@
 -- The call: the file whose listing a text is. Assumes nothing.
-use Rattle.std.specs.Prelude.{◌≡◌, refl, true, ℕ, ◌≤◌, ◌<◌, take}
+use Rattle.std.specs.Prelude.{◌≡◌, refl, true, ℕ, ◌≤◌, ◌<◌, take, Result, Ok, Err}
 use Rattle.std.proofs.Common.{sym, ◌∙◌, subst, arith, length-take}
 use Rattle.std.proofs.Math.Path.{ap}
 use mathlib.Core.List.{List, [], ◌++◌}
@@ -27,8 +27,7 @@ use Rattle.texts.specs.declared.TextRead.TheVariants.{Got, Bad}
 use Rattle.calls.specs.Told.{answer_of, after, Wrote, wrote_none, wrote-all}
 use Rattle.calls.specs.Table.{untouched, noughts-first}
 use Rattle.calls.specs.Fixed.{one_way}
-use Rattle.calls.specs.declared.replies.Reply.{Reply}
-use Rattle.calls.specs.declared.replies.Reply.TheVariants.{Done, Refused}
+use Rattle.calls.specs.declared.replies.Refused.{Refused}
 use Rattle.build.specs.Pairs.{TextReady, FileBuilt, not_short}
 use Rattle.build.specs.Counting.{FileLong, FileBy, FileCounted}
 use Rattle.build.specs.Again.{FileGiven, Filled}
@@ -86,7 +85,7 @@ pub lent : (n : ℕ) (out : List ℕ) → n ≤ length out → n ≡ length (tak
 lent n out le = omega (arith, length-take n out)
 
 module _ {t ps : List ℕ} {a : TextRead} (C : FileCounted t ps a) where
-  pub build-bad : a ≡ Bad → {out : List ℕ} → Wrote (build (length out) table_length t) out (Refused 20) out
+  pub build-bad : a ≡ Bad → {out : List ℕ} → Wrote (build (length out) table_length t) out (Err (record { number = 20 })) out
   build-bad is {out} = wrote_none (build-none (length out) t (subst (FileBy t ps) is C.told))
 
   module _ {k : Taken} (is : a ≡ Got k) where
@@ -96,7 +95,7 @@ module _ {t ps : List ℕ} {a : TextRead} (C : FileCounted t ps a) where
     file : List ℕ
     file = encode counted.built.ledger
 
-    pub build-over : most_bytes < k.at → {out : List ℕ} → Wrote (build (length out) table_length t) out (Refused 20) out
+    pub build-over : most_bytes < k.at → {out : List ℕ} → Wrote (build (length out) table_length t) out (Err (record { number = 20 })) out
     build-over h {out} = wrote_none (build-none (length out) t (file-over counted.built h))
 
     module _ (le : k.at ≤ most_bytes) where
@@ -114,11 +113,11 @@ module _ {t ps : List ℕ} {a : TextRead} (C : FileCounted t ps a) where
       file-given long = record { end = length file; short = omega (arith, many, le); many = long; placed = counted.placed }
 
       module _ {out : List ℕ} where
-        pub build-no-room : length out < k.at → Wrote (build (length out) table_length t) out (Refused 19) out
+        pub build-no-room : length out < k.at → Wrote (build (length out) table_length t) out (Err (record { number = 19 })) out
         unfolding fitted need ◌>>◌ ◌>>=◌
         build-no-room lt = wrote_none (build-some (length out) t file-there ∙ rw (lt-leb (length file) (length out) (omega (arith, many))))
 
-        pub build-written : k.at ≤ length out → {m : List ℕ} → Filled t (take k.at out) m → Wrote (build (length out) table_length t) out (Done k.at) (m ++ drop k.at out)
+        pub build-written : k.at ≤ length out → {m : List ℕ} → Filled t (take k.at out) m → Wrote (build (length out) table_length t) out (Ok k.at) (m ++ drop k.at out)
         unfolding over_front
         build-written room W =
             let stands = W.told file file-there (many ∙ lent k.at out room) in
@@ -126,17 +125,17 @@ module _ {t ps : List ℕ} {a : TextRead} (C : FileCounted t ps a) where
             (ap (λ (x : List ℕ). x ++ drop k.at out) stands ∙ ap (λ (n : ℕ). file ++ drop n out) (sym many))
 
 -- a text that is too long is not read at all
-pub build-too-long : (t : List ℕ) → Bytes t → 65999999 < length t → {out : List ℕ} → Wrote (build (length out) table_length t) out (Refused 20) out
+pub build-too-long : (t : List ℕ) → Bytes t → 65999999 < length t → {out : List ℕ} → Wrote (build (length out) table_length t) out (Err (record { number = 20 })) out
 build-too-long t b h {out} = wrote_none (build-none (length out) t (text-too-long t b h))
 
 -- ── by the length of the lent work table ──
 
-pub build-short : (t w out : List ℕ) → length w < 16384 → after (Refused 15) w out ≡ after_build t w out
+pub build-short : (t w out : List ℕ) → length w < 16384 → after (Err (record { number = 15 })) w out ≡ after_build t w out
 unfolding after_build writes build need ◌>>◌ ◌>>=◌ answer_of how_many left_in
 build-short t w out lt = rw (lt-leb 16384 (length w) lt, untouched t w lt)
 
 pub build-long :
-    (t w : List ℕ) → 16384 ≤ length w → (r : Reply) {v : List ℕ} → v ≡ noughts → {out out' : List ℕ} → Wrote (build (length out) table_length t) out r out'
+    (t w : List ℕ) → 16384 ≤ length w → (r : Result ℕ Refused) {v : List ℕ} → v ≡ noughts → {out out' : List ℕ} → Wrote (build (length out) table_length t) out r out'
     → after r (v ++ drop 16384 w) out' ≡ after_build t w out
 unfolding after_build writes build need
 build-long t w le r left h = rw (le-leb 16384 (length w) le, noughts-first t w le, left, h.says, h.left)
@@ -144,5 +143,5 @@ build-long t w le r left h = rw (le-leb 16384 (length w) le, noughts-first t w l
 -- ── the contract fixes the reply and all that is lent ──
 
 pub build-fixed :
-    (t work out : List ℕ) {r q : Reply} {w v o p : List ℕ} → after r w o ≡ after_build t work out → after q v p ≡ after_build t work out → (r ≡ q) × (w ≡ v) × (o ≡ p)
+    (t work out : List ℕ) {r q : Result ℕ Refused} {w v o p : List ℕ} → after r w o ≡ after_build t work out → after q v p ≡ after_build t work out → (r ≡ q) × (w ≡ v) × (o ≡ p)
 build-fixed t work out a b = one_way a b

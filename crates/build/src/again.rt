@@ -4,13 +4,13 @@ ghost use Rattle.std.specs.Prelude.{◌≡◌};
 ghost use Rattle.build.specs.Pairs.{TextReady, Built};
 ghost use Rattle.build.specs.Again.{PairGiven, FileGiven, Filled};
 
-use crate::front::{FrontRead, front_text};
+use crate::front::front_text;
 use crate::pairs::put_front;
 use paper::Ledger;
 use regions::lay_sized;
 use table::counts::next_block;
 use table::rows::strings;
-use texts::{Taken, TextRead};
+use texts::Taken;
 use words::read::Place;
 
 // The pair at p, laid from `at` on, with its values at their place. It is there, so both readings succeed.
@@ -26,10 +26,10 @@ fn pair_again(
     ensures { (G : PairGiven text.now work.old p.at at values) → Built G.asks.state text.now work.old p.at out.old at out.new result work.new }
 {
     let known = strings(work);
-    let FrontRead::Got(front) = front_text(text, p, work) else {
+    let Some(front) = front_text(text, p, work) else {
         return Taken { next: p, at };
     };
-    let TextRead::Got(k) = lay_sized(text, front.values, work, out, values) else {
+    let Some(k) = lay_sized(text, front.values, work, out, values) else {
         return Taken { next: p, at };
     };
     put_front(text, front, work, known, out, at);
@@ -46,6 +46,7 @@ pub fn pairs_again(text: &[u8], work: &mut [u32], places: &[u64], out: &mut [u8]
     let mut at: usize = 0;
     let mut left = Ledger::PAIRS;
     let mut from: usize = 0;
+    // As in the first pass, the end of the text ends the loop, and not that of the places.
     while from < text.len() {
         left -= 1;
         let values = places[left as usize] as usize;

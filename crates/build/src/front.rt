@@ -12,7 +12,7 @@ use paper::Ledger;
 use parse::{PairLine, pair_line};
 use table::rows::{fields, strings};
 use walk::region::kinds_stand;
-use words::read::{Place, Step};
+use words::read::Place;
 
 // How many entries there are, where their lines begin, and where those of the values do.
 #[derive(Clone, Copy)]
@@ -38,27 +38,23 @@ fn few(work: &[u32], n: u64, m: u64) -> bool
 }
 
 // The front of the pair at p. Kinds are held to the types when all of these are known.
-pub fn front_text(text: &[u8], p: Place, work: &mut [u32]) -> FrontRead
+pub fn front_text(text: &[u8], p: Place, work: &mut [u32]) -> Option<Front>
     requires { PairAsks text.now work.old p.at }
     ensures { FrontTold text.now work.old p.at result work.new }
 {
     let PairLine::Got(n, m, first) = pair_line(text, p) else {
-        return FrontRead::Bad;
+        return None;
     };
     if !few(work, n, m) {
-        return FrontRead::Bad;
+        return None;
     }
     let known = fields(work);
-    let Step::To(from) = strings_text(text, first, n, work) else {
-        return FrontRead::Bad;
-    };
-    let Step::To(values) = entries_text(text, from, m, work) else {
-        return FrontRead::Bad;
-    };
+    let from = strings_text(text, first, n, work)?;
+    let values = entries_text(text, from, m, work)?;
     if !kinds_stand(work, known) {
-        return FrontRead::Bad;
+        return None;
     }
-    FrontRead::Got(Front {
+    Some(Front {
         entries: m,
         from,
         values,

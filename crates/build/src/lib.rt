@@ -15,14 +15,13 @@ ghost use Rattle.build.specs.Counting.{FileCounted};
 ghost use Rattle.build.specs.Again.{FileGiven, Filled};
 
 use again::pairs_again;
-use calls::replies::Reply;
+use calls::replies::{Refused, Reply};
 use pairs::count_pairs;
 use paper::Ledger;
 use table::counts::{begin, clear};
-use texts::TextRead;
 
 // How long the file of a text is, and where the values of its pairs begin.
-fn count_file(text: &[u8], table: &mut [u32], places: &mut [u64]) -> TextRead
+fn count_file(text: &[u8], table: &mut [u32], places: &mut [u64]) -> Option<Taken>
     requires { (length table.old ≡ table_length) × (length text.now < 66000000) × (length places.old ≡ most_pairs) }
     ensures { FileCounted text.now places.new result }
 {
@@ -46,21 +45,21 @@ fn write_file(text: &[u8], table: &mut [u32], out: &mut [u8]) -> Reply
 {
     let mut places = [0u64; Ledger::PAIRS as usize];
     let a = count_file(text, table, &mut places);
-    let TextRead::Got(k) = a else {
-        return Reply::Refused(20);
+    let Some(k) = a else {
+        return Err(Refused::LISTING);
     };
     let count = k.at;
     let whole = Ledger {
         bytes: count as u64,
     };
     if !whole.fits() {
-        return Reply::Refused(20);
+        return Err(Refused::LISTING);
     }
     if out.len() < count {
-        return Reply::Refused(19);
+        return Err(Refused::ROOM);
     }
     fill_file(text, table, &places, &mut out[..count]);
-    Reply::Done(count as u64)
+    Ok(count as u64)
 }
 
 // No file has a listing whose places pass 66,000,000, which is what the table keeps of a string's.
@@ -69,7 +68,7 @@ fn build_read(text: &[u8], table: &mut [u32], out: &mut [u8]) -> Reply
     ensures { Wrote (build (length out.old) table_length text.now) out.old result out.new }
 {
     if 65999999 < text.len() {
-        return Reply::Refused(20);
+        return Err(Refused::LISTING);
     }
     write_file(text, table, out)
 }
@@ -90,7 +89,7 @@ pub fn build(text: &[u8], work: &mut [u32], out: &mut [u8]) -> Reply
 {
     let needed = Ledger::TABLE as usize;
     if work.len() < needed {
-        return Reply::Refused(15);
+        return Err(Refused::TABLE);
     }
     build_in(text, &mut work[..needed], out)
 }

@@ -7,7 +7,7 @@ ghost use Rattle.build.specs.Pairs.{TextReady};
 ghost use Rattle.build.specs.Counting.{PairCounted, FileCounted};
 ghost use Rattle.build.specs.Puts.{FrontLays};
 
-use crate::front::{Front, FrontRead, front_text};
+use crate::front::{Front, front_text};
 use fronts::put_entries;
 use numbers::write::put_v64;
 use paper::Ledger;
@@ -15,8 +15,8 @@ use puts::strings::put_strings;
 use regions::{add_up, region_size, size_chunks};
 use table::counts::next_block;
 use table::rows::strings;
-use texts::{Taken, TextRead};
-use words::read::{Place, Step};
+use texts::Taken;
+use words::read::Place;
 
 // Behind the lines of a pair, where its values begin in the file, and where they end.
 #[derive(Clone, Copy)]
@@ -52,31 +52,27 @@ pub fn put_front(
 
 // The pair at p, which stands in the file from `at` on. Lent no room, its front is only counted. Values that are too long for
 // any file are not: their ends might pass 64 bits.
-fn count_pair(text: &[u8], p: Place, work: &mut [u32], at: usize) -> PairRead
+fn count_pair(text: &[u8], p: Place, work: &mut [u32], at: usize) -> Option<PairCount>
     requires { PairAsks text.now work.old p.at }
     ensures { PairCounted text.now work.old p.at at result work.new }
 {
     let known = strings(work);
-    let FrontRead::Got(front) = front_text(text, p, work) else {
-        return PairRead::Bad;
-    };
-    let Step::To(next) = size_chunks(text, front.values, work) else {
-        return PairRead::Bad;
-    };
+    let front = front_text(text, p, work)?;
+    let next = size_chunks(text, front.values, work)?;
     let size = region_size(work);
     let alone = Ledger { bytes: size };
     if !alone.fits() {
-        return PairRead::Bad;
+        return None;
     }
     let mut none = [0u8; 1];
     let values = put_front(text, front, work, known, &mut none[..0], at);
     let end = add_up(values as u64, size) as usize;
     next_block(work);
-    PairRead::Got(PairCount { next, values, end })
+    Some(PairCount { next, values, end })
 }
 
 // All pairs of the text, and where the values of each begin: the last of the places is the first pair's.
-pub fn count_pairs(text: &[u8], work: &mut [u32], places: &mut [u64]) -> TextRead
+pub fn count_pairs(text: &[u8], work: &mut [u32], places: &mut [u64]) -> Option<Taken>
     requires text_ready { TextReady text.now work.old }
     requires places_len { length places.old ≡ most_pairs }
     ensures { FileCounted text.now places.new result }
@@ -84,21 +80,19 @@ pub fn count_pairs(text: &[u8], work: &mut [u32], places: &mut [u64]) -> TextRea
     let mut at: usize = 0;
     let mut left = Ledger::PAIRS;
     let mut from: usize = 0;
+    // What ends the loop is the end of the text. A `for` over the places would have to ask for it in each turn, and once more behind.
     while from < text.len() {
         if left == 0 {
-            return TextRead::Bad;
+            return None;
         }
-        let a = count_pair(text, Place { at: from }, work, at);
-        let PairRead::Got(k) = a else {
-            return TextRead::Bad;
-        };
+        let k = count_pair(text, Place { at: from }, work, at)?;
         left -= 1;
         places[left as usize] = k.values as u64;
         at = k.end;
         let next = k.next;
         from = next.at;
     }
-    TextRead::Got(Taken {
+    Some(Taken {
         next: Place { at: from },
         at,
     })

@@ -6,23 +6,21 @@ ghost use Rattle.build.specs.Strings.{StringsTold};
 
 use parse::{StringLine, string_line};
 use table::pushes::push_string;
-use words::read::{Place, Step};
+use words::read::Place;
 
 // The lines of n strings.
-pub fn strings_text(text: &[u8], p: Place, n: u64, work: &mut [u32]) -> Step
+pub fn strings_text(text: &[u8], p: Place, n: u64, work: &mut [u32]) -> Option<Place>
     requires holds { Holds text.now work.old }
     requires n_bound { strings_in work.old + n ≤ most_strings }
     ensures { StringsTold text.now work.old n p.at result work.new }
 {
     let mut at = p.at;
-    let mut rest = n;
-    while 0 < rest {
+    for _ in 0..n {
         let StringLine::Got(first, end, next) = string_line(text, Place { at }) else {
-            return Step::Bad;
+            return None;
         };
         push_string(work, first as u32, end as u32);
         at = next.at;
-        rest -= 1;
     }
-    Step::To(Place { at })
+    Some(Place { at })
 }

@@ -1,5 +1,5 @@
 -- A column of a file that was read into a table. Assumes nothing.
-use Rattle.std.specs.Prelude.{◌≡◌, refl, true, List, ℕ, ◌≤◌, ◌<◌, leb, ℤ, length, get_or, replicate}
+use Rattle.std.specs.Prelude.{◌≡◌, refl, true, List, ℕ, ◌≤◌, ◌<◌, leb, ℤ, length, get_or, replicate, Result, Ok, Err}
 use Rattle.std.proofs.Common.{sym, ◌∙◌, arith}
 use Rattle.std.proofs.Math.Path.{ap, subst}
 use Rattle.paper.specs.Ledger.{Kind, constant, plain, Field, Ledger, State, nothing, field_at, no_field, objects_of}
@@ -22,8 +22,7 @@ use Rattle.calls.specs.Fill.{ColumnReady, ColumnStored}
 use Rattle.calls.specs.Told.{Wrote, wrote_none, wrote-all, column_in, column-none, column-some, room-19, room-done}
 use Rattle.calls.specs.Sought.{Here, declared, has-column}
 use Rattle.calls.specs.declared.asks.Wanted.{Wanted}
-use Rattle.calls.specs.declared.replies.Reply.{Reply}
-use Rattle.calls.specs.declared.replies.Reply.TheVariants.{Done, Refused}
+use Rattle.calls.specs.declared.replies.Refused.{Refused}
 
 -- ── what is promised ──
 
@@ -50,10 +49,10 @@ pub record Stored (f l : List ℕ) (w : Wanted) (out out' : List ℤ) : Type 0 w
   pub stored : (R : Ready f l w) → w.objects ≤ length out → out' ≡ over_front (column_of (ledger_of R.table) R.type w.at) out
 
 -- whatever room there is
-pub record WantedTold (f l : List ℕ) (w : Wanted) (out : List ℤ) (r : Reply) (out' : List ℤ) : Type 0 where
+pub record WantedTold (f l : List ℕ) (w : Wanted) (out : List ℤ) (r : Result ℕ Refused) (out' : List ℤ) : Type 0 where
   pub told : (R : Ready f l w) → Wrote (need (leb w.objects (length out)) 19 >> done (column_of (ledger_of R.table) R.type w.at)) out r out'
 
-pub record ColumnTold (f l type field : List ℕ) (k : ℕ) (out : List ℤ) (r : Reply) (out' : List ℤ) : Type 0 where
+pub record ColumnTold (f l type field : List ℕ) (k : ℕ) (out : List ℤ) (r : Result ℕ Refused) (out' : List ℤ) : Type 0 where
   pub told : (K : Known f l) → Wrote (column_in (ledger_of K) type field k (length out)) out r out'
 
 -- ── what the table says is what is known of the ledger ──
@@ -126,10 +125,10 @@ module _ {f l : List ℕ} {w : Wanted} where
 -- ── the ways out ──
 
 module _ (f l : List ℕ) (w : Wanted) (out : List ℤ) where
-  pub no_room : length out < w.objects → WantedTold f l w out (Refused 19) out
+  pub no_room : length out < w.objects → WantedTold f l w out (Err (record { number = 19 })) out
   no_room lt = record { told = λ R. wrote_none (room-19 w.objects (length out) _ lt) }
 
-  pub room-enough : {out' : List ℤ} → w.objects ≤ length out → Stored f l w out out' → WantedTold f l w out (Done w.objects) out'
+  pub room-enough : {out' : List ℤ} → w.objects ≤ length out → Stored f l w out out' → WantedTold f l w out (Ok w.objects) out'
   room-enough fits S = record { told = λ R. wrote-all (room-done w.objects (length out) _ fits) R.values-are (S.stored R fits) }
 
 module _ {f l : List ℕ} (K : Known f l) where
@@ -160,11 +159,11 @@ module _ {f l : List ℕ} (K : Known f l) where
         }
 
 module _ {f l type field : List ℕ} {k : ℕ} {out : List ℤ} where
-  pub told_none : {n : ℕ} → sought type field k (view f l) ≡ refused n → ColumnTold f l type field k out (Refused n) out
+  pub told_none : {n : ℕ} → sought type field k (view f l) ≡ refused n → ColumnTold f l type field k out (Err (record { number = n })) out
   told_none {n} h =
       record { told = λ K. wrote_none (column-none (ledger_of K) type field k (length out) (subst (λ (s : State). sought type field k s ≡ refused n) (sees K) h)) }
 
   pub told-wanted :
-      {w : Wanted} {r : Reply} {out' : List ℤ} → Bytes f → Here f l type field k w → WantedTold f l w out r out' → ColumnTold f l type field k out r out'
+      {w : Wanted} {r : Result ℕ Refused} {out' : List ℤ} → Bytes f → Here f l type field k w → WantedTold f l w out r out' → ColumnTold f l type field k out r out'
   unfolding wanted-ready
   told-wanted bytes H W = record { told = λ K. rw (column-some (ledger_of K) type field k (length out) (known-asks K H.asks), known-objects K H.t H.count-is) (W.told (wanted-ready K H bytes)) }

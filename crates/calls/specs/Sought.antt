@@ -1,5 +1,6 @@
 -- The type and the field that a question is about, as the table finds them. Assumes nothing.
-use Rattle.std.specs.Prelude.{◌≡◌, Bool, false, ◌&&◌, List, ℕ, ◌≤◌, ◌<◌, eqb, length, get_or}
+use Rattle.std.specs.Prelude as prelude
+use Rattle.std.specs.Prelude.{None, Some, ◌≡◌, Bool, false, ◌&&◌, List, ℕ, ◌≤◌, ◌<◌, eqb, length, get_or}
 use Rattle.std.proofs.Math.Path.{sym, ap, subst}
 use Rattle.std.proofs.Common.{◌∙◌, arith}
 use Rattle.std.proofs.Math.Bool.{true}
@@ -16,8 +17,6 @@ use Rattle.table.specs.View.{kind_from, names_of, titles_of, flds_of, log_of, vi
 use Rattle.table.specs.Answers.{field_in}
 use Rattle.table.specs.Asks.{found}
 use Rattle.table.specs.declared.rows.FieldRow.{FieldRow}
-use Rattle.table.specs.declared.names.Found.{Found}
-use Rattle.table.specs.declared.names.Found.TheVariants.{At, Nothing}
 use Rattle.calls.specs.Told.{values_of, values-some, sought-18}
 use Rattle.calls.specs.declared.asks.Wanted.{Wanted}
 
@@ -35,21 +34,21 @@ counted-here {f} {l} {type} {field} {k} H = values-some (view f l) type field k 
 
 -- ── what the table's lookups find ──
 
-module _ (f l : List ℕ) (type : List ℕ) (a : Found) (A : found a ≡ place (same type) 0 (names_of f l)) where
-  pub no-type : a ≡ Nothing → type_named (view f l) type ≡ none
+module _ (f l : List ℕ) (type : List ℕ) (a : prelude.Option ℕ) (A : found a ≡ place (same type) 0 (names_of f l)) where
+  pub no-type : a ≡ None → type_named (view f l) type ≡ none
   unfolding type_named
   no-type is = sym A ∙ ap found is
 
-  pub a-type : {t : ℕ} → a ≡ At t → type_named (view f l) type ≡ some t
+  pub a-type : {t : ℕ} → a ≡ Some t → type_named (view f l) type ≡ some t
   unfolding type_named
   a-type is = sym A ∙ ap found is
 
-module _ (f l : List ℕ) (t : ℕ) (field : List ℕ) (b : Found) (B : found b ≡ place_named (called? t field) 0 (flds_of l) (titles_of f l)) where
-  pub no-field : b ≡ Nothing → field_named (view f l) t field ≡ none
+module _ (f l : List ℕ) (t : ℕ) (field : List ℕ) (b : prelude.Option ℕ) (B : found b ≡ place_named (called? t field) 0 (flds_of l) (titles_of f l)) where
+  pub no-field : b ≡ None → field_named (view f l) t field ≡ none
   unfolding field_named
   no-field is = sym B ∙ ap found is
 
-  pub a-field : {i : ℕ} → b ≡ At i → field_named (view f l) t field ≡ some i
+  pub a-field : {i : ℕ} → b ≡ Some i → field_named (view f l) t field ≡ some i
   unfolding field_named
   a-field is = sym B ∙ ap found is
 

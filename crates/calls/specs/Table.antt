@@ -1,13 +1,12 @@
 -- The four calls, by the length of the lent work table. Assumes nothing.
-use Rattle.std.specs.Prelude.{◌≡◌, List, [], ◌++◌, ℕ, ◌≤◌, ◌<◌, ℤ, length, take, drop}
+use Rattle.std.specs.Prelude.{◌≡◌, List, [], ◌++◌, ℕ, ◌≤◌, ◌<◌, ℤ, length, take, drop, Result, Err}
 use Rattle.std.proofs.Common.{length-take-le, le-leb}
 use Rattle.std.proofs.lemmas.Bool.{lt-leb}
 use Rattle.paper.specs.Reader.{when◌then◌else◌}
 use Rattle.paper.specs.Calls.{refused, ◌>>=◌, ◌>>◌, need, read, check, objects, count_values, fill_values, cleared, left_in, how_many, tells, writes, after_check, after_objects, after_count, after_fill}
 use Rattle.table.specs.Counts.{noughts}
 use Rattle.calls.specs.Told.{answer_of, after, Wrote}
-use Rattle.calls.specs.declared.replies.Reply.{Reply}
-use Rattle.calls.specs.declared.replies.Reply.TheVariants.{Refused}
+use Rattle.calls.specs.declared.replies.Refused.{Refused}
 
 -- ── a table that is too short ──
 
@@ -20,20 +19,20 @@ module _ (f w : List ℕ) (lt : length w < 16384) where
   unfolding read need ◌>>◌ ◌>>=◌
   read_short = rw (lt-leb 16384 (length w) lt)
 
-  pub check-short : after (Refused 15) w [] ≡ after_check f w
+  pub check-short : after (Err (record { number = 15 })) w [] ≡ after_check f w
   unfolding after_check tells check ◌>>=◌ answer_of
   check-short = rw (read_short, untouched)
 
-  pub objects-short : (name : List ℕ) → after (Refused 15) w [] ≡ after_objects f name w
+  pub objects-short : (name : List ℕ) → after (Err (record { number = 15 })) w [] ≡ after_objects f name w
   unfolding after_objects tells objects ◌>>=◌ answer_of
   objects-short name = rw (read_short, untouched)
 
   module _ (owner name : List ℕ) (k : ℕ) where
-    pub count-short : after (Refused 15) w [] ≡ after_count f owner name k w
+    pub count-short : after (Err (record { number = 15 })) w [] ≡ after_count f owner name k w
     unfolding after_count tells count_values ◌>>=◌ answer_of
     count-short = rw (read_short, untouched)
 
-    pub fill-short : (out : List ℤ) → after (Refused 15) w out ≡ after_fill f owner name k w out
+    pub fill-short : (out : List ℤ) → after (Err (record { number = 15 })) w out ≡ after_fill f owner name k w out
     unfolding after_fill writes fill_values ◌>>=◌ answer_of how_many left_in
     fill-short out = rw (read_short, untouched)
 
@@ -52,7 +51,7 @@ module _ (f w : List ℕ) (le : 16384 ≤ length w) where
   unfolding read need
   read-long = rw (le-leb 16384 (length w) le)
 
-  module _ (r : Reply) {t : List ℕ} (left : t ≡ noughts) where
+  module _ (r : Result ℕ Refused) {t : List ℕ} (left : t ≡ noughts) where
     pub check-long : answer_of r ≡ check 16384 f → after r (t ++ drop 16384 w) [] ≡ after_check f w
     unfolding after_check tells check
     check-long h = rw (read-long, noughts-first, left, h)

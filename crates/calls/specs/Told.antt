@@ -1,6 +1,7 @@
 -- What a reply says, and what each call replies to a file that is accepted or refused. Assumes nothing.
-use Rattle.std.specs.Prelude.{◌≡◌, refl, false, ◌&&◌, List, [], ◌∷◌, ◌++◌, ℕ, ◌≤◌, ◌<◌, leb, eqb, ℤ, length, drop}
-use Rattle.std.proofs.Common.{arith, le-leb}
+use Rattle.std.specs.Prelude.{◌≡◌, refl, false, ◌&&◌, List, [], ◌∷◌, ◌++◌, ℕ, ◌≤◌, ◌<◌, leb, eqb, ℤ, length, drop, Result, Ok, Err}
+use Rattle.std.proofs.Common.{arith, le-leb, IsErrAnd, ap, ◌∙◌}
+use Rattle.std.proofs.lemmas.Result.{err_from_is_err_and}
 use Rattle.std.proofs.Math.Option.{none, some}
 use Rattle.std.proofs.lemmas.Bool.{lt-leb}
 use Rattle.paper.specs.Reader.{got, no}
@@ -30,29 +31,32 @@ use Rattle.paper.specs.Calls.{
   how_many,
 }
 use Rattle.laws.specs.Asked.{Asks, asks-sought}
-use Rattle.calls.specs.declared.replies.Reply.{Reply}
-use Rattle.calls.specs.declared.replies.Reply.TheVariants.{Done, Refused}
+use Rattle.calls.specs.declared.replies.Refused.{Refused}
 
 -- this paper's answer, for each case of a reply
-unfoldable pub answer_of : Reply → Answer ℕ
-answer_of (Done n) = done n
-answer_of (Refused n) = refused n
+unfoldable pub answer_of : Result ℕ Refused → Answer ℕ
+answer_of (Ok n) = done n
+answer_of (Err e) = refused e.number
 
 -- the answer, the work table and the output after a call
-abbrev pub after : {A : Type 0} → Reply → List ℕ → List A → Left A
+-- what `?` hands on is the refusal itself
+pub told_on : {T : Type 0} {r : Result T Refused} {q : Refused} → IsErrAnd r (λ u. u ≡ q) → r ≡ Err q
+told_on {T} {r} h = let p = err_from_is_err_and r h in p.1 ∙ ap Err p.2
+
+abbrev pub after : {A : Type 0} → Result ℕ Refused → List ℕ → List A → Left A
 after r table out = record { answer = answer_of r; table = table; output = out }
 
 -- a reply to a call that writes: how many, and what the output then holds
-pub record Wrote {A : Type 0} (a : Answer (List A)) (out : List A) (r : Reply) (out' : List A) : Type 0 where
+pub record Wrote {A : Type 0} (a : Answer (List A)) (out : List A) (r : Result ℕ Refused) (out' : List A) : Type 0 where
   pub says : answer_of r ≡ how_many a
   pub left : out' ≡ left_in out a
 
 module _ {A : Type 0} {a : Answer (List A)} {out : List A} where
-  pub wrote_none : {n : ℕ} → a ≡ refused n → Wrote a out (Refused n) out
+  pub wrote_none : {n : ℕ} → a ≡ refused n → Wrote a out (Err (record { number = n })) out
   unfolding answer_of how_many left_in
   wrote_none is = record { says = rw is; left = rw is }
 
-  pub wrote-all : {vs out' : List A} {n : ℕ} → a ≡ done vs → length vs ≡ n → out' ≡ over_front vs out → Wrote a out (Done n) out'
+  pub wrote-all : {vs out' : List A} {n : ℕ} → a ≡ done vs → length vs ≡ n → out' ≡ over_front vs out → Wrote a out (Ok n) out'
   unfolding answer_of how_many left_in
   wrote-all is count stands = record { says = rw (is, count); left = rw is stands }
 

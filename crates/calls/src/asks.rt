@@ -7,8 +7,8 @@ ghost use Rattle.calls.specs.Told.{answer_of, count_of, values_of};
 ghost use Rattle.calls.specs.Column.{Known, Ready, Stored, WantedTold, ColumnTold};
 
 use crate::fills::fill_column;
-use crate::replies::Reply;
-use table::names::{Found, find_field_called, find_type_called};
+use crate::replies::{Refused, Reply};
+use table::names::{find_field_called, find_type_called};
 use table::ranges::objects_of;
 use table::rows::{FieldRow, field_at};
 use values::columns::fill_constant;
@@ -59,11 +59,11 @@ pub fn count_objects(file: &[u8], work: &[u32], name: &[u8]) -> Reply
     ensures { answer_of result ≡ count_of (view file.now work.now) name.now }
 {
     let a = find_type_called(file, work, name);
-    let Found::At(t) = a else {
-        return Reply::Refused(16);
+    let Some(t) = a else {
+        return Err(Refused::NO_TYPE);
     };
     let count = objects_of(work, t);
-    Reply::Done(count as u64)
+    Ok(count as u64)
 }
 
 // What was asked for: a field by its place, with its row, and the objects of its type, for each of which it has a value.
@@ -80,19 +80,19 @@ pub fn tell_count(file: &[u8], work: &[u32], owner: &[u8], name: &[u8], k: u64) 
     ensures { answer_of result ≡ values_of (view file.now work.now) owner.now name.now k }
 {
     let a = find_type_called(file, work, owner);
-    let Found::At(t) = a else {
-        return Reply::Refused(16);
+    let Some(t) = a else {
+        return Err(Refused::NO_TYPE);
     };
     let b = find_field_called(file, work, t, name);
-    let Found::At(i) = b else {
-        return Reply::Refused(17);
+    let Some(i) = b else {
+        return Err(Refused::NO_FIELD);
     };
     let row = field_at(work, i);
     if !is_asked(row, k) {
-        return Reply::Refused(18);
+        return Err(Refused::OTHER_KIND);
     }
     let values = objects_of(work, t);
-    Reply::Done(values as u64)
+    Ok(values as u64)
 }
 
 // The values that are wanted, where there is room for them.
@@ -114,10 +114,10 @@ fn store_in_room(file: &[u8], work: &[u32], w: Wanted, out: &mut [i64]) -> Reply
     ensures { WantedTold file.now work.now w out.old result out.new }
 {
     if out.len() < w.objects as usize {
-        return Reply::Refused(19);
+        return Err(Refused::ROOM);
     }
     store_values(file, work, w, out);
-    Reply::Done(w.objects as u64)
+    Ok(w.objects as u64)
 }
 
 // The values of a type's field, for whoever has room. They are looked up as for the count, and that is written out again: what both
@@ -134,16 +134,16 @@ pub fn write_values(
     ensures { ColumnTold file.now work.now owner.now name.now k out.old result out.new }
 {
     let a = find_type_called(file, work, owner);
-    let Found::At(t) = a else {
-        return Reply::Refused(16);
+    let Some(t) = a else {
+        return Err(Refused::NO_TYPE);
     };
     let b = find_field_called(file, work, t, name);
-    let Found::At(i) = b else {
-        return Reply::Refused(17);
+    let Some(i) = b else {
+        return Err(Refused::NO_FIELD);
     };
     let row = field_at(work, i);
     if !is_asked(row, k) {
-        return Reply::Refused(18);
+        return Err(Refused::OTHER_KIND);
     }
     let objects = objects_of(work, t);
     let wanted = Wanted {

@@ -24,10 +24,8 @@ pub fn fill_column(file: &[u8], work: &[u32], i: u32, k: u64, out: &mut [i64])
 {
     let n = chunks(work);
     let mut at: usize = 0;
-    let mut j = 0;
-    while j < n {
+    for j in 0..n {
         let d = chunk_at(work, j);
         at = fill_chunk(file, d, i, k, out, at);
-        j += 1;
     }
 }

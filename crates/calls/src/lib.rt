@@ -15,7 +15,7 @@ ghost use Rattle.calls.specs.Told.{answer_of, Wrote, after};
 use asks::{count_objects, tell_count, write_values};
 use numbers::Step;
 use paper::Ledger;
-use replies::Reply;
+use replies::{Refused, Reply};
 use table::counts::clear;
 use walk::pairs::read;
 
@@ -24,20 +24,16 @@ fn objects_read(a: Step, file: &[u8], work: &[u32], name: &[u8]) -> Reply
     requires { FileRead file.now work.now a }
     ensures { answer_of result ≡ objects name.now table_length file.now }
 {
-    match a {
-        Step::Got(_) => count_objects(file, work, name),
-        Step::No(e) => Reply::Refused(e.number),
-    }
+    a?;
+    count_objects(file, work, name)
 }
 
 fn count_read(a: Step, file: &[u8], work: &[u32], owner: &[u8], name: &[u8], k: u64) -> Reply
     requires { FileRead file.now work.now a }
     ensures { answer_of result ≡ count_values owner.now name.now k table_length file.now }
 {
-    match a {
-        Step::Got(_) => tell_count(file, work, owner, name, k),
-        Step::No(e) => Reply::Refused(e.number),
-    }
+    a?;
+    tell_count(file, work, owner, name, k)
 }
 
 fn fill_read(
@@ -52,10 +48,8 @@ fn fill_read(
     requires { FileRead file.now work.now a }
     ensures { Wrote (fill_values owner.now name.now k (length out.old) table_length file.now) out.old result out.new }
 {
-    match a {
-        Step::Got(_) => write_values(file, work, owner, name, k, out),
-        Step::No(e) => Reply::Refused(e.number),
-    }
+    a?;
+    write_values(file, work, owner, name, k, out)
 }
 
 // The four calls over a table of just the length that reading needs: whatever stood in it, noughts are left.
@@ -66,10 +60,8 @@ fn check_in(file: &[u8], table: &mut [u32]) -> Reply
 {
     let a = read(file, table);
     clear(table);
-    match a {
-        Step::Got(_) => Reply::Done(0),
-        Step::No(e) => Reply::Refused(e.number),
-    }
+    a?;
+    Ok(0)
 }
 
 fn objects_in(file: &[u8], name: &[u8], table: &mut [u32]) -> Reply
@@ -115,7 +107,7 @@ pub fn check(file: &[u8], work: &mut [u32]) -> Reply
 {
     let needed = Ledger::TABLE as usize;
     if work.len() < needed {
-        return Reply::Refused(15);
+        return Err(Refused::TABLE);
     }
     check_in(file, &mut work[..needed])
 }
@@ -126,7 +118,7 @@ pub fn objects(file: &[u8], name: &[u8], work: &mut [u32]) -> Reply
 {
     let needed = Ledger::TABLE as usize;
     if work.len() < needed {
-        return Reply::Refused(15);
+        return Err(Refused::TABLE);
     }
     objects_in(file, name, &mut work[..needed])
 }
@@ -137,7 +129,7 @@ pub fn count_values(file: &[u8], owner: &[u8], name: &[u8], k: u64, work: &mut [
 {
     let needed = Ledger::TABLE as usize;
     if work.len() < needed {
-        return Reply::Refused(15);
+        return Err(Refused::TABLE);
     }
     count_in(file, owner, name, k, &mut work[..needed])
 }
@@ -155,7 +147,7 @@ pub fn fill_values(
 {
     let needed = Ledger::TABLE as usize;
     if work.len() < needed {
-        return Reply::Refused(15);
+        return Err(Refused::TABLE);
     }
     fill_in(file, owner, name, k, &mut work[..needed], out)
 }

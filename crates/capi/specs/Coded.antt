@@ -1,5 +1,5 @@
 -- An answer in one signed number. Assumes nothing.
-use Rattle.std.specs.Prelude.{◌≡◌, List, ℕ, zero, suc, ◌≤◌, ◌<◌, leb, ℤ, pos, negsuc, neg_ℤ}
+use Rattle.std.specs.Prelude.{◌≡◌, List, ℕ, zero, suc, ◌≤◌, ◌<◌, leb, ℤ, pos, negsuc, neg_ℤ, Result}
 use Rattle.std.proofs.Math.Path.{refl, ap}
 use Rattle.std.proofs.Common.{sym, ◌∙◌, arith, le-leb}
 use Rattle.std.proofs.Math.ListN.{length}
@@ -11,7 +11,7 @@ use Rattle.laws.specs.Columns.{bind_done}
 use Rattle.laws.specs.Promises.{fitted-inv}
 use Rattle.laws.specs.Answers.{Refusal, check-refusals, objects-refusals, count-refusals, fill-refusals, listing-refusals, build-refusals, objects-most, count_most, fill-most, build-most}
 use Rattle.calls.specs.Told.{answer_of, after}
-use Rattle.calls.specs.declared.replies.Reply.{Reply}
+use Rattle.calls.specs.declared.replies.Refused.{Refused}
 
 -- what was done, from 0 up, or minus the number of the refusal
 unfoldable pub coded : Answer ℕ → ℤ
@@ -78,7 +78,7 @@ pub record Plain (a : Answer ℕ) : Type 0 where
   pub small : Small a
   pub numbered : Numbered a
 
-pub as-coded : {A : Type 0} {z : ℤ} (r : Reply) {table : List ℕ} {out : List A} {left : Left A} → z ≡ coded_up_to (answer_of r) → after r table out ≡ left → Plain left.answer → Coded z table out left
+pub as-coded : {A : Type 0} {z : ℤ} (r : Result ℕ Refused) {table : List ℕ} {out : List A} {left : Left A} → z ≡ coded_up_to (answer_of r) → after r table out ≡ left → Plain left.answer → Coded z table out left
 as-coded {A} r {left = left} is says plain =
     let number = is ∙ ap (λ (x : Left A). coded_up_to x.answer) says ∙ small-code left.answer plain.small in
     record {

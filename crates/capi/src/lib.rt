@@ -22,12 +22,13 @@ fn up_to_top(n: u64) -> i64
     9223372036854775807
 }
 
+// The C interface knows no enums, so both answers go into one number.
 fn one_number(r: Reply) -> i64
     ensures { result ≡ coded_up_to (answer_of r) }
 {
     match r {
-        Reply::Done(n) => up_to_top(n),
-        Reply::Refused(n) => 0 - up_to_top(n),
+        Ok(n) => up_to_top(n),
+        Err(e) => 0 - up_to_top(e.number),
     }
 }
 

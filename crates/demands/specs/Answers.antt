@@ -1,5 +1,5 @@
 -- Demand 1: each call has one reply to what it is lent, no second one, and leaves the lent memory in one way. Assumes nothing.
-use Rattle.std.specs.Prelude.{◌≡◌, refl, List, [], ◌∷◌, ◌++◌, ℕ, ◌≤◌, ◌<◌, ℤ, leb, length, drop, replicate}
+use Rattle.std.specs.Prelude.{◌≡◌, refl, List, [], ◌∷◌, ◌++◌, ℕ, ◌≤◌, ◌<◌, ℤ, leb, length, drop, replicate, Result, Ok, Err}
 use Rattle.std.proofs.Common.{sym, ap, ◌∙◌, arith, length-append, le-leb}
 use Rattle.std.proofs.lemmas.List.{length-replicate}
 use Rattle.std.proofs.lemmas.Bool.{lt-leb}
@@ -9,23 +9,22 @@ use Rattle.paper.specs.Calls.{Answer, done, refused, Left, cleared, writes, tell
 use Rattle.laws.specs.Answers.{Refusal, check-refusals, objects-refusals, count-refusals, fill-refusals, listing-refusals, build-refusals}
 use Rattle.calls.specs.Told.{answer_of, after}
 use Rattle.calls.specs.Fixed.{one_way}
-use Rattle.calls.specs.declared.replies.Reply.{Reply}
-use Rattle.calls.specs.declared.replies.Reply.TheVariants.{Done, Refused}
+use Rattle.calls.specs.declared.replies.Refused.{Refused}
 use Rattle.demands.specs.Replies.{tells-answer, was-done, was-refused, drop-front}
 
 -- ── a reply, and only one ──
 
 -- whatever the definitions leave, there is a reply that says it
-pub some-reply : {A : Type 0} (left : Left A) → (r : Reply) × (after r left.table left.output ≡ left)
+pub some-reply : {A : Type 0} (left : Left A) → (r : Result ℕ Refused) × (after r left.table left.output ≡ left)
 unfolding answer_of
 some-reply {A} left = go left.answer refl
   where
-    go : (a : Answer ℕ) → left.answer ≡ a → (r : Reply) × (after r left.table left.output ≡ left)
-    go (done n) q = (Done n, ap (λ (x : Answer ℕ). record { answer = x; table = left.table; output = left.output }) (sym q))
-    go (refused n) q = (Refused n, ap (λ (x : Answer ℕ). record { answer = x; table = left.table; output = left.output }) (sym q))
+    go : (a : Answer ℕ) → left.answer ≡ a → (r : Result ℕ Refused) × (after r left.table left.output ≡ left)
+    go (done n) q = (Ok n, ap (λ (x : Answer ℕ). record { answer = x; table = left.table; output = left.output }) (sym q))
+    go (refused n) q = (Err (record { number = n }), ap (λ (x : Answer ℕ). record { answer = x; table = left.table; output = left.output }) (sym q))
 
 -- any two replies to the same call are equal, and so is all that was lent
-module _ {r q : Reply} {w v : List ℕ} where
+module _ {r q : Result ℕ Refused} {w v : List ℕ} where
   pub one-check : (f work : List ℕ) → after r w [] ≡ after_check f work → after q v [] ≡ after_check f work → (r ≡ q) × (w ≡ v)
   one-check f work a b = let (x, y, _) = one_way a b in (x, y)
 
@@ -48,31 +47,31 @@ module _ {r q : Reply} {w v : List ℕ} where
 -- ── a refusal is one of the paper's numbers, and never 2 ──
 
 module _ (n : ℕ) {w : List ℕ} where
-  pub check-refusal : (f work : List ℕ) → after (Refused n) w [] ≡ after_check f work → Refusal n
+  pub check-refusal : (f work : List ℕ) → after (Err (record { number = n })) w [] ≡ after_check f work → Refusal n
   unfolding after_check answer_of
-  check-refusal f work c = check-refusals (length work) f n (sym (tells-answer _ work (Refused n) c))
+  check-refusal f work c = check-refusals (length work) f n (sym (tells-answer _ work (Err (record { number = n })) c))
 
-  pub objects-refusal : (f type work : List ℕ) → after (Refused n) w [] ≡ after_objects f type work → Refusal n
+  pub objects-refusal : (f type work : List ℕ) → after (Err (record { number = n })) w [] ≡ after_objects f type work → Refusal n
   unfolding after_objects answer_of
-  objects-refusal f type work c = objects-refusals type (length work) f n (sym (tells-answer _ work (Refused n) c))
+  objects-refusal f type work c = objects-refusals type (length work) f n (sym (tells-answer _ work (Err (record { number = n })) c))
 
   module _ (f type field : List ℕ) (k : ℕ) (work : List ℕ) where
     -- the first of the pair never gives 19
-    pub count-refusal : after (Refused n) w [] ≡ after_count f type field k work → Refusal n × (n ≡ 19 → ⊥)
+    pub count-refusal : after (Err (record { number = n })) w [] ≡ after_count f type field k work → Refusal n × (n ≡ 19 → ⊥)
     unfolding after_count answer_of
-    count-refusal c = count-refusals type field k (length work) f n (sym (tells-answer _ work (Refused n) c))
+    count-refusal c = count-refusals type field k (length work) f n (sym (tells-answer _ work (Err (record { number = n })) c))
 
-    pub fill-refusal : (out : List ℤ) {o : List ℤ} → after (Refused n) w o ≡ after_fill f type field k work out → Refusal n
+    pub fill-refusal : (out : List ℤ) {o : List ℤ} → after (Err (record { number = n })) w o ≡ after_fill f type field k work out → Refusal n
     unfolding after_fill
-    fill-refusal out c = fill-refusals type field k (length out) (length work) f n (was-refused _ work out (Refused n) c n refl).0
+    fill-refusal out c = fill-refusals type field k (length out) (length work) f n (was-refused _ work out (Err (record { number = n })) c n refl).0
 
-  pub listing-refusal : (f work out : List ℕ) {o : List ℕ} → after (Refused n) w o ≡ after_listing f work out → Refusal n
+  pub listing-refusal : (f work out : List ℕ) {o : List ℕ} → after (Err (record { number = n })) w o ≡ after_listing f work out → Refusal n
   unfolding after_listing
-  listing-refusal f work out c = listing-refusals (length out) (length work) f n (was-refused _ work out (Refused n) c n refl).0
+  listing-refusal f work out c = listing-refusals (length out) (length work) f n (was-refused _ work out (Err (record { number = n })) c n refl).0
 
-  pub build-refusal : (t work out : List ℕ) {o : List ℕ} → after (Refused n) w o ≡ after_build t work out → Refusal n
+  pub build-refusal : (t work out : List ℕ) {o : List ℕ} → after (Err (record { number = n })) w o ≡ after_build t work out → Refusal n
   unfolding after_build
-  build-refusal t work out c = build-refusals (length out) (length work) t n (was-refused _ work out (Refused n) c n refl).0
+  build-refusal t work out c = build-refusals (length out) (length work) t n (was-refused _ work out (Err (record { number = n })) c n refl).0
 
 -- ── what the lent memory holds afterwards ──
 
@@ -104,8 +103,8 @@ work-after f t type field work out k numbers = (refl, refl, refl, refl, refl, re
 
 -- a refusal leaves the output untouched; else what stands behind the first n is untouched
 pub record OutputKept {A : Type 0} (out : List A) (left : Left A) : Type 0 where
-  pub refused_all : (n : ℕ) {w : List ℕ} {o : List A} → after (Refused n) w o ≡ left → o ≡ out
-  pub done-rest : (n : ℕ) {w : List ℕ} {o : List A} → after (Done n) w o ≡ left → drop n o ≡ drop n out
+  pub refused_all : (n : ℕ) {w : List ℕ} {o : List A} → after (Err (record { number = n })) w o ≡ left → o ≡ out
+  pub done-rest : (n : ℕ) {w : List ℕ} {o : List A} → after (Ok n) w o ≡ left → drop n o ≡ drop n out
 
 rest-kept : {A : Type 0} (n : ℕ) (vs o out : List A) → n ≡ length vs → o ≡ vs ++ drop n out → drop n o ≡ drop n out
 rest-kept n vs o out count is = rw is (rw (sym count) at (drop-front vs (drop n out)))
@@ -113,8 +112,8 @@ rest-kept n vs o out count is = rw is (rw (sym count) at (drop-front vs (drop n 
 writes_kept : {A : Type 0} (a : Answer (List A)) (work : List ℕ) (out : List A) → OutputKept out (writes a work out)
 writes_kept a work out =
     record {
-      refused_all = λ n h. (was-refused a work out (Refused n) h n refl).1;
-      done-rest = λ n h. let (vs, _, count, is) = was-done a work out (Done n) h n refl in rest-kept n vs _ out count is;
+      refused_all = λ n h. (was-refused a work out (Err (record { number = n })) h n refl).1;
+      done-rest = λ n h. let (vs, _, count, is) = was-done a work out (Ok n) h n refl in rest-kept n vs _ out count is;
     }
 
 pub fill-kept : (f type field : List ℕ) (k : ℕ) (work : List ℕ) (out : List ℤ) → OutputKept out (after_fill f type field k work out)

@@ -1,5 +1,5 @@
 -- Demand 2: a file is accepted exactly when the rules hold, and a column is exactly the values of its ledger. Assumes nothing.
-use Rattle.std.specs.Prelude.{◌≡◌, refl, Bool, true, false, ◌&&◌, ◌↔◌, List, [], ◌∷◌, ◌++◌, ℕ, zero, suc, ◌+◌, ◌≤◌, ◌<◌, leb, eqb, ℤ, length}
+use Rattle.std.specs.Prelude.{◌≡◌, refl, Bool, true, false, ◌&&◌, ◌↔◌, List, [], ◌∷◌, ◌++◌, ℕ, zero, suc, ◌+◌, ◌≤◌, ◌<◌, leb, eqb, ℤ, length, Result, Ok, Err}
 use Rattle.std.proofs.Common.{sym, ◌∙◌, arith}
 use Rattle.std.proofs.Math.Path.{ap}
 use Rattle.std.proofs.Math.Option.{Option, none, some}
@@ -21,8 +21,7 @@ use Rattle.laws.specs.Asked.{Asks, asks-sought, Taken, count-done, fill_done}
 use Rattle.laws.specs.Lengths.{column-length}
 use Rattle.laws.specs.Promises.{Accepted, accepted-exactly, encode-accepted, says-one, check-exactly}
 use Rattle.calls.specs.Told.{answer_of, after}
-use Rattle.calls.specs.declared.replies.Reply.{Reply}
-use Rattle.calls.specs.declared.replies.Reply.TheVariants.{Done, Refused}
+use Rattle.calls.specs.declared.replies.Refused.{Refused}
 use Rattle.demands.specs.Replies.{said-done, says-done, tells-answer, written, was-done}
 
 -- ── accepted ──
@@ -52,10 +51,10 @@ pub follows-one : (f : List ℕ) (l m : Ledger) → Follows f l → Follows f m 
 follows-one f l m F G = says-one f l m F.keeps F.spells G.keeps G.spells F.short
 
 -- a reply to a check of f: 0 exactly when the file follows the rules
-abbrev pub AcceptsExactly : List ℕ → Reply → Type 0
-AcceptsExactly f r = (r ≡ Done 0) ↔ ((l : Ledger) × Follows f l)
+abbrev pub AcceptsExactly : List ℕ → Result ℕ Refused → Type 0
+AcceptsExactly f r = (r ≡ Ok 0) ↔ ((l : Ledger) × Follows f l)
 
-pub accepts-exactly : (f work : List ℕ) {r : Reply} {w : List ℕ} → Bytes f → table_length ≤ length work → after r w [] ≡ after_check f work → AcceptsExactly f r
+pub accepts-exactly : (f work : List ℕ) {r : Result ℕ Refused} {w : List ℕ} → Bytes f → table_length ≤ length work → after r w [] ≡ after_check f work → AcceptsExactly f r
 unfolding after_check
 accepts-exactly f work {r} b h c =
     let E = check-exactly (length work) f h b in
@@ -108,38 +107,38 @@ taken-follows {f = f} b T =
 
 -- the type's number of objects
 pub objects-exactly :
-    (f : List ℕ) (l : Ledger) (type work : List ℕ) (t : ℕ) {r : Reply} {w : List ℕ} → table_length ≤ length work → after r w [] ≡ after_objects f type work → Follows f l
-    → type_named (known l) type ≡ some t → r ≡ Done (objects_of (known l) t)
+    (f : List ℕ) (l : Ledger) (type work : List ℕ) (t : ℕ) {r : Result ℕ Refused} {w : List ℕ} → table_length ≤ length work → after r w [] ≡ after_objects f type work → Follows f l
+    → type_named (known l) type ≡ some t → r ≡ Ok (objects_of (known l) t)
 unfolding after_objects
 objects-exactly f l type work t {r} h c F q = said-done r _ (tells-answer _ work r c ∙ objects-done f l F type t (length work) h q)
 
 -- ── the pair of calls ──
 
 -- replies of the two calls, with a work table that is long enough
-pub record Counted (f type field : List ℕ) (k : ℕ) (r : Reply) : Type 0 where
+pub record Counted (f type field : List ℕ) (k : ℕ) (r : Result ℕ Refused) : Type 0 where
   pub work : List ℕ
   pub left : List ℕ
   pub long : table_length ≤ length work
   pub replied : after r left [] ≡ after_count f type field k work
 
-pub record Filled (f type field : List ℕ) (k : ℕ) (out : List ℤ) (r : Reply) (o : List ℤ) : Type 0 where
+pub record Filled (f type field : List ℕ) (k : ℕ) (out : List ℤ) (r : Result ℕ Refused) (o : List ℤ) : Type 0 where
   pub work : List ℕ
   pub left : List ℕ
   pub long : table_length ≤ length work
   pub replied : after r left o ≡ after_fill f type field k work out
 
 -- a reply to the question how many values a field has: as many as its type has objects
-abbrev pub CountsExactly : List ℕ → List ℕ → List ℕ → ℕ → Reply → Type 0
-CountsExactly f type field k r = (l : Ledger) (t i : ℕ) → Follows f l → Asks (known l) type field k t i → r ≡ Done (objects_of (known l) t)
+abbrev pub CountsExactly : List ℕ → List ℕ → List ℕ → ℕ → Result ℕ Refused → Type 0
+CountsExactly f type field k r = (l : Ledger) (t i : ℕ) → Follows f l → Asks (known l) type field k t i → r ≡ Ok (objects_of (known l) t)
 
 -- a reply to the question for these values, and the output afterwards: the reply is the type's number of objects, as many numbers
 -- of the output are the ledger's values, and the rest is as it was lent
-abbrev pub FillsExactly : List ℕ → List ℕ → List ℕ → ℕ → List ℤ → Reply → List ℤ → Type 0
+abbrev pub FillsExactly : List ℕ → List ℕ → List ℕ → ℕ → List ℤ → Result ℕ Refused → List ℤ → Type 0
 FillsExactly f type field k out r o =
     (l : Ledger) (t i : ℕ) → Follows f l → Asks (known l) type field k t i → objects_of (known l) t ≤ length out
-    → (r ≡ Done (objects_of (known l) t)) × (length (column_of l t i) ≡ objects_of (known l) t) × (o ≡ column_of l t i ++ drop (objects_of (known l) t) out)
+    → (r ≡ Ok (objects_of (known l) t)) × (length (column_of l t i) ≡ objects_of (known l) t) × (o ≡ column_of l t i ++ drop (objects_of (known l) t) out)
 
-module _ {f type field : List ℕ} {k : ℕ} {r : Reply} (C : Counted f type field k r) where
+module _ {f type field : List ℕ} {k : ℕ} {r : Result ℕ Refused} (C : Counted f type field k r) where
   pub count-says : answer_of r ≡ count_values type field k (length C.work) f
   unfolding after_count
   count-says = tells-answer _ C.work r C.replied
@@ -148,22 +147,22 @@ module _ {f type field : List ℕ} {k : ℕ} {r : Reply} (C : Counted f type fie
   counts-exactly l t i F Q = said-done r _ (count-says ∙ counts f l F type field k t i Q (length C.work) C.long)
 
   -- and no other question is answered
-  pub counts-only : (n : ℕ) → Bytes f → r ≡ Done n → (l : Ledger) × (t : ℕ) × (i : ℕ) × Follows f l × Asks (known l) type field k t i
+  pub counts-only : (n : ℕ) → Bytes f → r ≡ Ok n → (l : Ledger) × (t : ℕ) × (i : ℕ) × Follows f l × Asks (known l) type field k t i
   counts-only n b is =
       let (T, _, _) = count-done type field k (length C.work) f n (sym count-says ∙ says-done r n is) in
       (T.ledger, T.t, T.i, taken-follows b T, T.asks)
 
-module _ {f type field : List ℕ} {k : ℕ} {out : List ℤ} {r : Reply} {o : List ℤ} (C : Filled f type field k out r o) where
+module _ {f type field : List ℕ} {k : ℕ} {out : List ℤ} {r : Result ℕ Refused} {o : List ℤ} (C : Filled f type field k out r o) where
   pub fills-exactly : FillsExactly f type field k out r o
   unfolding after_fill
   fills-exactly l t i F Q fits =
       let many = column-objects f l F type field k t i Q in
       let (a, b) = written _ C.work out r C.replied (column_of l t i) (fills f l F type field k t i Q (length out) (length C.work) C.long fits) in
-      (a ∙ ap (λ (x : ℕ). Done x) many, many, b ∙ ap (λ (x : ℕ). column_of l t i ++ drop x out) many)
+      (a ∙ ap {B = Result ℕ Refused} Ok many, many, b ∙ ap (λ (x : ℕ). column_of l t i ++ drop x out) many)
 
   -- and no other question is answered
   pub fills-only :
-      (n : ℕ) → Bytes f → r ≡ Done n → (l : Ledger) × (t : ℕ) × (i : ℕ) × Follows f l × Asks (known l) type field k t i × (objects_of (known l) t ≤ length out)
+      (n : ℕ) → Bytes f → r ≡ Ok n → (l : Ledger) × (t : ℕ) × (i : ℕ) × Follows f l × Asks (known l) type field k t i × (objects_of (known l) t ≤ length out)
   unfolding after_fill
   fills-only n b is =
       let (vs, x, _, _) = was-done _ C.work out r C.replied n is in

@@ -1,5 +1,5 @@
 -- Demand 3, growth: the column of a longer file begins with the whole of the shorter file's. Assumes nothing.
-use Rattle.std.specs.Prelude.{◌≡◌, refl, List, [], ◌∷◌, ◌++◌, ℕ, ◌≤◌, ◌<◌, ℤ, length, take}
+use Rattle.std.specs.Prelude.{◌≡◌, refl, List, [], ◌∷◌, ◌++◌, ℕ, ◌≤◌, ◌<◌, ℤ, length, take, Result, Ok}
 use Rattle.std.proofs.Common.{sym, ap, ◌∙◌, arith, length-append}
 use Rattle.paper.specs.Reader.{Out, got, no}
 use Rattle.paper.specs.Bounds.{table_length}
@@ -8,8 +8,7 @@ use Rattle.paper.specs.Calls.{done, known, asked, column_of, fill_values}
 use Rattle.laws.specs.Longer.{Begins, file-longer}
 use Rattle.laws.specs.Columns.{Grows, known-grows, type-stays, field-stays}
 use Rattle.laws.specs.Asked.{Asks, columns-longer}
-use Rattle.calls.specs.declared.replies.Reply.{Reply}
-use Rattle.calls.specs.declared.replies.Reply.TheVariants.{Done}
+use Rattle.calls.specs.declared.replies.Refused.{Refused}
 use Rattle.demands.specs.Replies.{front-is}
 use Rattle.demands.specs.Exact.{Follows, follows-accepted, fills, column-objects, Counted, Filled, counts-exactly, fills-exactly}
 
@@ -33,15 +32,15 @@ asks-longer l m type field k t i B Q =
 
 -- replies of the pair of calls, first to how many (a, b) and then to which (r, q), of a file and of a longer one, and their outputs: the longer
 -- file has at least as many values, and with room for both columns the longer one begins with the whole of the shorter one
-abbrev pub Grown : List ℕ → List ℕ → List ℕ → List ℕ → ℕ → List ℤ → List ℤ → Reply → Reply → Reply → Reply → List ℤ → List ℤ → Type 0
+abbrev pub Grown : List ℕ → List ℕ → List ℕ → List ℕ → ℕ → List ℤ → List ℤ → Result ℕ Refused → Result ℕ Refused → Result ℕ Refused → Result ℕ Refused → List ℤ → List ℤ → Type 0
 Grown f longer type field k out out' a b r q o p =
     (g : List ℕ) (l m : Ledger) (t i : ℕ) → longer ≡ f ++ g → Follows f l → Follows longer m → Asks (known l) type field k t i
-    → (a ≡ Done (objects_of (known l) t)) ×
-    (b ≡ Done (objects_of (known m) t)) ×
+    → (a ≡ Ok (objects_of (known l) t)) ×
+    (b ≡ Ok (objects_of (known m) t)) ×
     (objects_of (known l) t ≤ objects_of (known m) t) ×
     (objects_of (known l) t ≤ length out → objects_of (known m) t ≤ length out'
-    → (r ≡ Done (objects_of (known l) t)) ×
-    (q ≡ Done (objects_of (known m) t)) ×
+    → (r ≡ Ok (objects_of (known l) t)) ×
+    (q ≡ Ok (objects_of (known m) t)) ×
     Begins (take (objects_of (known l) t) o) (take (objects_of (known m) t) p))
 
 module _ (f longer type field : List ℕ) (k : ℕ) (g : List ℕ) (l m : Ledger) (t i : ℕ) (is : longer ≡ f ++ g) (F : Follows f l) (G : Follows longer m) (Q : Asks (known l) type field k t i) where
@@ -62,7 +61,7 @@ module _ (f longer type field : List ℕ) (k : ℕ) (g : List ℕ) (l m : Ledger
       omega (arith, all, column-objects f l F type field k t i Q, column-objects longer m G type field k t i still-asks)
 
 pub grows :
-    (f longer type field : List ℕ) (k : ℕ) (out out' : List ℤ) {a b r q : Reply} {o p : List ℤ} → Counted f type field k a → Counted longer type field k b
+    (f longer type field : List ℕ) (k : ℕ) (out out' : List ℤ) {a b r q : Result ℕ Refused} {o p : List ℤ} → Counted f type field k a → Counted longer type field k b
     → Filled f type field k out r o → Filled longer type field k out' q p → Grown f longer type field k out out' a b r q o p
 grows f longer type field k out out' {o = o} {p = p} A B C D g l m t i is F G Q =
     let Q' = still-asks f longer type field k g l m t i is F G Q in (

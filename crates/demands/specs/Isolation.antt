@@ -1,5 +1,5 @@
 -- Demand 3, isolation: bytes that differ inside the chunks of one field change no other column. Assumes nothing.
-use Rattle.std.specs.Prelude.{◌≡◌, refl, Bool, true, false, ◌&&◌, List, [], ◌∷◌, ℕ, zero, suc, ◌+◌, ◌≤◌, ◌<◌, leb, eqb, ℤ, get_or, take}
+use Rattle.std.specs.Prelude.{◌≡◌, refl, Bool, true, false, ◌&&◌, List, [], ◌∷◌, ℕ, zero, suc, ◌+◌, ◌≤◌, ◌<◌, leb, eqb, ℤ, get_or, take, Result, Ok}
 use Rattle.std.proofs.Math.Path.{sym, ap}
 use Rattle.std.proofs.Common.{◌∙◌, arith, eqb-true}
 use Rattle.std.proofs.Math.Option.{Option, none, some}
@@ -16,8 +16,7 @@ use Rattle.laws.specs.Bools.{not_so, and_split}
 use Rattle.laws.specs.Says.{Bytes}
 use Rattle.laws.specs.Damage.{count-alike, fill-alike}
 use Rattle.calls.specs.Fixed.{same-reply}
-use Rattle.calls.specs.declared.replies.Reply.{Reply}
-use Rattle.calls.specs.declared.replies.Reply.TheVariants.{Done}
+use Rattle.calls.specs.declared.replies.Refused.{Refused}
 use Rattle.demands.specs.Replies.{front-is}
 use Rattle.demands.specs.Exact.{Follows, follows-bytes, follows-read, follows-check, Counted, Filled, count-says, counts-exactly, counts-only, fills-exactly}
 use Rattle.demands.specs.Pair.{then_fill, same_count, pair-agrees}
@@ -89,18 +88,18 @@ names-once s type field type' field' t t' i a b c d =
 -- replies of the pair of calls, first to how many (a, b) and then to which (r, q), of two files that differ only in bytes inside the chunks of
 -- one field (at every other place they have the same byte), and their outputs: both have as many values of every field, be it this
 -- one, and the same values of every other field; the second call's reply is fixed by the first one's
-abbrev pub Isolated : List ℕ → List ℕ → List ℕ → List ℕ → List ℤ → List ℤ → Reply → Reply → Reply → Reply → List ℤ → List ℤ → Type 0
+abbrev pub Isolated : List ℕ → List ℕ → List ℕ → List ℕ → List ℤ → List ℤ → Result ℕ Refused → Result ℕ Refused → Result ℕ Refused → Result ℕ Refused → List ℤ → List ℤ → Type 0
 Isolated f g type field out out' a b r q o p =
     (l m : Ledger) (type' field' : List ℕ) (t i : ℕ) → Follows f l → Follows g m → type_named (known l) type' ≡ some t → field_named (known l) t field' ≡ some i
     → length f ≡ length g → ((at : ℕ) → inside? i at (spots f) ≡ false → get_or f at 0 ≡ get_or g at 0)
     → (a ≡ b) ×
     (r ≡ then_fill a (length out)) ×
     (q ≡ then_fill b (length out')) ×
-    (((type ≡ type') × (field ≡ field') → ⊥) → (n : ℕ) → a ≡ Done n → n ≤ length out → n ≤ length out' → take n o ≡ take n p)
+    (((type ≡ type') × (field ≡ field') → ⊥) → (n : ℕ) → a ≡ Ok n → n ≤ length out → n ≤ length out' → take n o ≡ take n p)
 
 module _ (f g type field : List ℕ) (k : ℕ) (l m : Ledger) (i : ℕ) (F : Follows f l) (G : Follows g m) (long : length f ≡ length g) (off : (at : ℕ) → inside? i at (spots f) ≡ false → get_or f at 0 ≡ get_or g at 0) where
   -- the file is as good as the other one
-  counted-alike : {b : Reply} → Counted g type field k b → Counted f type field k b
+  counted-alike : {b : Result ℕ Refused} → Counted g type field k b → Counted f type field k b
   unfolding after_count
   counted-alike {b} B =
       let table = length B.work in
@@ -108,7 +107,7 @@ module _ (f g type field : List ℕ) (k : ℕ) (l m : Ledger) (i : ℕ) (F : Fol
       record { work = B.work; left = B.left; long = B.long; replied = B.replied ∙ ap (λ (x : Answer ℕ). tells x B.work) (sym same) }
 
   filled-alike :
-      {out : List ℤ} {q : Reply} {p : List ℤ} → ((t : ℕ) → type_named (known l) type ≡ some t → field_named (known l) t field ≡ some i → ⊥) → Filled g type field k out q p
+      {out : List ℤ} {q : Result ℕ Refused} {p : List ℤ} → ((t : ℕ) → type_named (known l) type ≡ some t → field_named (known l) t field ≡ some i → ⊥) → Filled g type field k out q p
       → Filled f type field k out q p
   unfolding after_fill
   filled-alike {out} other D =
@@ -123,17 +122,17 @@ module _ (f g type field : List ℕ) (k : ℕ) (l m : Ledger) (i : ℕ) (F : Fol
           other t (rw u at y) (rw u at z)
 
 -- two replies to one question of one file
-one-counted : {f type field : List ℕ} {k : ℕ} {a b : Reply} → Counted f type field k a → Counted f type field k b → a ≡ b
+one-counted : {f type field : List ℕ} {k : ℕ} {a b : Result ℕ Refused} → Counted f type field k a → Counted f type field k b → a ≡ b
 one-counted {f} {type} {field} {k} {a} {b} A B =
     same-reply a b (count-says A ∙ same_count f type field k (length A.work) (length B.work) A.long B.long ∙ sym (count-says B))
 
 -- and its values, whatever room there is for them
 one-filled :
-    {f type field : List ℕ} {k : ℕ} {out out' : List ℤ} {a r q : Reply} {o p : List ℤ} → Bytes f → Counted f type field k a → Filled f type field k out r o → Filled f type field k out' q p → (n : ℕ)
-    → a ≡ Done n → n ≤ length out → n ≤ length out' → take n o ≡ take n p
+    {f type field : List ℕ} {k : ℕ} {out out' : List ℤ} {a r q : Result ℕ Refused} {o p : List ℤ} → Bytes f → Counted f type field k a → Filled f type field k out r o → Filled f type field k out' q p → (n : ℕ)
+    → a ≡ Ok n → n ≤ length out → n ≤ length out' → take n o ≡ take n p
 one-filled {o = o} {p = p} bytes A C D n is fits fits' =
     let (l, t, i, F, Q) = counts-only A n bytes is in
-    let z : Done n ≡ Done (objects_of (known l) t) = sym is ∙ counts-exactly A l t i F Q in
+    let z : ◌≡◌ {A = Result ℕ Refused} (Ok n) (Ok (objects_of (known l) t)) = sym is ∙ counts-exactly A l t i F Q in
     let e : n ≡ objects_of (known l) t = cc z in
     let (_, many, y) = fills-exactly C l t i F Q (omega arith) in
     let (_, _, y') = fills-exactly D l t i F Q (omega arith) in
@@ -141,7 +140,7 @@ one-filled {o = o} {p = p} bytes A C D n is fits fits' =
     front-is n (column_of l t i) o _ count y ∙ sym (front-is n (column_of l t i) p _ count y')
 
 pub isolated :
-    (f g type field : List ℕ) (k : ℕ) (out out' : List ℤ) {a b r q : Reply} {o p : List ℤ} → Counted f type field k a → Counted g type field k b → Filled f type field k out r o
+    (f g type field : List ℕ) (k : ℕ) (out out' : List ℤ) {a b r q : Result ℕ Refused} {o p : List ℤ} → Counted f type field k a → Counted g type field k b → Filled f type field k out r o
     → Filled g type field k out' q p → Isolated f g type field out out' a b r q o p
 isolated f g type field k out out' A B C D l m type' field' t i F G typed fielded long off =
     let bytes = follows-bytes f l F in (

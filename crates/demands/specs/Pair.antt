@@ -1,6 +1,6 @@
 -- Demand 2, of the pair of calls: the first one's n is the number that the second writes, whatever room it is lent that holds n. Assumes
 -- nothing.
-use Rattle.std.specs.Prelude.{◌≡◌, refl, Bool, true, false, ℕ, ◌≤◌, ◌<◌, leb, ℤ, take, drop, replicate}
+use Rattle.std.specs.Prelude.{◌≡◌, refl, Bool, true, false, ℕ, ◌≤◌, ◌<◌, leb, ℤ, take, drop, replicate, Result, Ok, Err}
 use Rattle.std.proofs.Math.Path.{sym, ap, subst}
 use Rattle.std.proofs.Common.{◌∙◌, arith, lt_of_not-le, take-append-drop, drop_of_length-le}
 use mathlib.Core.List.{List, [], ◌∷◌, ◌++◌, append-nil}
@@ -17,16 +17,15 @@ use Rattle.laws.specs.Columns.{bind_done, need-done}
 use Rattle.laws.specs.Asked.{Taken, count-done, count-refused}
 use Rattle.laws.specs.Lengths.{column-length, fill-by-count}
 use Rattle.calls.specs.Told.{answer_of, after, room-19, room-done}
-use Rattle.calls.specs.declared.replies.Reply.{Reply}
-use Rattle.calls.specs.declared.replies.Reply.TheVariants.{Done, Refused}
+use Rattle.calls.specs.declared.replies.Refused.{Refused}
 use Rattle.demands.specs.Replies.{said-done, said-refused, says-done, says-refused, tells-answer, writes-answer, written, unwritten, drop-front}
 use Rattle.demands.specs.Answers.{cleared-long, cleared-length}
 use Rattle.demands.specs.Exact.{Counted, Filled, count-says}
 
 -- what the second call replies, by the first one's reply and the room that it is lent
-unfoldable pub then_fill : Reply → ℕ → Reply
-then_fill (Done n) room = when leb n room then Done n else Refused 19
-then_fill (Refused n) room = Refused n
+unfoldable pub then_fill : Result ℕ Refused → ℕ → Result ℕ Refused
+then_fill (Ok n) room = when leb n room then Ok n else Err (record { number = 19 })
+then_fill (Err e) room = Err e
 
 -- ── a table that is long enough is as good as another ──
 
@@ -41,18 +40,18 @@ module _ (f type field : List ℕ) (k table table' : ℕ) (h : table_length ≤ 
 
 -- ── the replies ──
 
-reply-then : (r q : Reply) (room : ℕ) → answer_of q ≡ (answer_of r >>= λ n. need (leb n room) 19 >> done n) → q ≡ then_fill r room
+reply-then : (r q : Result ℕ Refused) (room : ℕ) → answer_of q ≡ (answer_of r >>= λ n. need (leb n room) 19 >> done n) → q ≡ then_fill r room
 unfolding answer_of then_fill need ◌>>=◌ ◌>>◌ when◌then◌else◌
-reply-then (Refused n) q room h = said-refused q n h
-reply-then (Done n) q room h = go (leb n room) h
+reply-then (Err e) q room h = said-refused q e.number h
+reply-then (Ok n) q room h = go (leb n room) h
   where
-    go : (fits : Bool) → answer_of q ≡ (need fits 19 >> done n) → q ≡ (when fits then Done n else Refused 19)
+    go : (fits : Bool) → answer_of q ≡ (need fits 19 >> done n) → q ≡ (when fits then Ok n else Err (record { number = 19 }))
     go true h = said-done q n h
     go false h = said-refused q 19 h
 
 -- whatever the file is, and whatever is asked for
 pub pair-agrees :
-    {f type field : List ℕ} {k : ℕ} {out : List ℤ} {r q : Reply} {o : List ℤ} → Bytes f → Counted f type field k r → Filled f type field k out q o → q ≡ then_fill r (length out)
+    {f type field : List ℕ} {k : ℕ} {out : List ℤ} {r q : Result ℕ Refused} {o : List ℤ} → Bytes f → Counted f type field k r → Filled f type field k out q o → q ≡ then_fill r (length out)
 unfolding after_fill
 pair-agrees {f} {type} {field} {k} {out} {r} {q} bytes C D =
     let counted = count-says C ∙ same_count f type field k (length C.work) (length D.work) C.long D.long in
@@ -63,11 +62,11 @@ pair-agrees {f} {type} {field} {k} {out} {r} {q} bytes C D =
 
 -- what both calls leave, one after the other: the first's reply is the definitions', and the rest is as if the second had been lent all of
 -- the output at once
-pub record AskedAndFilled (f type field : List ℕ) (k : ℕ) (work : List ℕ) (out : List ℤ) (r q : Reply) (w : List ℕ) (o : List ℤ) : Type 0 where
+pub record AskedAndFilled (f type field : List ℕ) (k : ℕ) (work : List ℕ) (out : List ℤ) (r q : Result ℕ Refused) (w : List ℕ) (o : List ℤ) : Type 0 where
   pub counted : after r (cleared work) [] ≡ after_count f type field k work
   pub filled : after q w o ≡ after_fill f type field k work out
 
-module _ {f type field : List ℕ} {k : ℕ} {work : List ℕ} {out : List ℤ} {r q : Reply} {w : List ℕ} {o : List ℤ} (A : AskedAndFilled f type field k work out r q w o) (h : table_length ≤ length work) where
+module _ {f type field : List ℕ} {k : ℕ} {work : List ℕ} {out : List ℤ} {r q : Result ℕ Refused} {w : List ℕ} {o : List ℤ} (A : AskedAndFilled f type field k work out r q w o) (h : table_length ≤ length work) where
   pub then-counted : Counted f type field k r
   then-counted = record { work = work; left = cleared work; long = h; replied = A.counted }
 
@@ -100,7 +99,7 @@ cleared-twice work h =
     ∙ ap (λ (x : List ℕ). replicate table_length 0 ++ x) front ∙ sym (cleared-long work h)
 
 writes-is :
-    (a : Answer (List ℤ)) (work : List ℕ) (out : List ℤ) (q : Reply) {w : List ℕ} {o : List ℤ} → answer_of q ≡ how_many a → w ≡ cleared work → o ≡ left_in out a → after q w o ≡ writes a work out
+    (a : Answer (List ℤ)) (work : List ℕ) (out : List ℤ) (q : Result ℕ Refused) {w : List ℕ} {o : List ℤ} → answer_of q ≡ how_many a → w ≡ cleared work → o ≡ left_in out a → after q w o ≡ writes a work out
 unfolding writes
 writes-is a work out q x y z = rw (x, y, z)
 
@@ -112,7 +111,7 @@ exact-front vs out room o exact inside is =
     let nothing-behind = drop_of_length-le (take room out) most in
     rw (is, nothing-behind, append-nil vs, exact)
 
-module _ (f type field : List ℕ) (k : ℕ) (work : List ℕ) (out : List ℤ) (r : Reply) {w : List ℕ} (c : after r w [] ≡ after_count f type field k work) where
+module _ (f type field : List ℕ) (k : ℕ) (work : List ℕ) (out : List ℤ) (r : Result ℕ Refused) {w : List ℕ} (c : after r w [] ≡ after_count f type field k work) where
   table-after : w ≡ cleared work
   unfolding after_count tells
   table-after = ap (λ (x : Left ℕ). x.table) c
@@ -121,25 +120,25 @@ module _ (f type field : List ℕ) (k : ℕ) (work : List ℕ) (out : List ℤ) 
   counted-so = subst (λ (x : List ℕ). after r x [] ≡ after_count f type field k work) table-after c
 
   -- the first call refused, and the second was not made
-  pub asked-none : {n : ℕ} → r ≡ Refused n → AskedAndFilled f type field k work out (Refused n) (Refused n) w out
+  pub asked-none : {n : ℕ} → r ≡ Err (record { number = n }) → AskedAndFilled f type field k work out (Err (record { number = n })) (Err (record { number = n })) w out
   unfolding after_count after_fill answer_of how_many left_in
   asked-none {n} is =
       let unfilled = count-refused type field k (length work) f n (sym (tells-answer _ work r c) ∙ says-refused r n is) (length out) in
       record {
-        counted = subst (λ (x : Reply). after x (cleared work) [] ≡ after_count f type field k work) is counted-so;
-        filled = writes-is _ work out (Refused n) (rw unfilled) table-after (rw unfilled);
+        counted = subst (λ (x : Result ℕ Refused). after x (cleared work) [] ≡ after_count f type field k work) is counted-so;
+        filled = writes-is _ work out (Err (record { number = n })) (rw unfilled) table-after (rw unfilled);
       }
 
   -- it answered, so the table was long enough
-  answered-long : {n : ℕ} → r ≡ Done n → table_length ≤ length work
+  answered-long : {n : ℕ} → r ≡ Ok n → table_length ≤ length work
   unfolding after_count count_values read
   answered-long {n} is =
       let (l, x, _) = bind_done _ _ n (sym (tells-answer _ work r c) ∙ says-done r n is) in
       let (long, _) = need-done _ 15 _ l x in
       leb-true table_length (length work) long
 
-  module _ {n room : ℕ} (is : r ≡ Done n) (R : RoomFor n (length out) room) (bytes : Bytes f) where
-    module _ (q : Reply) {v : List ℕ} {o : List ℤ} (d : after q v o ≡ after_fill f type field k w (take room out)) where
+  module _ {n room : ℕ} (is : r ≡ Ok n) (R : RoomFor n (length out) room) (bytes : Bytes f) where
+    module _ (q : Result ℕ Refused) {v : List ℕ} {o : List ℤ} (d : after q v o ≡ after_fill f type field k w (take room out)) where
       -- the second call as it was made, over the table as it was at first
       as-made : after q v o ≡ writes (fill_values type field k room (length work) f) (cleared work) (take room out)
       unfolding after_fill
@@ -179,9 +178,9 @@ module _ (f type field : List ℕ) (k : ℕ) (work : List ℕ) (out : List ℤ) 
           let (a, b) = unwritten _ (cleared work) (take room out) q as-made 19 (all room ∙ room-19 n room _ (omega (arith, short))) in
           writes-is _ work out q (rw whole (says-refused q 19 a)) table-left (rw whole (rw b (take-append-drop room out)))
 
-      pub asked-filled : AskedAndFilled f type field k work out (Done n) q v (o ++ drop room out)
+      pub asked-filled : AskedAndFilled f type field k work out (Ok n) q v (o ++ drop room out)
       asked-filled =
           record {
-            counted = subst (λ (x : Reply). after x (cleared work) [] ≡ after_count f type field k work) is counted-so;
+            counted = subst (λ (x : Result ℕ Refused). after x (cleared work) [] ≡ after_count f type field k work) is counted-so;
             filled = elim (dec_le n (length out)) [ yes fits ↦ filled-whole fits | no over ↦ filled_none (lt_of_not-le over) ];
           }

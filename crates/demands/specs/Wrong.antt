@@ -2,7 +2,7 @@
 -- Assumes nothing.
 use Rattle.std.proofs.Math.Path.{◌≡◌, refl, sym, ap}
 use Rattle.std.proofs.Common.{◌∙◌}
-use Rattle.std.specs.Prelude.{Bool, true, false, ℕ, zero, suc, ◌+◌, ◌≤◌, ◌<◌, ℤ, length, drop, replicate}
+use Rattle.std.specs.Prelude.{Bool, true, false, ℕ, zero, suc, ◌+◌, ◌≤◌, ◌<◌, ℤ, length, drop, replicate, Result, Ok, Err}
 use mathlib.Core.List.{List, [], ◌∷◌, ◌++◌}
 use Rattle.std.proofs.Math.Option.{Option, none, some}
 use native.Mathlib.Omega.{arith}
@@ -15,8 +15,7 @@ use Rattle.paper.specs.Keeps.{keeps?}
 use Rattle.paper.specs.Calls.{Answer, done, refused, Left, check, known, column_of, tells, after_count, after_fill}
 use Rattle.paper.specs.Table.{D, E, E-with, date}
 use Rattle.paper.specs.Whole.{whole as all-of-it}
-use Rattle.calls.specs.declared.replies.Reply.{Reply}
-use Rattle.calls.specs.declared.replies.Reply.TheVariants.{Done, Refused}
+use Rattle.calls.specs.declared.replies.Refused.{Refused}
 use Rattle.laws.specs.Says.{Bytes}
 use Rattle.laws.specs.Heads.{bytes_back}
 use Rattle.demands.specs.Answers.{some-reply}
@@ -116,23 +115,23 @@ other-column = refl
 
 -- ── the questions: how many values D's or E's field has, and which, with room ──
 
-module _ (r : Reply) where
-  D-counted : CountsExactly D date date 11 r → r ≡ Done 2
-  D-counted h = h (first ∷ []) 0 0 D-follows D-asks ∙ ap (λ (n : ℕ). Done n) D-objects
+module _ (r : Result ℕ Refused) where
+  D-counted : CountsExactly D date date 11 r → r ≡ Ok 2
+  D-counted h = h (first ∷ []) 0 0 D-follows D-asks ∙ ap {B = Result ℕ Refused} Ok D-objects
 
-  E-counted : CountsExactly E date date 11 r → r ≡ Done 3
-  E-counted h = h (first ∷ second ∷ []) 0 0 E-follows E-asks ∙ ap (λ (n : ℕ). Done n) E-objects
+  E-counted : CountsExactly E date date 11 r → r ≡ Ok 3
+  E-counted h = h (first ∷ second ∷ []) 0 0 E-follows E-asks ∙ ap {B = Result ℕ Refused} Ok E-objects
 
-module _ (out : List ℤ) (r : Reply) (o : List ℤ) where
-  D-exactly : 2 ≤ length out → FillsExactly D date date 11 out r o → (r ≡ Done 2) × (o ≡ pos 1 ∷ negsuc 0 ∷ drop 2 out)
+module _ (out : List ℤ) (r : Result ℕ Refused) (o : List ℤ) where
+  D-exactly : 2 ≤ length out → FillsExactly D date date 11 out r o → (r ≡ Ok 2) × (o ≡ pos 1 ∷ negsuc 0 ∷ drop 2 out)
   D-exactly fits h =
       let (a, _, b) = h (first ∷ []) 0 0 D-follows D-asks (rw D-objects fits) in
-      (a ∙ ap (λ (n : ℕ). Done n) D-objects, b ∙ ap (λ (n : ℕ). column_of (first ∷ []) 0 0 ++ drop n out) D-objects ∙ ap (λ (c : List ℤ). c ++ drop 2 out) D-column)
+      (a ∙ ap {B = Result ℕ Refused} Ok D-objects, b ∙ ap (λ (n : ℕ). column_of (first ∷ []) 0 0 ++ drop n out) D-objects ∙ ap (λ (c : List ℤ). c ++ drop 2 out) D-column)
 
-  E-exactly : 3 ≤ length out → FillsExactly E date date 11 out r o → (r ≡ Done 3) × (o ≡ pos 1 ∷ negsuc 0 ∷ pos 256 ∷ drop 3 out)
+  E-exactly : 3 ≤ length out → FillsExactly E date date 11 out r o → (r ≡ Ok 3) × (o ≡ pos 1 ∷ negsuc 0 ∷ pos 256 ∷ drop 3 out)
   E-exactly fits h =
       let (a, _, b) = h (first ∷ second ∷ []) 0 0 E-follows E-asks (rw E-objects fits) in (
-        a ∙ ap (λ (n : ℕ). Done n) E-objects,
+        a ∙ ap {B = Result ℕ Refused} Ok E-objects,
         b ∙ ap (λ (n : ℕ). column_of (first ∷ second ∷ []) 0 0 ++ drop n out) E-objects ∙ ap (λ (c : List ℤ). c ++ drop 3 out) E-column,
       )
 
@@ -142,8 +141,8 @@ module _ (out : List ℤ) (r : Reply) (o : List ℤ) where
       b ∙ ap (λ (n : ℕ). column_of (first ∷ other ∷ []) 0 0 ++ drop n out) other-objects ∙ ap (λ (c : List ℤ). c ++ drop 3 out) other-column
 
 -- what a reader answers D and E is not the same
-two-is-not-three : {r : Reply} → r ≡ Done 2 → r ≡ Done 3 → ⊥
-two-is-not-three a b = let z : Done 2 ≡ Done 3 = sym a ∙ b in let y : ◌≡◌ {A = ℕ} 2 3 = cc z in omega arith
+two-is-not-three : {r : Result ℕ Refused} → r ≡ Ok 2 → r ≡ Ok 3 → ⊥
+two-is-not-three a b = let z : ◌≡◌ {A = Result ℕ Refused} (Ok 2) (Ok 3) = sym a ∙ b in let y : ◌≡◌ {A = ℕ} 2 3 = cc z in omega arith
 
 -- three numbers to write to
 abbrev noughts : List ℤ
@@ -181,22 +180,22 @@ damaged-bytes : Bytes (E-with 0x01 0x01 0x01)
 unfolding all-of-it E-with
 damaged-bytes = bytes_back (E-with 0x01 0x01 0x01) refl
 
-module _ (reply : List ℕ → Reply) (exactly : (f : List ℕ) → Bytes f → AcceptsExactly f (reply f)) where
-  D-accepted : reply D ≡ Done 0
+module _ (reply : List ℕ → Result ℕ Refused) (exactly : (f : List ℕ) → Bytes f → AcceptsExactly f (reply f)) where
+  D-accepted : reply D ≡ Ok 0
   D-accepted = (exactly D (follows-bytes D (first ∷ []) D-follows)).1 (first ∷ [], D-follows)
 
   -- one that refuses everything refuses D
-  pub refuses-everything : ((f : List ℕ) → (n : ℕ) × (reply f ≡ Refused n)) → ⊥
+  pub refuses-everything : ((f : List ℕ) → (n : ℕ) × (reply f ≡ Err (record { number = n }))) → ⊥
   refuses-everything wrong =
       let (n, is) = wrong D in
-      let z : Done 0 ≡ Refused n = sym D-accepted ∙ is in
+      let z : ◌≡◌ {A = Result ℕ Refused} (Ok 0) (Err (record { number = n })) = sym D-accepted ∙ is in
       let y : ◌≡◌ {A = ℕ} 0 1 = cc z in
       omega arith
 
   -- one that takes D and not D with its numbers in nine bytes, as the paper once said, refuses what says the same
-  pub refuses-padded : (n : ℕ) → reply nines ≡ Refused n → ⊥
+  pub refuses-padded : (n : ℕ) → reply nines ≡ Err (record { number = n }) → ⊥
   refuses-padded n is =
-      let z : Done 0 ≡ Refused n = sym ((exactly nines (follows-bytes nines (first ∷ []) nines-follow)).1 (first ∷ [], nines-follow)) ∙ is in
+      let z : ◌≡◌ {A = Result ℕ Refused} (Ok 0) (Err (record { number = n })) = sym ((exactly nines (follows-bytes nines (first ∷ []) nines-follow)).1 (first ∷ [], nines-follow)) ∙ is in
       let y : ◌≡◌ {A = ℕ} 0 1 = cc z in
       omega arith
 
@@ -211,9 +210,9 @@ module _ (reply : List ℕ → Reply) (exactly : (f : List ℕ) → Bytes f → 
 
 -- ── what it replies to the question how many values the field `date` has ──
 
-module _ (reply : List ℕ → Reply) (exactly : (f : List ℕ) → CountsExactly f date date 11 (reply f)) where
+module _ (reply : List ℕ → Result ℕ Refused) (exactly : (f : List ℕ) → CountsExactly f date date 11 (reply f)) where
   -- one with a fixed answer, or one that returns an invented n, gives the same to D and E: whatever n is, it is not by the file
-  pub invented-count : (r : Reply) → ((f : List ℕ) → reply f ≡ r) → ⊥
+  pub invented-count : (r : Result ℕ Refused) → ((f : List ℕ) → reply f ≡ r) → ⊥
   invented-count r wrong = two-is-not-three (sym (wrong D) ∙ D-counted _ (exactly D)) (sym (wrong E) ∙ E-counted _ (exactly E))
 
   -- one that reads the first pair and pretends for the later ones counts the values of E as it does those of D
@@ -224,28 +223,28 @@ module _ (reply : List ℕ → Reply) (exactly : (f : List ℕ) → CountsExactl
       (wrong first [] (second ∷ []) ∙ ap reply (sym E-encoded) ∙ E-counted _ (exactly E))
 
   -- one that refuses everything refuses this too
-  pub refuses-to-count : ((f : List ℕ) → (n : ℕ) × (reply f ≡ Refused n)) → ⊥
+  pub refuses-to-count : ((f : List ℕ) → (n : ℕ) × (reply f ≡ Err (record { number = n }))) → ⊥
   refuses-to-count wrong =
       let (n, is) = wrong D in
-      let z : Done 2 ≡ Refused n = sym (D-counted _ (exactly D)) ∙ is in
+      let z : ◌≡◌ {A = Result ℕ Refused} (Ok 2) (Err (record { number = n })) = sym (D-counted _ (exactly D)) ∙ is in
       let y : ◌≡◌ {A = ℕ} 0 1 = cc z in
       omega arith
 
 -- ── what it replies to the question for these values, and what the lent output then holds ──
 
 module _
-    (reply : List ℕ → List ℤ → Reply)
+    (reply : List ℕ → List ℤ → Result ℕ Refused)
     (left : List ℕ → List ℤ → List ℤ)
     (exactly : (f : List ℕ) (out : List ℤ) → FillsExactly f date date 11 out (reply f out) (left f out))
   where
-    D-replied : reply D noughts ≡ Done 2
+    D-replied : reply D noughts ≡ Ok 2
     D-replied = (D-exactly noughts _ _ (omega arith) (exactly D noughts)).0
 
-    E-replied : reply E noughts ≡ Done 3
+    E-replied : reply E noughts ≡ Ok 3
     E-replied = (E-exactly noughts _ _ (omega arith) (exactly E noughts)).0
 
     -- one with a fixed answer gives the same to D and E
-    pub fixed_answer : (r : Reply) → ((f : List ℕ) (out : List ℤ) → reply f out ≡ r) → ⊥
+    pub fixed_answer : (r : Result ℕ Refused) → ((f : List ℕ) (out : List ℤ) → reply f out ≡ r) → ⊥
     fixed_answer r wrong = two-is-not-three (sym (wrong D noughts) ∙ D-replied) (sym (wrong E noughts) ∙ E-replied)
 
     -- one that writes nothing leaves 0 where D has 1
@@ -274,5 +273,5 @@ module _
         omega arith
 
     -- one that returns an invented n: not by the file, but by the lent output, say
-    pub invented-n : (n : List ℤ → ℕ) → ((f : List ℕ) (out : List ℤ) → reply f out ≡ Done (n out)) → ⊥
+    pub invented-n : (n : List ℤ → ℕ) → ((f : List ℕ) (out : List ℤ) → reply f out ≡ Ok (n out)) → ⊥
     invented-n n wrong = two-is-not-three (sym (wrong D noughts) ∙ D-replied) (sym (wrong E noughts) ∙ E-replied)

@@ -51,17 +51,17 @@ fn ask_then_fill(
 {
     let a = count_values(file, owner, name, k, work);
     match a {
-        Reply::Done(n) => {
+        Ok(n) => {
             let room = room_for(n, out.len());
             let b = fill_values(file, owner, name, k, work, &mut out[..room]);
             Pair {
-                asked: Reply::Done(n),
+                asked: Ok(n),
                 filled: b,
             }
         }
-        Reply::Refused(n) => Pair {
-            asked: Reply::Refused(n),
-            filled: Reply::Refused(n),
+        Err(e) => Pair {
+            asked: Err(e),
+            filled: Err(e),
         },
     }
 }
@@ -84,22 +84,16 @@ pub fn values_of(
 pub fn built_again(file: &[u8], work: &mut [u32], text: &mut [u8], out: &mut [u8]) -> Reply
     ensures { 16384 ≤ length work.old → BuiltAgain file.now text.old out.old result out.new }
 {
-    let a = listing(file, work, text);
-    match a {
-        Reply::Done(n) => build(&text[..n as usize], work, out),
-        Reply::Refused(n) => Reply::Refused(n),
-    }
+    let n = listing(file, work, text)?;
+    build(&text[..n as usize], work, out)
 }
 
 // Demand 2: the listing of a built file is the listing it was built from.
 pub fn listed_again(text: &[u8], work: &mut [u32], file: &mut [u8], out: &mut [u8]) -> Reply
     ensures { 16384 ≤ length work.old → ListedAgain text.now file.old out.old result out.new }
 {
-    let a = build(text, work, file);
-    match a {
-        Reply::Done(n) => listing(&file[..n as usize], work, out),
-        Reply::Refused(n) => Reply::Refused(n),
-    }
+    let n = build(text, work, file)?;
+    listing(&file[..n as usize], work, out)
 }
 
 // Demand 2: a built file comes back from its listing as it was.
@@ -112,11 +106,8 @@ pub fn comes_back(
 ) -> Reply
     ensures { 16384 ≤ length work.old → ComesBack text.now file.old again.old out.old result file.new out.new }
 {
-    let a = build(text, work, file);
-    match a {
-        Reply::Done(n) => built_again(&file[..n as usize], work, again, out),
-        Reply::Refused(n) => Reply::Refused(n),
-    }
+    let n = build(text, work, file)?;
+    built_again(&file[..n as usize], work, again, out)
 }
 
 // The room that the header advises for a listing is enough.

@@ -1,6 +1,6 @@
 -- The line of a new field whose values are maps: where its element kinds stand, and what is laid of them. The kinds are laid as
 -- they are read, since a table keeps only a byte of each. Assumes nothing.
-use Rattle.std.specs.Prelude.{◌≡◌, refl, Bool, true, false, ◌&&◌, List, ◌++◌, map, ℕ, suc, ◌-◌, ◌^◌, ◌≤◌, ◌<◌, min, leb, eqb, length}
+use Rattle.std.specs.Prelude.{Option, Some, None, ◌≡◌, refl, Bool, true, false, ◌&&◌, List, ◌++◌, map, ℕ, suc, ◌-◌, ◌^◌, ◌≤◌, ◌<◌, min, leb, eqb, length}
 use Rattle.std.proofs.Math.Path.{sym, ap}
 use Rattle.std.proofs.Common.{◌∙◌, append_assoc, ne_eqb}
 use native.Mathlib.Omega.{arith}
@@ -20,8 +20,6 @@ use Rattle.laws.specs.Codes.{fixed-length}
 use Rattle.lay.specs.Laid.{most, Laid, laid_then, laid_as, Leads, leads-start, leads-on, leads-end}
 use Rattle.table.specs.View.{kind_from}
 use Rattle.words.specs.declared.read.Place.{Place}
-use Rattle.words.specs.declared.read.Step.{Step}
-use Rattle.words.specs.declared.read.Step.TheVariants.{To, Bad}
 use Rattle.parse.specs.Answers.{kept_new, noted_new}
 use Rattle.parse.specs.MapLaws.{behind_comma, repeat-length}
 use Rattle.fronts.specs.Lines.{heed-then, give-inv}
@@ -174,22 +172,22 @@ map_at t at g q ks h is =
     kind_at t at p ks e begins (kind ∙ ap (λ (x : Kind). got x e) (ap (λ (g : New). g.kind) same ∙ is))
 
 -- so they stand behind the answer, where the line is read
-abbrev pub KindsStand : List ℕ → List ℕ → Step → Type 0
-KindsStand t ks (To c) = (e : ℕ) × (repeat (length ks) behind_comma t c.at ≡ got ks e)
-KindsStand t ks Bad = ⊥
+abbrev pub KindsStand : List ℕ → List ℕ → Option Place → Type 0
+KindsStand t ks (Some c) = (e : ℕ) × (repeat (length ks) behind_comma t c.at ≡ got ks e)
+KindsStand t ks None = ⊥
 
-pub record KindsFound (t : List ℕ) (at : ℕ) (r : Step) : Type 0 where
+pub record KindsFound (t : List ℕ) (at : ℕ) (r : Option Place) : Type 0 where
   pub found : (g : New) (q : ℕ) (ks : List ℕ) → kept_new t at ≡ got g q → g.kind ≡ mapping ks → KindsStand t ks r
 
 module _ {t : List ℕ} {at : ℕ} where
-  pub found-no-line : no 20 0 ≡ literal (ascii "new\t") t at → {r : Step} → KindsFound t at r
+  pub found-no-line : no 20 0 ≡ literal (ascii "new\t") t at → {r : Option Place} → KindsFound t at r
   found-no-line h = record { found = λ g q ks read is. not-got (h ∙ (map_at t at g q ks read is).begins) }
 
   module _ {p : ℕ} (word : got tt p ≡ literal (ascii "new\t") t at) where
     behind-word : {ks : List ℕ} (M : MapAt t at ks) → M.word ≡ p
     behind-word M = let z : got tt M.word ≡ got tt p = sym M.begins ∙ sym word in cc z
 
-    pub found-no-kind : no 20 0 ≡ ended comma natural t p → {r : Step} → KindsFound t at r
+    pub found-no-kind : no 20 0 ≡ ended comma natural t p → {r : Option Place} → KindsFound t at r
     found-no-kind h =
         record {
           found = λ g q ks read is.
@@ -203,7 +201,7 @@ module _ {t : List ℕ} {at : ℕ} where
           let z : got M.first M.types ≡ got k d = sym M.twenty ∙ ap (λ (x : ℕ). ended comma natural t x) (behind-word M) ∙ sym first in
           cc z
 
-      pub found-no-types : no 20 0 ≡ natural t d → {r : Step} → KindsFound t at r
+      pub found-no-types : no 20 0 ≡ natural t d → {r : Option Place} → KindsFound t at r
       found-no-types h =
           record {
             found = λ g q ks read is.
@@ -211,7 +209,7 @@ module _ {t : List ℕ} {at : ℕ} where
                 not-got (h ∙ ap (natural t) (sym (behind-first M)) ∙ M.count);
           }
 
-      pub found-there : {n : ℕ} {c : Place} → got n c.at ≡ natural t d → KindsFound t at (To c)
+      pub found-there : {n : ℕ} {c : Place} → got n c.at ≡ natural t d → KindsFound t at (Some c)
       found-there {n} {c} h =
           record {
             found = λ g q ks read is.
@@ -237,8 +235,8 @@ pub record KindsGoing (t : List ℕ) (from₀ n : ℕ) (m₀ : List ℕ) (at₀ 
   pub long : length m ≡ length m₀
   pub left : (ks : List ℕ) (e : ℕ) → repeat n behind_comma t from₀ ≡ got ks e → KindsLeft t m₀ at₀ ks e from rest m at
 
-pub kinds-begin : (t : List ℕ) (from n : ℕ) (m : List ℕ) (at : ℕ) → length m ≤ most → at ≤ most → KindsGoing t from n m at from n m at
-kinds-begin t from n m at a b = record { long = refl; left = λ ks e h. record { more = ks; reads = h; leads = leads-start a b } }
+pub kinds-begin : (t : List ℕ) (from : ℕ) {n rest : ℕ} (m : List ℕ) (at : ℕ) → rest ≡ n → length m ≤ most → at ≤ most → KindsGoing t from n m at from rest m at
+kinds-begin t from m at all a b = record { long = refl; left = λ ks e h. record { more = ks; reads = rw all h; leads = leads-start a b } }
 
 module _ {t : List ℕ} {from₀ n : ℕ} {m₀ : List ℕ} {at₀ from rest : ℕ} {m : List ℕ} {at : ℕ} (g : KindsGoing t from₀ n m₀ at₀ from rest m at) where
   pub kinds-done : rest ≤ 0 → KindsLaid t from₀ n m₀ at₀ m at
@@ -252,42 +250,45 @@ module _ {t : List ℕ} {from₀ n : ℕ} {m₀ : List ℕ} {at₀ from rest : �
             leads-end L.leads (ap (flat put) empty);
       }
 
-  module _ (pos : 0 < rest) where
-    first_of : (ks : List ℕ) (e : ℕ) (L : KindsLeft t m₀ at₀ ks e from rest m at) → FirstOf behind_comma (rest - 1) t from L.more e
-    first_of ks e L = let less : rest ≡ suc (rest - 1) = omega arith in repeat-first behind_comma (rest - 1) t from L.more e (rw less at L.reads)
+  first_of : {less : ℕ} → rest ≡ suc less → (ks : List ℕ) (e : ℕ) (L : KindsLeft t m₀ at₀ ks e from rest m at) → FirstOf behind_comma less t from L.more e
+  first_of {less} due ks e L = repeat-first behind_comma less t from L.more e (rw due at L.reads)
 
+  module _ (pos : 0 < rest) where
     -- what cannot be read promises nothing
     kinds-no : no 20 0 ≡ behind_comma t from → {m' : List ℕ} {r : ℕ} → KindsLaid t from₀ n m₀ at₀ m' r
-    kinds-no h = record { laid = λ ks e s. not-got (h ∙ (first_of ks e (g.left ks e s)).first) }
+    kinds-no h =
+        let due : rest ≡ suc (rest - 1) = omega arith in
+        record { laid = λ ks e s. not-got (h ∙ (first_of due ks e (g.left ks e s)).first) }
 
     pub kinds-no-comma : no 20 0 ≡ byte_is comma t from → {m' : List ℕ} {r : ℕ} → KindsLaid t from₀ n m₀ at₀ m' r
     unfolding ◌>>◌
     kinds-no-comma h = kinds-no (rw (← h))
 
-    module _ {p : ℕ} (sep : got tt p ≡ byte_is comma t from) where
-      pub kinds-no-number : no 20 0 ≡ natural t p → {m' : List ℕ} {r : ℕ} → KindsLaid t from₀ n m₀ at₀ m' r
-      unfolding ◌>>◌
-      kinds-no-number h = kinds-no (rw (← sep, ← h))
+    pub kinds-no-number : {p : ℕ} → got tt p ≡ byte_is comma t from → no 20 0 ≡ natural t p → {m' : List ℕ} {r : ℕ} → KindsLaid t from₀ n m₀ at₀ m' r
+    unfolding ◌>>◌
+    kinds-no-number sep h = kinds-no (rw (← sep, ← h))
 
-      pub kinds-next : {k d : ℕ} → got k d ≡ natural t p → {m₂ : List ℕ} {q : ℕ} → length m₂ ≡ length m → Laid m at (put k) m₂ q → KindsGoing t from₀ n m₀ at₀ d (rest - 1) m₂ q
-      unfolding flat ◌>>◌
-      kinds-next {k} {d} h {m₂} {q} kept one =
-          let read : got k d ≡ behind_comma t from = rw (← sep, ← h) in
-          record {
-            long = kept ∙ g.long;
-            left = λ ks e s.
-                let L = g.left ks e s in
-                let F = first_of ks e L in
-                let z : got F.value F.next ≡ got k d = sym F.first ∙ sym read in
-                let same : F.value ≡ k = cc z in
-                let there : F.next ≡ d = cc z in
-                let next : flat put L.more ≡ put k ++ flat put F.more = ap (flat put) F.is ∙ ap (λ (x : ℕ). put x ++ flat put F.more) same in
-                record {
-                  more = F.more;
-                  reads = rw there at F.rest;
-                  leads = leads-on L.leads next one;
-                };
-          }
+  pub kinds-next :
+      {less : ℕ} → rest ≡ suc less → {p : ℕ} → got tt p ≡ byte_is comma t from → {k d : ℕ} → got k d ≡ natural t p
+      → {m₂ : List ℕ} {q : ℕ} → length m₂ ≡ length m → Laid m at (put k) m₂ q → KindsGoing t from₀ n m₀ at₀ d less m₂ q
+  unfolding flat ◌>>◌
+  kinds-next due sep {k} {d} h {m₂} {q} kept one =
+      let read : got k d ≡ behind_comma t from = rw (← sep, ← h) in
+      record {
+        long = kept ∙ g.long;
+        left = λ ks e s.
+            let L = g.left ks e s in
+            let F = first_of due ks e L in
+            let z : got F.value F.next ≡ got k d = sym F.first ∙ sym read in
+            let same : F.value ≡ k = cc z in
+            let there : F.next ≡ d = cc z in
+            let next : flat put L.more ≡ put k ++ flat put F.more = ap (flat put) F.is ∙ ap (λ (x : ℕ). put x ++ flat put F.more) same in
+            record {
+              more = F.more;
+              reads = rw there at F.rest;
+              leads = leads-on L.leads next one;
+            };
+      }
 
 -- ── a new field ──
 
@@ -295,7 +296,7 @@ module _ {t : List ℕ} {from₀ n : ℕ} {m₀ : List ℕ} {at₀ from rest : �
 pub record MapLaid (t : List ℕ) (from n name end : ℕ) (m : List ℕ) (at : ℕ) (m' : List ℕ) (r : ℕ) : Type 0 where
   pub laid : (g : New) (q : ℕ) → kept_new t from ≡ got g q → MapKind g.kind n → g.name ≡ name → Laid m at (put_new (g, end)) m' r
 
-pub map-unread : {t : List ℕ} {from : ℕ} → KindsFound t from Bad → {n name end : ℕ} {m : List ℕ} {at : ℕ} {m' : List ℕ} {r : ℕ} → MapLaid t from n name end m at m' r
+pub map-unread : {t : List ℕ} {from : ℕ} → KindsFound t from None → {n name end : ℕ} {m : List ℕ} {at : ℕ} {m' : List ℕ} {r : ℕ} → MapLaid t from n name end m at m' r
 map-unread F = record { laid = λ g q read K called. absurd (F.found g q K.kinds read K.is) }
 
 map-bytes : (ks : List ℕ) (n name end : ℕ) → length ks ≡ n → put 0 ++ put 20 ++ put n ++ flat put ks ++ (put name ++ put end) ≡ put_new (record { kind = mapping ks; name = name }, end)
@@ -306,7 +307,7 @@ map-bytes ks n name end long = rw (← long) (sides (put 0) (put 20) (put (lengt
     sides a b c d e f = sym (append_assoc (a ++ b ++ c ++ d) e f) ∙ ap (λ (l : List ℕ). l ++ e ++ f) (ap (λ (l : List ℕ). l ++ d) (append_assoc a b c) ∙ append_assoc a (b ++ c) d)
 
 pub map-laid :
-    {t : List ℕ} {from n name end : ℕ} {c : Place} → KindsFound t from (To c) → {m : List ℕ} {at : ℕ} {m₁ m₂ m₃ m₄ : List ℕ} {p₁ p₂ p₃ p₄ : ℕ} → Laid m at (put 0 ++ put 20) m₁ p₁
+    {t : List ℕ} {from n name end : ℕ} {c : Place} → KindsFound t from (Some c) → {m : List ℕ} {at : ℕ} {m₁ m₂ m₃ m₄ : List ℕ} {p₁ p₂ p₃ p₄ : ℕ} → Laid m at (put 0 ++ put 20) m₁ p₁
     → Laid m₁ p₁ (put n) m₂ p₂ → KindsLaid t c.at n m₂ p₂ m₃ p₃ → Laid m₃ p₃ (put name ++ put end) m₄ p₄ → MapLaid t from n name end m at m₄ p₄
 map-laid {t} {from} {n} {name} {end} {c} F A B C D =
     record {

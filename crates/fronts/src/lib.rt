@@ -18,15 +18,12 @@ ghost use Rattle.fronts.specs.Puts.{Puts};
 
 use crate::maps::put_map;
 use numbers::write::put_v64;
-use parse::{NewLine, NewRead, TypeRead, new_line, type_line};
+use parse::{NewLine, new_line, type_line};
 use puts::{put_head, put_new};
 use table::rows::{due_at, dues};
-use words::read::{Place, Step};
+use words::read::Place;
 
 pub mod maps;
-
-// 2 ^ 64 - 1
-const MOST: u64 = 18446744073709551615;
 
 // The row of the next chunk that is due, and where the chunk before it ends.
 #[derive(Clone, Copy)]
@@ -35,19 +32,12 @@ pub struct Ends {
     pub end: u64,
 }
 
-// Where the text goes on, which ends come next, and where the next bytes go.
+// Where the text goes on, which ends come next, and where the next bytes go: behind lines that were read and laid.
 #[derive(Clone, Copy)]
 pub struct Here {
     pub next: Place,
     pub ends: Ends,
     pub at: usize,
-}
-
-// Behind lines that were read and laid; or they cannot be read.
-#[derive(Clone, Copy)]
-pub enum Put {
-    To(Here),
-    Bad,
 }
 
 // Behind one chunk more. The end stands still at the most that 64 bits hold, and behind the last row.
@@ -58,9 +48,9 @@ fn next_end(work: &[u32], e: Ends) -> Ends
     if e.row < dues(work) {
         let due = due_at(work, e.row);
         let row = e.row + 1;
-        let room = MOST - e.end;
+        let room = u64::MAX - e.end;
         if room < due.size {
-            return Ends { row, end: MOST };
+            return Ends { row, end: u64::MAX };
         }
         return Ends {
             row,
@@ -72,63 +62,50 @@ fn next_end(work: &[u32], e: Ends) -> Ends
 
 // The new field whose line begins at p and says this.
 fn put_line(text: &[u8], p: Place, line: NewLine, end: u64, out: &mut [u8], at: usize) -> usize
-    ensures { LineLaid text.now p.at line.k line.a line.e line.name end out.old at out.new result }
+    ensures { LineLaid text.now p.at line.kind.first line.kind.bits line.kind.last line.name end out.old at out.new result }
 {
-    if line.k == 20 {
-        return put_map(text, p, line.a, line.name, end, out, at);
+    if line.kind.first == 20 {
+        return put_map(text, p, line, end, out, at);
     }
-    put_new(out, at, line.k, line.a, line.e, line.name, end)
+    put_new(out, at, line, end)
 }
 
 // The field whose line comes next, with its chunk's end: of a known field the end is all.
-fn put_field(text: &[u8], work: &[u32], h: Here, out: &mut [u8]) -> Put
+fn put_field(text: &[u8], work: &[u32], h: Here, out: &mut [u8]) -> Option<Here>
     requires { Ok work.now }
     ensures { Puts field_line one_end field_bytes text.now work.now h out.old out.new result }
 {
     let p = h.next;
     let ends = next_end(work, h.ends);
-    let old = p.literal(text, b"old\n");
-    if let Step::To(next) = old {
+    if let Some(next) = p.literal(text, b"old\n") {
         let at = put_v64(out, h.at, ends.end);
-        return Put::To(Here { next, ends, at });
+        return Some(Here { next, ends, at });
     }
-    let NewRead::Got(line, next) = new_line(text, p) else {
-        return Put::Bad;
-    };
+    let (line, next) = new_line(text, p)?;
     let at = put_line(text, p, line, ends.end, out, h.at);
-    Put::To(Here { next, ends, at })
+    Some(Here { next, ends, at })
 }
 
 // The next n fields.
-fn put_fields(text: &[u8], n: u64, work: &[u32], h: Here, out: &mut [u8]) -> Put
+fn put_fields(text: &[u8], n: u64, work: &[u32], h: Here, out: &mut [u8]) -> Option<Here>
     requires { Ok work.now }
     ensures { Puts (repeat n field_line) (needed one_end) (written one_end field_bytes) text.now work.now h out.old out.new result }
 {
     let mut here = h;
-    let mut rest = n;
-    while 0 < rest {
-        let one = put_field(text, work, here, out);
-        let Put::To(next) = one else {
-            return one;
-        };
-        here = next;
-        rest -= 1;
+    for _ in 0..n {
+        here = put_field(text, work, here, out)?;
     }
-    Put::To(here)
+    Some(here)
 }
 
 // The entry whose lines come next.
-fn put_entry(text: &[u8], work: &[u32], h: Here, out: &mut [u8]) -> Put
+fn put_entry(text: &[u8], work: &[u32], h: Here, out: &mut [u8]) -> Option<Here>
     requires { Ok work.now }
     ensures { Puts entry_lines ends_of_entry entry_bytes text.now work.now h out.old out.new result }
 {
-    let TypeRead::Got(line, next) = type_line(text, h.next) else {
-        return Put::Bad;
-    };
-    let sup = line.sup;
-    let start = line.start;
+    let (line, next) = type_line(text, h.next)?;
     let ends = h.ends;
-    let behind_head = put_head(out, h.at, line.name, sup, start, line.count);
+    let behind_head = put_head(out, h.at, line);
     let at = put_v64(out, behind_head, line.fields);
     put_fields(text, line.fields, work, Here { next, ends, at }, out)
 }
@@ -143,14 +120,11 @@ pub fn put_entries(text: &[u8], p: Place, n: u64, work: &[u32], out: &mut [u8], 
         ends: Ends { row: 0, end: 0 },
         at,
     };
-    let mut rest = n;
-    while 0 < rest {
-        let one = put_entry(text, work, here, out);
-        let Put::To(next) = one else {
+    for _ in 0..n {
+        let Some(next) = put_entry(text, work, here, out) else {
             return here.at;
         };
         here = next;
-        rest -= 1;
     }
     here.at
 }

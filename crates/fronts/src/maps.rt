@@ -3,66 +3,50 @@
 ghost use Rattle.fronts.specs.Maps.{KindsFound, KindsLaid, MapLaid};
 
 use numbers::write::put_v64;
+use parse::NewLine;
 use puts::put_two;
-use words::read::{Number, Place, Step};
+use words::read::Place;
 
 const COMMA: u64 = 44;
 
 // Where the element kinds stand in the line of a map's field, each behind a comma.
-fn map_kinds(text: &[u8], p: Place) -> Step
+fn map_kinds(text: &[u8], p: Place) -> Option<Place>
     ensures { KindsFound text.now p.at result }
 {
-    let Step::To(word) = p.literal(text, b"new\t") else {
-        return Step::Bad;
-    };
-    let Number::Got(_, types) = word.natural_ended(text, COMMA) else {
-        return Step::Bad;
-    };
-    let Number::Got(_, kinds) = types.natural(text) else {
-        return Step::Bad;
-    };
-    Step::To(kinds)
+    let word = p.literal(text, b"new\t")?;
+    let (_, types) = word.natural_ended(text, COMMA)?;
+    let (_, kinds) = types.natural(text)?;
+    Some(kinds)
 }
 
 // The n element kinds that stand at p.
 fn put_kinds(text: &[u8], p: Place, n: u64, out: &mut [u8], at: usize) -> usize
     ensures { KindsLaid text.now p.at n out.old at out.new result }
 {
-    let mut from = p.at;
+    let mut from = p;
     let mut to = at;
-    let mut rest = n;
-    while 0 < rest {
-        let here = Place { at: from };
-        let Step::To(word) = here.byte(text, COMMA) else {
+    for _ in 0..n {
+        let Some(word) = from.byte(text, COMMA) else {
             return to;
         };
-        let Number::Got(kind, next) = word.natural(text) else {
+        let Some((kind, next)) = word.natural(text) else {
             return to;
         };
         to = put_v64(out, to, kind);
-        from = next.at;
-        rest -= 1;
+        from = next;
     }
     to
 }
 
-// The new field whose line begins at p, of a map of n types, and where its chunk ends.
-pub fn put_map(
-    text: &[u8],
-    p: Place,
-    n: u64,
-    name: u64,
-    end: u64,
-    out: &mut [u8],
-    at: usize,
-) -> usize
-    ensures { MapLaid text.now p.at n name end out.old at out.new result }
+// The new field whose line begins at p and says this, of a map, and where its chunk ends.
+pub fn put_map(text: &[u8], p: Place, line: NewLine, end: u64, out: &mut [u8], at: usize) -> usize
+    ensures { MapLaid text.now p.at line.kind.bits line.name end out.old at out.new result }
 {
-    let Step::To(kinds) = map_kinds(text, p) else {
+    let Some(kinds) = map_kinds(text, p) else {
         return at;
     };
     let types = put_two(out, at, 0, 20);
-    let first = put_v64(out, types, n);
-    let last = put_kinds(text, kinds, n, out, first);
-    put_two(out, last, name, end)
+    let first = put_v64(out, types, line.kind.bits);
+    let last = put_kinds(text, kinds, line.kind.bits, out, first);
+    put_two(out, last, line.name, end)
 }

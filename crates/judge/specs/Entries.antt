@@ -1,5 +1,5 @@
 -- The entries of a pair, read from a text, as steps of all that the table says. Assumes nothing.
-use Rattle.std.specs.Prelude.{◌≡◌, Bool, List, [], ◌∷◌, ◌++◌, map, ℕ, ◌-◌, ◌≤◌, ◌<◌, length}
+use Rattle.std.specs.Prelude.{Option, Some, None, ◌≡◌, Bool, List, [], ◌∷◌, ◌++◌, map, ℕ, ◌-◌, ◌≤◌, ◌<◌, length}
 use Rattle.std.proofs.Math.Path.{refl, sym}
 use Rattle.std.proofs.Common.{ap, ◌∙◌, append_assoc, append-nil}
 use Rattle.std.proofs.lemmas.List.{map-append}
@@ -10,8 +10,7 @@ use Rattle.paper.specs.Rules.{type_of, after_head, known_due, field_count_rules,
 use Rattle.paper.specs.Listing.{old_line}
 use Rattle.paper.specs.Keeps.{number?, head?}
 use Rattle.paper.specs.Scan.{heed, literal, read_type, new_text, entry_text}
-use Rattle.words.specs.declared.read.Step.{Step}
-use Rattle.words.specs.declared.read.Step.TheVariants.{To, Bad}
+use Rattle.words.specs.declared.read.Place.{Place}
 use Rattle.table.specs.View.{dues_of, chunks_of, view, Holds, Said, said, Now}
 use Rattle.reader.specs.Sound.{Sound}
 use Rattle.reader.specs.Fields.{olds_of}
@@ -146,10 +145,10 @@ pub record EntriesRead (f l : List ℕ) (n at : ℕ) (l' : List ℕ) (next : ℕ
   pub sound : Sound (said f l')
   pub long : length l' ≡ length l
 
-abbrev pub EntriesSay : List ℕ → List ℕ → ℕ → ℕ → List ℕ → Step → Type 0
-EntriesSay f l n at l' (To c) = EntriesRead f l n at l' c.at
-EntriesSay f l n at l' Bad = times n entry_text after_entry (view f l) f at ≡ no 20 0
+abbrev pub EntriesSay : List ℕ → List ℕ → ℕ → ℕ → List ℕ → Option Place → Type 0
+EntriesSay f l n at l' (Some c) = EntriesRead f l n at l' c.at
+EntriesSay f l n at l' None = times n entry_text after_entry (view f l) f at ≡ no 20 0
 
-pub record EntriesTold (f l : List ℕ) (n at : ℕ) (l' : List ℕ) (r : Step) : Type 0 where
+pub record EntriesTold (f l : List ℕ) (n at : ℕ) (l' : List ℕ) (r : Option Place) : Type 0 where
   pub holds : Holds f l'
   pub says : EntriesSay f l n at l' r

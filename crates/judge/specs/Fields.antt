@@ -1,5 +1,5 @@
 -- The fields of an entry, read from a text, as steps of all that the table says. No chunk has a size yet. Assumes nothing.
-use Rattle.std.specs.Prelude.{◌≡◌, List, [], ◌∷◌, ◌++◌, map, ℕ, ◌+◌, ◌-◌, length}
+use Rattle.std.specs.Prelude.{Option, Some, None, ◌≡◌, List, [], ◌∷◌, ◌++◌, map, ℕ, ◌+◌, ◌-◌, length}
 use Rattle.paper.specs.Reader.{when◌then◌else◌, Reader, Out, got, no, turned, ◌>>=◌, ◌>>◌, times, repeat}
 use Rattle.paper.specs.Lists.{fold}
 use Rattle.paper.specs.Ledger.{New, Due, State, owns?, field_at, objects_of}
@@ -7,8 +7,7 @@ use Rattle.paper.specs.Rules.{field_count_rules, after_new, old_due, new_dues}
 use Rattle.paper.specs.Listing.{old_line}
 use Rattle.paper.specs.Keeps.{number?}
 use Rattle.paper.specs.Scan.{heed, literal, new_text}
-use Rattle.words.specs.declared.read.Step.{Step}
-use Rattle.words.specs.declared.read.Step.TheVariants.{To, Bad}
+use Rattle.words.specs.declared.read.Place.{Place}
 use Rattle.table.specs.View.{flds_of, Holds, Said, said, Now}
 use Rattle.reader.specs.Sound.{Open}
 use Rattle.reader.specs.Fields.{olds_of, add_new}
@@ -86,17 +85,17 @@ fields_step t added n s f at = turned (add_fields added t s) (fields_text s.stat
 -- ── answers ──
 
 -- where the text goes on, with all that the table says then
-abbrev pub out_said : List ℕ → List ℕ → Step → Out Said
-out_said f l (To c) = got (said f l) c.at
-out_said f l Bad = no 20 0
+abbrev pub out_said : List ℕ → List ℕ → Option Place → Out Said
+out_said f l (Some c) = got (said f l) c.at
+out_said f l None = no 20 0
 
-abbrev pub OpenAfter : List ℕ → List ℕ → ℕ → Step → Type 0
-OpenAfter f l t (To c) = Open (said f l) t (length (flds_of l))
-OpenAfter f l t Bad = Unit {0}
+abbrev pub OpenAfter : List ℕ → List ℕ → ℕ → Option Place → Type 0
+OpenAfter f l t (Some c) = Open (said f l) t (length (flds_of l))
+OpenAfter f l t None = Unit {0}
 
 -- the answer, with the table l that is left, is the outcome o; the chunks of type t that are due are of the fields that there
 -- are
-pub record Stepped (f l : List ℕ) (t : ℕ) (r : Step) (o : Out Said) : Type 0 where
+pub record Stepped (f l : List ℕ) (t : ℕ) (r : Option Place) (o : Out Said) : Type 0 where
   pub holds : Holds f l
   pub says : out_said f l r ≡ o
   pub still_open : OpenAfter f l t r

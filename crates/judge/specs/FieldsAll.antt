@@ -1,7 +1,7 @@
 -- The ways out of reading all fields of an entry from a text, on plain values. Assumes nothing.
 use Rattle.std.proofs.Math.Path.{◌≡◌, refl, ap}
 use Rattle.std.proofs.Common.{sym, ◌∙◌, append_assoc, append-nil, arith, length-append, leb-true}
-use Rattle.std.specs.Prelude.{true, false, List, [], ◌∷◌, ◌++◌, map, ℕ, suc, ◌+◌, ◌-◌, ◌≤◌, length}
+use Rattle.std.specs.Prelude.{Option, Some, None, true, false, List, [], ◌∷◌, ◌++◌, map, ℕ, suc, ◌+◌, ◌-◌, ◌≤◌, length}
 use Rattle.std.proofs.lemmas.List.{map-append}
 use Rattle.paper.specs.Reader.{when◌then◌else◌, Out, got, no, and_then, turned, ◌>>=◌, ◌>>◌, times, repeat}
 use Rattle.paper.specs.Lists.{fold, total}
@@ -13,8 +13,6 @@ use Rattle.paper.specs.Scan.{heed, literal, new_text}
 use Rattle.laws.specs.Bools.{number-split}
 use Rattle.words.specs.Answers.{out_step}
 use Rattle.words.specs.declared.read.Place.{Place}
-use Rattle.words.specs.declared.read.Step.{Step}
-use Rattle.words.specs.declared.read.Step.TheVariants.{To, Bad}
 use Rattle.values.specs.Pass.{forget}
 use Rattle.table.specs.View.{flds_of, log_of, view, Holds, Said, said, Now, fields_in}
 use Rattle.reader.specs.Sound.{Sound, Open}
@@ -92,21 +90,21 @@ news-ready {f} {l} h {t} {added} n known kept o {l₁} due =
     (D.now.holds, (D.still_open, omega (arith, same, h.ok.flds-count, D.now.holds.ok.flds-count, (count_held h known kept).0)))
 
 module _ {f l : List ℕ} (h : Holds f l) (t added n at : ℕ) {known : ℕ} (known-are : known ≡ length (olds_of added (view f l) t)) where
-  pub fields-uncounted : number? (field_count_rules (view f l) known) n ≡ false → Stepped f l t Bad (fields_step t added n (said f l) f at)
+  pub fields-uncounted : number? (field_count_rules (view f l) known) n ≡ false → Stepped f l t None (fields_step t added n (said f l) f at)
   fields-uncounted broken = record { holds = h; says = sym (fields-refused t added n (said f l) f at (rw known-are at broken)); still_open = tt }
 
-  module _ (kept : number? (field_count_rules (view f l) known) n ≡ true) (a : Step) (listed : out_step a ≡ forget (repeat known (literal old_line) f at)) where
+  module _ (kept : number? (field_count_rules (view f l) known) n ≡ true) (a : Option Place) (listed : out_step a ≡ forget (repeat known (literal old_line) f at)) where
     counted-are :
         {objects : ℕ} → objects ≡ total (of? t) size (log_of l)
         → fields_step t added n (said f l) f at ≡ and_then (out_step a) (λ u e. news_step t objects (n - known) (add_olds added (said f l) (olds_of added (view f l) t)) f e)
     unfolding objects_of
     counted-are objects-are = rw (listed, objects-are, known-are) (fields-are t added n (said f l) f at (rw known-are at kept))
 
-    pub fields-unlisted : a ≡ Bad → Stepped f l t Bad (fields_step t added n (said f l) f at)
+    pub fields-unlisted : a ≡ None → Stepped f l t None (fields_step t added n (said f l) f at)
     fields-unlisted is = record { holds = h; says = sym (counted-are refl ∙ rw is refl); still_open = tt }
 
     pub fields-got :
-        {c : Place} → a ≡ To c → Open (said f l) t 0 → {l₁ : List ℕ} → OldsTold t added l l₁ → {objects : ℕ} → objects ≡ total (of? t) size (log_of l) → {l₂ : List ℕ} {r : Step}
+        {c : Place} → a ≡ Some c → Open (said f l) t 0 → {l₁ : List ℕ} → OldsTold t added l l₁ → {objects : ℕ} → objects ≡ total (of? t) size (log_of l) → {l₂ : List ℕ} {r : Option Place}
         → Stepped f l₂ t r (news_step t objects (n - known) (said f l₁) f c.at) → Stepped f l₂ t r (fields_step t added n (said f l) f at)
     fields-got {c} is o due {objects} objects-are news =
         record {
@@ -126,18 +124,18 @@ pub record FieldsRead (f l : List ℕ) (t added n at : ℕ) (l' : List ℕ) (nex
   pub now : Now f l' (add_fields added t (said f l) news)
   pub sound : Sound (said f l')
 
-abbrev pub FieldsSay : List ℕ → List ℕ → ℕ → ℕ → ℕ → ℕ → List ℕ → Step → Type 0
-FieldsSay f l t added n at l' (To c) = FieldsRead f l t added n at l' c.at
-FieldsSay f l t added n at l' Bad = fields_text (view f l) t added n f at ≡ no 20 0
+abbrev pub FieldsSay : List ℕ → List ℕ → ℕ → ℕ → ℕ → ℕ → List ℕ → Option Place → Type 0
+FieldsSay f l t added n at l' (Some c) = FieldsRead f l t added n at l' c.at
+FieldsSay f l t added n at l' None = fields_text (view f l) t added n f at ≡ no 20 0
 
-pub record FieldsTold (f l : List ℕ) (t added n at : ℕ) (l' : List ℕ) (r : Step) : Type 0 where
+pub record FieldsTold (f l : List ℕ) (t added n at : ℕ) (l' : List ℕ) (r : Option Place) : Type 0 where
   pub holds : Holds f l'
   pub says : FieldsSay f l t added n at l' r
 
 module _ (f l : List ℕ) (t added n at : ℕ) (l' : List ℕ) where
-  pub fields_told : (r : Step) → Stepped f l' t r (fields_step t added n (said f l) f at) → FieldsTold f l t added n at l' r
+  pub fields_told : (r : Option Place) → Stepped f l' t r (fields_step t added n (said f l) f at) → FieldsTold f l t added n at l' r
   unfolding fields_step
-  fields_told (To c) S = record { holds = S.holds; says = go (fields_text (view f l) t added n f at) refl S.says }
+  fields_told (Some c) S = record { holds = S.holds; says = go (fields_text (view f l) t added n f at) refl S.says }
     where
       go : (o : Out (List New)) → fields_text (view f l) t added n f at ≡ o → got (said f l') c.at ≡ turned (add_fields added t (said f l)) o → FieldsRead f l t added n at l' c.at
       go (got news e) is r =
@@ -145,7 +143,7 @@ module _ (f l : List ℕ) (t added n at : ℕ) (l' : List ℕ) where
           let y : c.at ≡ e = cc r in
           record { news = news; reads = is ∙ ap (λ (p : ℕ). got news p) (sym y); now = record { holds = S.holds; says = x }; sound = S.still_open.sound }
       go (no k p) is r = let z : ◌≡◌ {A = ℕ} 0 1 = cc r in absurd (omega arith)
-  fields_told Bad S = record { holds = S.holds; says = go (fields_text (view f l) t added n f at) S.says }
+  fields_told None S = record { holds = S.holds; says = go (fields_text (view f l) t added n f at) S.says }
     where
       go : (o : Out (List New)) → no 20 0 ≡ turned (add_fields added t (said f l)) o → o ≡ no 20 0
       go (got news e) r = let z : ◌≡◌ {A = ℕ} 0 1 = cc r in absurd (omega arith)

@@ -1,7 +1,7 @@
 -- The ways out of reading new fields from a text, on plain values: one field, and a turn of the loop over all. Assumes nothing.
 use Rattle.std.proofs.Math.Path.{◌≡◌, refl, sym, ap}
 use Rattle.std.proofs.Common.{subst, ◌∙◌, arith, length-append, leb-true}
-use Rattle.std.specs.Prelude.{Bool, true, false, ◌&&◌, List, [], ◌∷◌, ℕ, ◌+◌, ◌-◌, ◌≤◌, ◌<◌}
+use Rattle.std.specs.Prelude.{Option, Some, None, Bool, true, false, ◌&&◌, List, [], ◌∷◌, ℕ, suc, ◌+◌, ◌-◌, ◌≤◌, ◌<◌}
 use Rattle.std.proofs.Math.ListN.{length}
 use Rattle.paper.specs.Reader.{when◌then◌else◌, Out, got, no, and_then, turned, ◌>>=◌, ◌>>◌, give, times}
 use Rattle.paper.specs.Lists.{fold}
@@ -11,12 +11,9 @@ use Rattle.paper.specs.Keeps.{number?, kind_kept?, new-field?}
 use Rattle.paper.specs.Scan.{heed, read_new, new_text}
 use Rattle.laws.specs.Bools.{and_split, number-split}
 use Rattle.words.specs.declared.read.Place.{Place}
-use Rattle.words.specs.declared.read.Step.{Step}
-use Rattle.words.specs.declared.read.Step.TheVariants.{To, Bad}
 use Rattle.table.specs.View.{kind_from, strs_of, flds_of, view, Holds, Said, said, Now, strings_in, fields_in}
 use Rattle.parse.specs.declared.NewLine.{NewLine}
-use Rattle.parse.specs.declared.NewRead.{NewRead}
-use Rattle.parse.specs.declared.NewRead.TheVariants as new
+use Rattle.words.specs.Answers.{Scanned}
 use Rattle.parse.specs.Answers.{kept_new, noted_new, NewReads}
 use Rattle.parse.specs.NewLaws.{Before, turned-got, turned-bad}
 use Rattle.reader.specs.Sound.{Open}
@@ -36,7 +33,7 @@ name-held {f} {l} h t {n} k =
 -- ── one field ──
 
 -- so a row of the table has room for its kind
-pub new-first : {f : List ℕ} {at : ℕ} {a : NewRead} → NewReads f at a → {x : NewLine} {c : Place} → a ≡ new.Got x c → x.k ≤ 32
+pub new-first : {f : List ℕ} {at : ℕ} {a : Scanned NewLine} → NewReads f at a → {x : NewLine} {c : Place} → a ≡ Some (x, c) → x.kind.first ≤ 32
 new-first line is = (rw is at line).told
 
 -- the line, whose kind keeps its rules, and then the rules of the name
@@ -66,29 +63,29 @@ fields-more : (t n : ℕ) (s : Said) (x : New) → length (add_text t n s x).sta
 unfolding add_text add_new after_new
 fields-more t n s x = length-append s.state.fields (record { owner = t; kind = noted x.kind } ∷ [])
 
-module _ {f l : List ℕ} (h : Holds f l) (t n : ℕ) {at : ℕ} {a : NewRead} (line : NewReads f at a) where
+module _ {f l : List ℕ} (h : Holds f l) (t n : ℕ) {at : ℕ} {a : Scanned NewLine} (line : NewReads f at a) where
   step_is : new_step t n (said f l) f at ≡ turned (add_text t n (said f l)) (and_then (kept_new f at) (λ g e. when number? (field_name_rules t (view f l)) g.name then got g e else no 20 0))
   unfolding new_step
   step_is = ap (turned (add_text t n (said f l))) (new_is t (view f l) f at)
 
-  pub new-unread : a ≡ new.Bad → Stepped f l t Bad (new_step t n (said f l) f at)
+  pub new-unread : a ≡ None → Stepped f l t None (new_step t n (said f l) f at)
   new-unread is =
       let unread = turned-bad noted_new (kept_new f at) (rw is at line).says in
       record { holds = h; says = sym (step_is ∙ rw (← unread)); still_open = tt }
 
-  module _ {x : NewLine} {c : Place} (is : a ≡ new.Got x c) where
+  module _ {x : NewLine} {c : Place} (is : a ≡ Some (x, c)) where
     -- the field that was read, of whose kind the line says what is kept
-    read : Before noted_new (kept_new f at) (record { kind = kind_from x.k x.a x.e; name = x.name }) c.at
+    read : Before noted_new (kept_new f at) (record { kind = kind_from x.kind.first x.kind.bits x.kind.last; name = x.name }) c.at
     read = turned-got noted_new (kept_new f at) (rw is at line).says
 
     called : x.name ≡ read.value.name
     called = ap (λ (g : New). g.name) read.is
 
-    pub new-unnamed : number? (field_name_rules t (view f l)) x.name ≡ false → Stepped f l t Bad (new_step t n (said f l) f at)
+    pub new-unnamed : number? (field_name_rules t (view f l)) x.name ≡ false → Stepped f l t None (new_step t n (said f l) f at)
     unfolding when◌then◌else◌
     new-unnamed broken = record { holds = h; says = sym (step_is ∙ rw (← read.first, ← called, broken)); still_open = tt }
 
-    module _ (kept : number? (field_name_rules t (view f l)) x.name ≡ true) {l' : List ℕ} (added : FieldAdded f t n x.name (record { first = x.k; bits = x.a; last = x.e }) 0 l l') where
+    module _ (kept : number? (field_name_rules t (view f l)) x.name ≡ true) {l' : List ℕ} (added : FieldAdded f t n x.name x.kind 0 l l') where
       got-is : new_step t n (said f l) f at ≡ got (add_text t n (said f l) read.value) c.at
       unfolding when◌then◌else◌
       got-is = step_is ∙ rw (← read.first, ← called, kept)
@@ -98,7 +95,7 @@ module _ {f l : List ℕ} (h : Holds f l) (t n : ℕ) {at : ℕ} {a : NewRead} (
           let whole : record { kind = read.value.kind; name = x.name } ≡ read.value = λ i. record { kind = read.value.kind; name = called i } in
           subst (λ (g : New). Now f l' (add_new t n (said f l) g 0)) whole (added.says read.value.kind (sym (ap (λ (g : New). g.kind) read.is)))
 
-      pub new-got : {i : ℕ} → Open (said f l) t i → fields_in l < 128 → Stepped f l' t (To c) (new_step t n (said f l) f at)
+      pub new-got : {i : ℕ} → Open (said f l) t i → fields_in l < 128 → Stepped f l' t (Some c) (new_step t n (said f l) f at)
       unfolding add_text
       new-got o room =
           let more : length (flds_of l') ≡ length (flds_of l) + 1 = ap (λ (s : Said). length s.state.fields) now-says.says ∙ fields-more t n (said f l) read.value in
@@ -147,28 +144,29 @@ pub record NewsGoing (f l₀ l : List ℕ) (t n at₀ all rest at : ℕ) : Type 
   pub long : length l ≡ length l₀
   pub says : news_step t n all (said f l₀) f at₀ ≡ news_step t n rest (said f l) f at
 
-pub news-begin : {f l : List ℕ} → Holds f l → {t : ℕ} → Open (said f l) t (length (flds_of l)) → {all : ℕ} → fields_in l + all ≤ 128 → (n at : ℕ) → NewsGoing f l l t n at all all at
-news-begin h o room n at = record { holds = h; still_open = o; room = room; long = refl; says = refl }
+pub news-begin : {f l : List ℕ} → Holds f l → {t : ℕ} → Open (said f l) t (length (flds_of l)) → {all rest : ℕ} → rest ≡ all → fields_in l + all ≤ 128 → (n at : ℕ) → NewsGoing f l l t n at all rest at
+news-begin h o same room n at = record { holds = h; still_open = o; room = omega arith; long = refl; says = rw same refl }
 
 module _ {f l₀ l : List ℕ} {t n at₀ all rest at : ℕ} (g : NewsGoing f l₀ l t n at₀ all rest at) where
-  pub news-done : rest ≤ 0 → Stepped f l t (To (record { at = at })) (news_step t n all (said f l₀) f at₀)
+  pub news-done : rest ≤ 0 → Stepped f l t (Some (record { at = at })) (news_step t n all (said f l₀) f at₀)
   news-done le = record { holds = g.holds; says = sym (g.says ∙ news-stop t n f rest (said f l) at le); still_open = g.still_open }
 
-  module _ (pos : 0 < rest) {l' : List ℕ} {a : Step} (one : Stepped f l' t a (new_step t n (said f l) f at)) where
+  module _ (pos : 0 < rest) {l' : List ℕ} {a : Option Place} (one : Stepped f l' t a (new_step t n (said f l) f at)) where
     turn : news_step t n all (said f l₀) f at₀ ≡ and_then (out_said f l' a) (λ s e. news_step t n (rest - 1) s f e)
     turn = g.says ∙ news-step t n f rest (said f l) at pos ∙ rw (← one.says) refl
 
-    pub news-bad : a ≡ Bad → Stepped f l' t Bad (news_step t n all (said f l₀) f at₀)
+    pub news-bad : a ≡ None → Stepped f l' t None (news_step t n all (said f l₀) f at₀)
     news-bad is = record { holds = one.holds; says = sym (turn ∙ rw is refl); still_open = tt }
 
-    pub news-next : {c : Place} → a ≡ To c → length l' ≡ length l → NewsGoing f l₀ l' t n at₀ all (rest - 1) c.at
-    news-next {c} is long =
+    pub news-next : {c : Place} {less : ℕ} → rest ≡ suc less → a ≡ Some c → length l' ≡ length l → NewsGoing f l₀ l' t n at₀ all less c.at
+    news-next {c} {less} due is long =
         let one' = rw is at one in
+        let same : rest - 1 ≡ less = omega arith in
         let more : length (flds_of l') ≡ length (flds_of l) + 1 = new-counts t n f (said f l) (said f l') at c.at one'.says in
         record {
           holds = one'.holds;
           still_open = one'.still_open;
           room = omega (arith, more, one'.holds.ok.flds-count, g.holds.ok.flds-count, g.room);
           long = long ∙ g.long;
-          says = turn ∙ rw is refl;
+          says = turn ∙ rw (is, same) refl;
         }

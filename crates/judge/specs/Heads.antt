@@ -1,24 +1,18 @@
 -- What is told of a listed head that was held to the rules. Assumes nothing.
-use Rattle.std.specs.Prelude.{◌≡◌, Bool, true, false, List, ℕ, ◌<◌}
+use Rattle.std.specs.Prelude as prelude
+use Rattle.std.specs.Prelude.{Some, None, ◌≡◌, Bool, true, false, List, ℕ, ◌<◌}
 use Rattle.std.proofs.Math.Option.{Option}
 use Rattle.paper.specs.Reader.{Reader, got, no, ◌>>=◌, ◌>>◌, give}
 use Rattle.paper.specs.Ledger.{State, Head}
 use Rattle.paper.specs.Rules.{small_rules, new?, type_of, super_name_rules, super_of}
 use Rattle.paper.specs.Keeps.{only?, head?}
 use Rattle.paper.specs.Scan.{heed, read_type}
+use Rattle.words.specs.Answers.{Scanned}
 use Rattle.table.specs.View.{view, maybe, Holds}
 use Rattle.reader.specs.Heads.{due, head_of, Placed, Entered}
 use Rattle.reader.specs.declared.heads.Name.{Name}
 use Rattle.reader.specs.declared.heads.Super.{Super}
 use Rattle.reader.specs.declared.heads.Top.{Top}
-use Rattle.judge.specs.declared.heads.SuperWord.{SuperWord}
-use Rattle.judge.specs.declared.heads.SuperWord.TheVariants as super
-use Rattle.judge.specs.declared.heads.StartWord.{StartWord}
-use Rattle.judge.specs.declared.heads.StartWord.TheVariants as start
-use Rattle.judge.specs.declared.heads.Judgement.{Judgement}
-use Rattle.judge.specs.declared.heads.Judgement.TheVariants as head
-use Rattle.judge.specs.declared.heads.HeadText.{HeadText}
-use Rattle.judge.specs.declared.heads.HeadText.TheVariants as text
 
 -- ── the super type of the entry's type x, listed as o ──
 
@@ -30,11 +24,11 @@ pub record SuperKept (s : State) (x : Name) (o : Option ℕ) (y : Super) : Type 
   pub same : due x.fresh y.number ≡ o
   pub up : maybe y.up ≡ super_of s x.number o
 
-abbrev pub ToldSuper : State → Name → Option ℕ → SuperWord → Type 0
-ToldSuper s x o (super.Got y) = SuperKept s x o y
-ToldSuper s x o super.Bad = super_kept? s x.number o ≡ false
+abbrev pub ToldSuper : State → Name → Option ℕ → prelude.Option Super → Type 0
+ToldSuper s x o (Some y) = SuperKept s x o y
+ToldSuper s x o None = super_kept? s x.number o ≡ false
 
-pub record SuperTold (s : State) (x : Name) (o : Option ℕ) (r : SuperWord) : Type 0 where
+pub record SuperTold (s : State) (x : Name) (o : Option ℕ) (r : prelude.Option Super) : Type 0 where
   pub told : ToldSuper s x o r
 
 -- ── the local start, listed as o, which is due or not ──
@@ -45,11 +39,11 @@ pub record StartKept (b : Bool) (o : Option ℕ) (n : ℕ) : Type 0 where
   pub below : n < 65536
   pub none : b ≡ false → n ≡ 0
 
-abbrev pub ToldStart : Bool → Option ℕ → StartWord → Type 0
-ToldStart b o (start.Got n) = StartKept b o n
-ToldStart b o start.Bad = only? b small_rules o ≡ false
+abbrev pub ToldStart : Bool → Option ℕ → prelude.Option ℕ → Type 0
+ToldStart b o (Some n) = StartKept b o n
+ToldStart b o None = only? b small_rules o ≡ false
 
-pub record StartTold (b : Bool) (o : Option ℕ) (r : StartWord) : Type 0 where
+pub record StartTold (b : Bool) (o : Option ℕ) (r : prelude.Option ℕ) : Type 0 where
   pub told : ToldStart b o r
 
 -- ── the head h ──
@@ -59,11 +53,11 @@ pub record HeadKept (s : State) (h : Head) (top : Top) : Type 0 where
   pub same : head_of top ≡ h
   pub placed : Placed s top
 
-abbrev pub JudgedHead : State → Head → Judgement → Type 0
-JudgedHead s h (head.Got top) = HeadKept s h top
-JudgedHead s h head.Bad = head? s h ≡ false
+abbrev pub JudgedHead : State → Head → prelude.Option Top → Type 0
+JudgedHead s h (Some top) = HeadKept s h top
+JudgedHead s h None = head? s h ≡ false
 
-pub record HeadJudged (s : State) (h : Head) (r : Judgement) : Type 0 where
+pub record HeadJudged (s : State) (h : Head) (r : prelude.Option Top) : Type 0 where
   pub told : JudgedHead s h r
 
 -- ── a head that is read from a text, and entered ──
@@ -88,9 +82,9 @@ pub record HeadBad (t l : List ℕ) (at : ℕ) (l' : List ℕ) : Type 0 where
   pub read : kept_type (view t l) t at ≡ no 20 0
   pub holds : Holds t l'
 
-abbrev pub ToldHead : List ℕ → List ℕ → ℕ → HeadText → List ℕ → Type 0
-ToldHead t l at (text.Got top n next) l' = HeadGot t l at top n next.at l'
-ToldHead t l at text.Bad l' = HeadBad t l at l'
+abbrev pub ToldHead : List ℕ → List ℕ → ℕ → Scanned (Top × ℕ) → List ℕ → Type 0
+ToldHead t l at (Some ((top, n), next)) l' = HeadGot t l at top n next.at l'
+ToldHead t l at None l' = HeadBad t l at l'
 
-pub record HeadTold (t l : List ℕ) (at : ℕ) (r : HeadText) (l' : List ℕ) : Type 0 where
+pub record HeadTold (t l : List ℕ) (at : ℕ) (r : Scanned (Top × ℕ)) (l' : List ℕ) : Type 0 where
   pub told : ToldHead t l at r l'

@@ -1,3 +1,4 @@
+pub mod Taken
 pub mod Heads
 pub mod HeadLaws
 pub mod Fields

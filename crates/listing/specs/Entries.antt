@@ -1,5 +1,5 @@
 -- The lines of an entry, and of all entries of a block. Assumes nothing.
-use Rattle.std.specs.Prelude.{◌≡◌, refl, true, false, ℕ, zero, suc, ◌+◌, ◌-◌, ◌≤◌, ◌<◌, leb, eqb}
+use Rattle.std.specs.Prelude.{Err, Ok, Result, ◌≡◌, refl, true, false, ℕ, zero, suc, ◌+◌, ◌-◌, ◌≤◌, ◌<◌, leb, eqb}
 use Rattle.std.proofs.Math.Path.{sym, ap}
 use Rattle.std.proofs.Common.{◌∙◌, arith, leb-true}
 use mathlib.Core.List.{List, [], ◌++◌, map, append_assoc}
@@ -18,14 +18,10 @@ use Rattle.laws.specs.Bools.{and_split}
 use Rattle.laws.specs.Laws.{not-got, bind_inv}
 use Rattle.lay.specs.Laid.{most, Laid, laid_then, laid_as, Leads, leads-start, leads-on, leads-end}
 use Rattle.table.specs.View.{maybe, view, Said, said, Holds}
-use Rattle.numbers.specs.Cursors.{Read, was-got, was-refused}
+use Rattle.numbers.specs.Cursors.{Outcome, Read, was-got, was-refused}
 use Rattle.numbers.specs.declared.Cursor.{Cursor}
 use Rattle.numbers.specs.declared.Refusal.{Refusal}
-use Rattle.numbers.specs.declared.Number.{Number}
-use Rattle.numbers.specs.declared.Number.TheVariants.{Got, No}
 use Rattle.reader.specs.declared.heads.Top.{Top}
-use Rattle.reader.specs.declared.heads.Topped.{Topped}
-use Rattle.reader.specs.declared.heads.Topped.TheVariants as topped
 use Rattle.reader.specs.Sound.{Sound}
 use Rattle.reader.specs.Kinds.{named_by}
 use Rattle.reader.specs.Going.{Going, go_entry}
@@ -34,8 +30,6 @@ use Rattle.reader.specs.Entries.{entry_go, entries_go}
 use Rattle.reader.specs.EntryLaws.{Passed, EntriesGoing, entries-begin, entries-done, entries-no, entries_next}
 use Rattle.reader.specs.Heads.{due, head_of, out_top, ToldTop, TopRead, add_head, LeftTop, TopEntered}
 use Rattle.reader.specs.Runs.{times-many}
-use Rattle.listing.specs.declared.fields.Listed.{Listed}
-use Rattle.listing.specs.declared.fields.Listed.TheVariants as listed
 use Rattle.listing.specs.declared.entries.Printed.{Printed}
 use Rattle.listing.specs.Prints.{StandsBy, give-got, number-got, FirstOf, times-first, times_none}
 use Rattle.listing.specs.Fields.{new_words, old_words, FieldsPrinted}
@@ -139,26 +133,26 @@ enough s known n h =
 
 -- ── a head that was entered was read ──
 
-pub entered-read : {f l l₁ : List ℕ} {at : ℕ} {a : Topped} → TopEntered f l l₁ at a → TopRead (view f l) f at a
+pub entered-read : {f l l₁ : List ℕ} {at : ℕ} {a : Outcome Top} → TopEntered f l l₁ at a → TopRead (view f l) f at a
 entered-read {f} {l} {l₁} {at} {a} e = record { says = e.says; inside = e.inside; told = go a e.left }
   where
-    go : (a : Topped) → LeftTop f l l₁ a → ToldTop (view f l) a
-    go (topped.Got h c) x = x.placed
-    go (topped.No u) x = tt
+    go : (a : Outcome Top) → LeftTop f l l₁ a → ToldTop (view f l) a
+    go (Ok (h, c)) x = x.placed
+    go (Err u) x = tt
 
 -- the known fields are the same before it and behind it
-pub olds-kept : {f l l₁ : List ℕ} {at : ℕ} {top : Top} {c : Cursor} → TopEntered f l l₁ at (topped.Got top c) → {known : ℕ} → known ≡ length (olds_of top.count (view f l₁) top.name.typ) → known ≡ length (olds_of top.count (view f l) top.name.typ)
+pub olds-kept : {f l l₁ : List ℕ} {at : ℕ} {top : Top} {c : Cursor} → TopEntered f l l₁ at (Ok (top, c)) → {known : ℕ} → known ≡ length (olds_of top.count (view f l₁) top.name.typ) → known ≡ length (olds_of top.count (view f l) top.name.typ)
 unfolding olds_of fields_of add_head after_head
 olds-kept {top = top} e is =
     is ∙ ap (λ (x : List Field). length (when eqb top.count 0 then [] else places (owns? top.name.typ) 0 x)) (ap (λ (g : Said). g.state.fields) e.left.now.says)
 
 -- ── the ways out ──
 
-module _ (f l : List ℕ) {at : ℕ} {a : Topped} (T : TopRead (view f l) f at a) where
-  pub entry-no-head : {out : List ℕ} {o : ℕ} {e : Refusal} → a ≡ topped.No e → EntryPrinted f l at out o out o
+module _ (f l : List ℕ) {at : ℕ} {a : Outcome Top} (T : TopRead (view f l) f at a) where
+  pub entry-no-head : {out : List ℕ} {o : ℕ} {e : Refusal} → a ≡ Err e → EntryPrinted f l at out o out o
   entry-no-head is = record { text = λ end e q h. not-got (ap out_top (sym is) ∙ T.says ∙ (entry-parts (view f l) end f at e q h).top_read) }
 
-  module _ {top : Top} {c₁ : Cursor} (is : a ≡ topped.Got top c₁) {b : Number} (R : Read v64 18446744073709551616 f c₁.at b) where
+  module _ {top : Top} {c₁ : Cursor} (is : a ≡ Ok (top, c₁)) {b : Outcome ℕ} (R : Read v64 18446744073709551616 f c₁.at b) where
     there : {end : ℕ} {e : Entry × List ℕ} {q : ℕ} (P : EntryParts (view f l) end f at e q) → got (head_of top) c₁.at ≡ got P.top P.after-top
     there P = ap out_top (sym is) ∙ T.says ∙ P.top_read
 
@@ -168,11 +162,11 @@ module _ (f l : List ℕ) {at : ℕ} {a : Topped} (T : TopRead (view f l) f at a
         let (x, y) = number-got _ f P.after-top P.count P.after-count P.count-read in
         (rw z x, enough _ _ P.count y)
 
-    pub entry-no-count : {out : List ℕ} {o : ℕ} {e : Refusal} → b ≡ No e → EntryPrinted f l at out o out o
+    pub entry-no-count : {out : List ℕ} {o : ℕ} {e : Refusal} → b ≡ Err e → EntryPrinted f l at out o out o
     entry-no-count no? =
         record { text = λ end e q h. not-got (sym (was-refused R no?).says ∙ (counted (entry-parts (view f l) end f at e q h)).0) }
 
-    module _ {n : ℕ} {c₂ : Cursor} (got? : b ≡ Got n c₂) {known : ℕ} (K : known ≡ length (olds_of top.count (view f l) top.name.typ)) where
+    module _ {n : ℕ} {c₂ : Cursor} (got? : b ≡ Ok (n, c₂)) {known : ℕ} (K : known ≡ length (olds_of top.count (view f l) top.name.typ)) where
       known_is : {end : ℕ} {e : Entry × List ℕ} {q : ℕ} (P : EntryParts (view f l) end f at e q) → length (known_due (view f l) P.top) ≡ known
       unfolding olds_of known_due
       known_is P =
@@ -192,7 +186,7 @@ module _ (f l : List ℕ) {at : ℕ} {a : Topped} (T : TopRead (view f l) f at a
                 absurd (omega (arith, (counted P).1, known_is P));
           }
 
-      module _ {out m₁ m₂ : List ℕ} {o o₁ : ℕ} (L : Laid out o (type_line (head_of top) n) m₁ o₁) {h : Listed} (F : FieldsPrinted known (n - known) f c₂.at m₁ o₁ m₂ h) where
+      module _ {out m₁ m₂ : List ℕ} {o o₁ : ℕ} (L : Laid out o (type_line (head_of top) n) m₁ o₁) {h : Result (Cursor × ℕ) Refusal} (F : FieldsPrinted known (n - known) f c₂.at m₁ o₁ m₂ h) where
         -- the fields, as the definitions read them
         news-are : {end : ℕ} {e : Entry × List ℕ} {q : ℕ} (P : EntryParts (view f l) end f at e q) → times (n - known) (new_field any_type (type_of (view f l) P.top.name)) (upto_new (type_of (view f l) P.top.name)) P.upto f P.after-olds ≡ got P.news q
         news-are P =
@@ -204,10 +198,10 @@ module _ (f l : List ℕ) {at : ℕ} {a : Topped} (T : TopRead (view f l) f at a
             let c-is : c₂.at ≡ P.after-count = cc (count-is P) in
             F.there end P.olds P.after-olds (rw (← known_is P, c-is) P.olds-read) _ P.upto P.news q (news-are P)
 
-        pub entry-cut : {u : Refusal} → h ≡ listed.No u → {r : ℕ} → EntryPrinted f l at out o m₂ r
+        pub entry-cut : {u : Refusal} → h ≡ Err u → {r : ℕ} → EntryPrinted f l at out o m₂ r
         entry-cut is = record { text = λ end e q r. absurd (rw is at (fields-there (entry-parts (view f l) end f at e q r))) }
 
-        pub entry-printed : {c₃ : Cursor} {p : ℕ} → h ≡ listed.Got c₃ p → EntryPrinted f l at out o m₂ p
+        pub entry-printed : {c₃ : Cursor} {p : ℕ} → h ≡ Ok (c₃, p) → EntryPrinted f l at out o m₂ p
         unfolding print_entry
         entry-printed {c₃} {p} is =
             record {
@@ -256,7 +250,7 @@ printing-start h s all at out o a b =
     }
 
 module _ {f l₀ l : List ℕ} {at₀ all rest last at : ℕ} {out : List ℕ} {o : ℕ} {m : List ℕ} {p : ℕ} (g : EntriesPrinting f l₀ l at₀ all rest last at out o m p) where
-  pub printing-done : rest ≤ 0 → EntriesDone f l₀ l all at₀ out o m (record { read = Got last (record { at = at }); at = p })
+  pub printing-done : rest ≤ 0 → EntriesDone f l₀ l all at₀ out o m (record { read = Ok (last, (record { at = at })); at = p })
   unfolding print_entries
   printing-done le =
       record {
@@ -267,7 +261,7 @@ module _ {f l₀ l : List ℕ} {at₀ all rest last at : ℕ} {out : List ℕ} {
             leads-end B.leads (ap (λ (x : List (Entry × List ℕ)). print_entries (view f l) (map what x)) N.0);
       }
 
-  module _ (due? : 0 < rest) {m₂ : List ℕ} {p₂ : ℕ} (E : EntryPrinted f l at m p m₂ p₂) {l' : List ℕ} {a : Number} (one : Passed f l' at a (entry_go (named_by false 0) (going f l last) f at)) where
+  module _ (due? : 0 < rest) {m₂ : List ℕ} {p₂ : ℕ} (E : EntryPrinted f l at m p m₂ p₂) {l' : List ℕ} {a : Outcome ℕ} (one : Passed f l' at a (entry_go (named_by false 0) (going f l last) f at)) where
     -- the entry, as the definitions read it
     first_of : {es : List (Entry × List ℕ)} {q : ℕ} (B : EntriesLeft f l₀ l es q rest last at out o m p) → FirstOf (entry any_type) upto_entry (rest - 1) (upto_here f l last) f at B.more q
     first_of {es} {q} B = times-first (entry any_type) upto_entry (upto_here f l last) f at B.more q rest due? B.reads
@@ -276,7 +270,7 @@ module _ {f l₀ l : List ℕ} {at₀ all rest last at : ℕ} {out : List ℕ} {
     unfolding entry_go named_by
     read-so h = one.says ∙ rw h
 
-    pub printing-no : {e : Refusal} → a ≡ No e → EntriesDone f l₀ l' all at₀ out o m₂ (record { read = a; at = p₂ })
+    pub printing-no : {e : Refusal} → a ≡ Err e → EntriesDone f l₀ l' all at₀ out o m₂ (record { read = Err e; at = p₂ })
     printing-no is =
         record {
           passed = entries-no g.reading due? one is;
@@ -285,11 +279,11 @@ module _ {f l₀ l : List ℕ} {at₀ all rest last at : ℕ} {out : List ℕ} {
               not-got (ap (out_going f l') (sym is) ∙ read-so F.first);
         }
 
-    pub printing-on : {e : ℕ} {c : Cursor} → a ≡ Got e c → length l' ≡ length l → length m₂ ≡ length m → EntriesPrinting f l₀ l' at₀ all (rest - 1) e c.at out o m₂ p₂
+    pub printing-on : {e : ℕ} {c : Cursor} → a ≡ Ok (e, c) → length l' ≡ length l → length m₂ ≡ length m → EntriesPrinting f l₀ l' at₀ all (rest - 1) e c.at out o m₂ p₂
     unfolding print_entries go_entry upto_entry
     printing-on {e} {c} is long kept =
         record {
-          reading = entries_next g.reading due? one is long;
+          reading = entries_next g.reading due? one is long refl;
           long = kept ∙ g.long;
           left = λ es q r.
               let B = g.left es q r in

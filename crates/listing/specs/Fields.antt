@@ -1,5 +1,5 @@
 -- The lines of an entry's fields. Assumes nothing.
-use Rattle.std.specs.Prelude.{◌≡◌, refl, false, List, ◌++◌, map, ℕ, ◌-◌, ◌≤◌, ◌<◌, length, replicate}
+use Rattle.std.specs.Prelude.{Err, Ok, Result, ◌≡◌, refl, false, List, ◌++◌, map, ℕ, ◌-◌, ◌≤◌, ◌<◌, length, replicate}
 use Rattle.std.proofs.Common.{sym, ap, ◌∙◌, arith}
 use Rattle.paper.specs.Reader.{got, turned, Rule, ◌>>◌, give, times}
 use Rattle.paper.specs.Numbers.{v64, number}
@@ -10,19 +10,11 @@ use Rattle.paper.specs.File.{Upto, restrictions, kind, end_offset, new_field, up
 use Rattle.paper.specs.Listing.{old_line, new_line}
 use Rattle.laws.specs.Laws.{not-got, bind_inv}
 use Rattle.lay.specs.Laid.{most, Laid, laid_then, laid_as, Leads, leads-start, leads-on, leads-end}
-use Rattle.numbers.specs.Cursors.{Read, refusal_of, was-got, was-refused, its-refusal}
+use Rattle.numbers.specs.Cursors.{Step, Outcome, Read, was-got, was-refused}
 use Rattle.numbers.specs.declared.Cursor.{Cursor}
 use Rattle.numbers.specs.declared.Refusal.{Refusal}
-use Rattle.numbers.specs.declared.Number.{Number}
-use Rattle.numbers.specs.declared.Number.TheVariants.{Got, No}
 use Rattle.reader.specs.Kinds.{named_by, kind_in, out_kind, KindReads}
 use Rattle.reader.specs.declared.kinds.Kind.{Kind as KindRow}
-use Rattle.reader.specs.declared.kinds.KindRead.{KindRead}
-use Rattle.reader.specs.declared.kinds.KindRead.TheVariants as kinds
-use Rattle.numbers.specs.declared.Step.{Step}
-use Rattle.numbers.specs.declared.Step.TheVariants as step
-use Rattle.listing.specs.declared.fields.Listed.{Listed}
-use Rattle.listing.specs.declared.fields.Listed.TheVariants as listed
 use Rattle.listing.specs.Prints.{StandsBy, Prints, prints-none, number-got, times-first, times_none}
 use Rattle.listing.specs.Maps.{new_kind, FieldPut}
 
@@ -34,18 +26,18 @@ new_words gs = flat new_line (map what gs)
 
 -- ── a number that keeps its rules, read without them ──
 
-module _ {f : List ℕ} {at : ℕ} {a : Number} (R : Read v64 18446744073709551616 f at a) (rules : ℕ → List Rule) {n e : ℕ} (h : number rules f at ≡ got n e) where
-  not-refused : {u : Refusal} → a ≡ No u → ⊥
+module _ {f : List ℕ} {at : ℕ} {a : Outcome ℕ} (R : Read v64 18446744073709551616 f at a) (rules : ℕ → List Rule) {n e : ℕ} (h : number rules f at ≡ got n e) where
+  not-refused : {u : Refusal} → a ≡ Err u → ⊥
   not-refused is = not-got (sym (was-refused R is).says ∙ (number-got rules f at n e h).0)
 
-  as_read : {x : ℕ} {c : Cursor} → a ≡ Got x c → (x ≡ n) × (c.at ≡ e)
+  as_read : {x : ℕ} {c : Cursor} → a ≡ Ok (x, c) → (x ≡ n) × (c.at ≡ e)
   as_read {x} {c} is = let z : got x c.at ≡ got n e = sym (was-got R is).says ∙ (number-got rules f at n e h).0 in (cc z, cc z)
 
 -- ── the ends of known fields ──
 
 abbrev pub StepTo : ℕ → Step → Type 0
-StepTo q (step.Got c) = c.at ≡ q
-StepTo q (step.No e) = ⊥
+StepTo q (Ok c) = c.at ≡ q
+StepTo q (Err e) = ⊥
 
 pub record PastAll (n : ℕ) (f : List ℕ) (at : ℕ) (r : Step) : Type 0 where
   pub there : (before : ℕ) (es : List ℕ) (e : ℕ) → times n end_offset (λ b x. x) before f at ≡ got es e → StepTo e r
@@ -59,8 +51,8 @@ pub passing-start : (n : ℕ) (f : List ℕ) (at : ℕ) → Passing n f at n at
 passing-start n f at = record { fewer = omega arith; left = λ before es e h. (before, es, h) }
 
 module _ {n : ℕ} {f : List ℕ} {at rest here : ℕ} (g : Passing n f at rest here) where
-  module _ (due : 0 < rest) {a : Number} (R : Read v64 18446744073709551616 f here a) where
-    pub passing-no : {u : Refusal} → a ≡ No u → {s : Step} → PastAll n f at s
+  module _ (due : 0 < rest) {a : Outcome ℕ} (R : Read v64 18446744073709551616 f here a) where
+    pub passing-no : {u : Refusal} → a ≡ Err u → {s : Step} → PastAll n f at s
     unfolding end_offset
     passing-no is =
         record {
@@ -70,7 +62,7 @@ module _ {n : ℕ} {f : List ℕ} {at rest here : ℕ} (g : Passing n f at rest 
               absurd (not-refused R (end_rules b) F.first is);
         }
 
-    pub passing-on : {x : ℕ} {c : Cursor} → a ≡ Got x c → Passing n f at (rest - 1) c.at
+    pub passing-on : {x : ℕ} {c : Cursor} → a ≡ Ok (x, c) → Passing n f at (rest - 1) c.at
     unfolding end_offset
     passing-on is =
         record {
@@ -82,7 +74,7 @@ module _ {n : ℕ} {f : List ℕ} {at rest here : ℕ} (g : Passing n f at rest 
               (F.value, F.more, rw z F.rest);
         }
 
-  pub passing-done : rest ≤ 0 → {c : Cursor} → c.at ≡ here → PastAll n f at (step.Got c)
+  pub passing-done : rest ≤ 0 → {c : Cursor} → c.at ≡ here → PastAll n f at (Ok c)
   passing-done le is =
       record {
         there = λ before es e h.
@@ -93,15 +85,15 @@ module _ {n : ℕ} {f : List ℕ} {at rest here : ℕ} (g : Passing n f at rest 
 -- ── the kind of a new field ──
 
 -- the answer is what is kept of the kind behind the number of restrictions
-pub record NewKind (f : List ℕ) (at : ℕ) (k : KindRead) : Type 0 where
+pub record NewKind (f : List ℕ) (at : ℕ) (k : Outcome KindRow) : Type 0 where
   pub says : out_kind k ≡ turned noted (new_kind f at)
 
-module _ {f : List ℕ} {at : ℕ} {a : Number} (R : Read restrictions 1 f at a) where
-  pub kind-cut : {e u : Refusal} → a ≡ No e → u ≡ refusal_of a → NewKind f at (kinds.No u)
+module _ {f : List ℕ} {at : ℕ} {a : Outcome ℕ} (R : Read restrictions 1 f at a) where
+  pub kind-cut : {e : Refusal} → a ≡ Err e → NewKind f at (Err e)
   unfolding new_kind ◌>>◌
-  kind-cut is same = record { says = rw (its-refusal R is same).says }
+  kind-cut is = record { says = rw (was-refused R is).says }
 
-  pub kind-behind : {n : ℕ} {c : Cursor} → a ≡ Got n c → {k : KindRead} → KindReads (named_by false 0) f c.at k → NewKind f at k
+  pub kind-behind : {n : ℕ} {c : Cursor} → a ≡ Ok (n, c) → {k : Outcome KindRow} → KindReads (named_by false 0) f c.at k → NewKind f at k
   unfolding new_kind ◌>>◌ named_by
   kind-behind is K = record { says = rw (was-got R is).says K.says }
 
@@ -138,21 +130,21 @@ new-parts t u f at g q h =
       is = cc D.rest;
     }
 
-module _ {f : List ℕ} {at : ℕ} {k : KindRead} (K : NewKind f at k) where
+module _ {f : List ℕ} {at : ℕ} {k : Outcome KindRow} (K : NewKind f at k) where
   here : {t : ℕ} {u : Upto} {g : New × ℕ} {q : ℕ} (N : NewParts t u f at g q) → out_kind k ≡ got (noted N.own) N.after-kind
   here N = K.says ∙ ap (turned noted) N.kind-read
 
-  pub new-no-kind : {e : Refusal} → k ≡ kinds.No e → {l : List ℕ} {o : ℕ} {m : List ℕ} {b : Listed} (t : ℕ) (u : Upto) → Prints (new_field any_type t u) new_word f at l o m b
+  pub new-no-kind : {e : Refusal} → k ≡ Err e → {l : List ℕ} {o : ℕ} {m : List ℕ} {b : Result (Cursor × ℕ) Refusal} (t : ℕ) (u : Upto) → Prints (new_field any_type t u) new_word f at l o m b
   new-no-kind is t u = prints-none (λ g q h. not-got (ap out_kind (sym is) ∙ here (new-parts t u f at g q h)))
 
-  module _ {row : KindRow} {c₁ : Cursor} (is : k ≡ kinds.Got row c₁) {a : Number} (R : Read v64 18446744073709551616 f c₁.at a) where
+  module _ {row : KindRow} {c₁ : Cursor} (is : k ≡ Ok (row, c₁)) {a : Outcome ℕ} (R : Read v64 18446744073709551616 f c₁.at a) where
     name-there : {t : ℕ} {u : Upto} {g : New × ℕ} {q : ℕ} (N : NewParts t u f at g q) → number (field_name_rules t u.state) f c₁.at ≡ got N.name N.after-name
     name-there N = let z : c₁.at ≡ N.after-kind = cc (ap out_kind (sym is) ∙ here N) in rw z N.name-read
 
-    pub new-no-name : {e : Refusal} → a ≡ No e → {l : List ℕ} {o : ℕ} {m : List ℕ} {b : Listed} (t : ℕ) (u : Upto) → Prints (new_field any_type t u) new_word f at l o m b
+    pub new-no-name : {e : Refusal} → a ≡ Err e → {l : List ℕ} {o : ℕ} {m : List ℕ} {b : Result (Cursor × ℕ) Refusal} (t : ℕ) (u : Upto) → Prints (new_field any_type t u) new_word f at l o m b
     new-no-name no? t u = prints-none (λ g q h. not-refused R (field_name_rules t u.state) (name-there (new-parts t u f at g q h)) no?)
 
-    module _ {n : ℕ} {c₂ : Cursor} (got? : a ≡ Got n c₂) {d : Number} (E : Read v64 18446744073709551616 f c₂.at d) where
+    module _ {n : ℕ} {c₂ : Cursor} (got? : a ≡ Ok (n, c₂)) {d : Outcome ℕ} (E : Read v64 18446744073709551616 f c₂.at d) where
       as-named : {t : ℕ} {u : Upto} {g : New × ℕ} {q : ℕ} (N : NewParts t u f at g q) → (n ≡ N.name) × (c₂.at ≡ N.after-name)
       as-named {t} {u} N = as_read R (field_name_rules t u.state) (name-there N) got?
 
@@ -160,11 +152,11 @@ module _ {f : List ℕ} {at : ℕ} {k : KindRead} (K : NewKind f at k) where
       unfolding end_offset
       end-there N = rw (as-named N).1 N.end_read
 
-      pub new-no-end : {e : Refusal} → d ≡ No e → {l : List ℕ} {o : ℕ} {m : List ℕ} {b : Listed} (t : ℕ) (u : Upto) → Prints (new_field any_type t u) new_word f at l o m b
+      pub new-no-end : {e : Refusal} → d ≡ Err e → {l : List ℕ} {o : ℕ} {m : List ℕ} {b : Result (Cursor × ℕ) Refusal} (t : ℕ) (u : Upto) → Prints (new_field any_type t u) new_word f at l o m b
       new-no-end no? t u = prints-none (λ g q h. not-refused E (end_rules u.end) (end-there (new-parts t u f at g q h)) no?)
 
-      module _ {x : ℕ} {c₃ : Cursor} (ended? : d ≡ Got x c₃) {l : List ℕ} {o : ℕ} {m : List ℕ} {p : ℕ} where
-        pub new-printed : FieldPut f at row n l o m p → (t : ℕ) (u : Upto) → Prints (new_field any_type t u) new_word f at l o m (listed.Got c₃ p)
+      module _ {x : ℕ} {c₃ : Cursor} (ended? : d ≡ Ok (x, c₃)) {l : List ℕ} {o : ℕ} {m : List ℕ} {p : ℕ} where
+        pub new-printed : FieldPut f at row n l o m p → (t : ℕ) (u : Upto) → Prints (new_field any_type t u) new_word f at l o m (Ok (c₃, p))
         new-printed L t u =
             record {
               there = λ g q h.
@@ -196,7 +188,7 @@ news-start f n at l o a b =
     }
 
 module _ {f : List ℕ} {n at : ℕ} {l : List ℕ} {o rest here : ℕ} {m : List ℕ} {p : ℕ} (g : NewsPrinting f n at l o rest here m p) where
-  module _ (due : 0 < rest) {m₂ : List ℕ} {b : Listed} (one : (t : ℕ) (u : Upto) → Prints (new_field any_type t u) new_word f here m p m₂ b) where
+  module _ (due : 0 < rest) {m₂ : List ℕ} {b : Result (Cursor × ℕ) Refusal} (one : (t : ℕ) (u : Upto) → Prints (new_field any_type t u) new_word f here m p m₂ b) where
     -- the first of them stands there
     first-there :
         (t : ℕ) {gs : List (New × ℕ)} {q : ℕ} (B : NewsLeft t f gs q l o rest here m p)
@@ -205,10 +197,10 @@ module _ {f : List ℕ} {n at : ℕ} {l : List ℕ} {o rest here : ℕ} {m : Lis
         let F = times-first (new_field any_type t) (upto_new t) B.upto f here B.more q rest due B.reads in
         (one t B.upto).there F.value F.next F.first
 
-    pub news-no : {e : Refusal} → b ≡ listed.No e → {m' : List ℕ} {b' : Listed} (t : ℕ) (u : Upto) → Prints (times n (new_field any_type t) (upto_new t) u) new_words f at l o m' b'
+    pub news-no : {e : Refusal} → b ≡ Err e → {m' : List ℕ} {b' : Result (Cursor × ℕ) Refusal} (t : ℕ) (u : Upto) → Prints (times n (new_field any_type t) (upto_new t) u) new_words f at l o m' b'
     news-no is t u = prints-none {r = times n (new_field any_type t) (upto_new t) u} (λ gs q r. let S = first-there t (g.left t u gs q r) in rw is at S)
 
-    pub news-on : {c : Cursor} {p₂ : ℕ} → b ≡ listed.Got c p₂ → length m₂ ≡ length m → NewsPrinting f n at l o (rest - 1) c.at m₂ p₂
+    pub news-on : {c : Cursor} {p₂ : ℕ} → b ≡ Ok (c, p₂) → length m₂ ≡ length m → NewsPrinting f n at l o (rest - 1) c.at m₂ p₂
     unfolding flat
     news-on {c} {p₂} is kept =
         record {
@@ -226,7 +218,7 @@ module _ {f : List ℕ} {n at : ℕ} {l : List ℕ} {o rest here : ℕ} {m : Lis
               };
         }
 
-  pub news-done : rest ≤ 0 → {c : Cursor} → c.at ≡ here → (t : ℕ) (u : Upto) → Prints (times n (new_field any_type t) (upto_new t) u) new_words f at l o m (listed.Got c p)
+  pub news-done : rest ≤ 0 → {c : Cursor} → c.at ≡ here → (t : ℕ) (u : Upto) → Prints (times n (new_field any_type t) (upto_new t) u) new_words f at l o m (Ok (c, p))
   unfolding flat
   news-done le is t u =
       record {
@@ -241,23 +233,23 @@ module _ {f : List ℕ} {n at : ℕ} {l : List ℕ} {o rest here : ℕ} {m : Lis
 abbrev pub old_words : ℕ → List ℕ
 old_words known = flat (λ (u : Unit {0}). old_line) (replicate known tt)
 
-pub record FieldsPrinted (known count : ℕ) (f : List ℕ) (at : ℕ) (l : List ℕ) (o : ℕ) (m : List ℕ) (r : Listed) : Type 0 where
+pub record FieldsPrinted (known count : ℕ) (f : List ℕ) (at : ℕ) (l : List ℕ) (o : ℕ) (m : List ℕ) (r : Result (Cursor × ℕ) Refusal) : Type 0 where
   pub there :
       (before : ℕ) (es : List ℕ) (e : ℕ) → times known end_offset (λ b x. x) before f at ≡ got es e
       → (t : ℕ) (u : Upto) (gs : List (New × ℕ)) (q : ℕ) → times count (new_field any_type t) (upto_new t) u f e ≡ got gs q → StandsBy l o (old_words known ++ new_words gs) m q r
 
 behind-olds :
-    {l m : List ℕ} {o p : ℕ} (known : ℕ) → Laid l o (old_words known) m p → (m₂ : List ℕ) (gs : List (New × ℕ)) (q : ℕ) (r : Listed) → StandsBy m p (new_words gs) m₂ q r
+    {l m : List ℕ} {o p : ℕ} (known : ℕ) → Laid l o (old_words known) m p → (m₂ : List ℕ) (gs : List (New × ℕ)) (q : ℕ) (r : Result (Cursor × ℕ) Refusal) → StandsBy m p (new_words gs) m₂ q r
     → StandsBy l o (old_words known ++ new_words gs) m₂ q r
-behind-olds known L m₂ gs q (listed.Got d e) S = (laid_then L S.0, S.1)
-behind-olds known L m₂ gs q (listed.No e) S = S
+behind-olds known L m₂ gs q (Ok (d, e)) S = (laid_then L S.0, S.1)
+behind-olds known L m₂ gs q (Err e) S = S
 
 module _ {known : ℕ} (count : ℕ) {f : List ℕ} {at : ℕ} {a : Step} (P : PastAll known f at a) where
-  pub fields-none : {e : Refusal} → a ≡ step.No e → {l : List ℕ} {o : ℕ} {m : List ℕ} {r : Listed} → FieldsPrinted known count f at l o m r
+  pub fields-none : {e : Refusal} → a ≡ Err e → {l : List ℕ} {o : ℕ} {m : List ℕ} {r : Result (Cursor × ℕ) Refusal} → FieldsPrinted known count f at l o m r
   fields-none is = record { there = λ before es e h t u gs q k. absurd (rw is at (P.there before es e h)) }
 
   pub fields-printed :
-      {c : Cursor} → a ≡ step.Got c → {l m : List ℕ} {o p : ℕ} → Laid l o (old_words known) m p → {m₂ : List ℕ} {r : Listed}
+      {c : Cursor} → a ≡ Ok c → {l m : List ℕ} {o p : ℕ} → Laid l o (old_words known) m p → {m₂ : List ℕ} {r : Result (Cursor × ℕ) Refusal}
       → ((t : ℕ) (u : Upto) → Prints (times count (new_field any_type t) (upto_new t) u) new_words f c.at m p m₂ r) → FieldsPrinted known count f at l o m₂ r
   fields-printed {c} is L {m₂} {r} N =
       record {

@@ -1,5 +1,5 @@
 -- The lines of what stands in a pair before its values. Assumes nothing.
-use Rattle.std.specs.Prelude.{◌≡◌, false, ℕ, ◌+◌, ◌-◌, ◌≤◌, ◌<◌, take}
+use Rattle.std.specs.Prelude.{Err, Ok, ◌≡◌, false, ℕ, ◌+◌, ◌-◌, ◌≤◌, ◌<◌, take}
 use Rattle.std.proofs.Math.Path.{refl, sym, ap}
 use Rattle.std.proofs.Common.{◌∙◌, arith, add-one, drop_of_length-le}
 use mathlib.Core.List.{List, [], ◌∷◌, ◌++◌, map}
@@ -17,13 +17,9 @@ use Rattle.lay.specs.Laid.{most, Laid, laid_then, laid_as, Leads, leads-start, l
 use Rattle.table.specs.View.{strs_of, view, said, Said, Holds, strings_in}
 use Rattle.table.specs.Answers.{Stands}
 use Rattle.table.specs.NameLaws.{part_of}
-use Rattle.numbers.specs.Cursors.{Read, was-got, was-refused, no_step, out_step}
+use Rattle.numbers.specs.Cursors.{Step, Outcome, Read, was-got, was-refused, out_step}
 use Rattle.numbers.specs.declared.Cursor.{Cursor}
 use Rattle.numbers.specs.declared.Refusal.{Refusal}
-use Rattle.numbers.specs.declared.Number.{Number}
-use Rattle.numbers.specs.declared.Number.TheVariants.{Got, No}
-use Rattle.numbers.specs.declared.Step.{Step}
-use Rattle.numbers.specs.declared.Step.TheVariants as step
 use Rattle.reader.specs.Kinds.{named_by}
 use Rattle.reader.specs.Strings.{Did, add_strings}
 use Rattle.reader.specs.Entries.{front_go}
@@ -113,14 +109,14 @@ module _ {f : List ℕ} (l : List ℕ) {l₁ : List ℕ} {at : ℕ} {a : Step} (
   did_so : {strings : List (List ℕ)} {e : ℕ} → string_block (view f l) f at ≡ got strings e → out_step a (said f l₁) ≡ got (add_strings (said f l) strings) e
   did_so h = did.says ∙ rw h
 
-  pub front-no-strings : {e u : Refusal} → a ≡ step.No e → u ≡ no_step a → {out : List ℕ} {o : ℕ} → FrontDone f l l₁ at out o out (record { read = No u; at = o })
-  front-no-strings is same =
+  pub front-no-strings : {e : Refusal} → a ≡ Err e → {out : List ℕ} {o : ℕ} → FrontDone f l l₁ at out o out (record { read = Err e; at = o })
+  front-no-strings is =
       record {
-        passed = front-unstrung l (named_by false 0) did is same;
+        passed = front-unstrung l (named_by false 0) did is;
         text = λ d q h. not-got (ap (λ (x : Step). out_step x (said f l₁)) (sym is) ∙ did_so (front-parts (view f l) f at d q h).strings-read);
       }
 
-  module _ {c₁ : Cursor} (is : a ≡ step.Got c₁) where
+  module _ {c₁ : Cursor} (is : a ≡ Ok c₁) where
     both : {strings : List (List ℕ)} {e : ℕ} → string_block (view f l) f at ≡ got strings e → got (said f l₁) c₁.at ≡ got (add_strings (said f l) strings) e
     both h = ap (λ (x : Step). out_step x (said f l₁)) (sym is) ∙ did_so h
 
@@ -137,18 +133,18 @@ module _ {f : List ℕ} (l : List ℕ) {l₁ : List ℕ} {at : ℕ} {a : Step} (
             omega (arith, long, H.strs-count, did.holds.strs-count)
         go (no n p) q = not-got (sym q)
 
-    module _ {b : Number} (counted : Read small 65536 f c₁.at b) where
+    module _ {b : Outcome ℕ} (counted : Read small 65536 f c₁.at b) where
       count-so : {d : Front} {q : ℕ} (P : FrontParts (view f l) f at d q) → small f c₁.at ≡ got P.count P.after-count
       count-so P = let z : c₁.at ≡ P.after-strings = cc (both P.strings-read) in ap (small f) z ∙ P.count-read
 
-      pub front-no-count : {e : Refusal} → b ≡ No e → {out : List ℕ} {o : ℕ} → FrontDone f l l₁ at out o out (record { read = b; at = o })
+      pub front-no-count : {e : Refusal} → b ≡ Err e → {out : List ℕ} {o : ℕ} → FrontDone f l l₁ at out o out (record { read = Err e; at = o })
       front-no-count no? =
           record {
             passed = front-uncounted l (named_by false 0) did is counted no?;
             text = λ d q h. not-got (sym (was-refused counted no?).says ∙ count-so (front-parts (view f l) f at d q h));
           }
 
-      module _ {n : ℕ} {c₂ : Cursor} (got? : b ≡ Got n c₂) (H : Holds f l) {before more : ℕ} (had : before ≡ strings_in l) (new : more ≡ strings_in l₁ - before) where
+      module _ {n : ℕ} {c₂ : Cursor} (got? : b ≡ Ok (n, c₂)) (H : Holds f l) {before more : ℕ} (had : before ≡ strings_in l) (new : more ≡ strings_in l₁ - before) where
         module _ {out m₁ m₂ m₃ : List ℕ} {o o₁ o₂ : ℕ} (L₁ : Laid out o (pair_line more n) m₁ o₁) (L₂ : Laid m₁ o₁ (flat string_line (drop before (strs_of f l₁))) m₂ o₂) {l₂ : List ℕ} {r : Printed} (D : EntriesDone f l₁ l₂ n c₂.at m₂ o₂ m₃ r) where
           front-text : {d : Front} {q : ℕ} → FrontParts (view f l) f at d q → Laid out o (front_text (view f l) d) m₃ r.at
           unfolding front_text add_strings with_strings

@@ -1,6 +1,6 @@
 -- The kind of a new field, and the line of a new map: its element kinds are read again from the file, of which the table keeps a
 -- byte each. Assumes nothing.
-use Rattle.std.specs.Prelude.{◌≡◌, Bool, ◌&&◌, List, [], ◌∷◌, ◌++◌, ℕ, zero, suc, ◌^◌, eqb, length}
+use Rattle.std.specs.Prelude.{Err, Ok, ◌≡◌, Bool, ◌&&◌, List, [], ◌∷◌, ◌++◌, ℕ, zero, suc, ◌^◌, eqb, length}
 use Rattle.std.proofs.Math.Path.{refl}
 use Rattle.std.proofs.Common.{sym, ap, ◌∙◌, subst, append_assoc, ne_eqb}
 use Rattle.std.proofs.Math.Bool.{true, false}
@@ -16,11 +16,9 @@ use Rattle.laws.specs.Bools.{not_so}
 use Rattle.laws.specs.Cells.{commas, joined-commas}
 use Rattle.lay.specs.Laid.{Laid, laid_then, laid_as}
 use Rattle.table.specs.View.{kind_from}
-use Rattle.numbers.specs.Cursors.{out_of, Read, was-got, was-refused}
+use Rattle.numbers.specs.Cursors.{Outcome, out_of, Read, was-got, was-refused}
 use Rattle.numbers.specs.declared.Cursor.{Cursor}
 use Rattle.numbers.specs.declared.Refusal.{Refusal}
-use Rattle.numbers.specs.declared.Number.{Number}
-use Rattle.numbers.specs.declared.Number.TheVariants.{Got, No}
 use Rattle.values.specs.Filling.{repeat-first}
 use Rattle.reader.specs.Kinds.{constant_of, array_of, many_of, mapping_of, kind_in}
 use Rattle.reader.specs.KindLaws.{kind-mapping}
@@ -177,25 +175,25 @@ map-parts f at ks q h =
 
 -- ── its number of types ──
 
-abbrev pub TypesAt : List ℕ → List ℕ → ℕ → Number → Type 0
-TypesAt f ks q (Got n c) = (n ≡ length ks) × (repeat n v64 f c.at ≡ got ks q)
-TypesAt f ks q (No e) = ⊥
+abbrev pub TypesAt : List ℕ → List ℕ → ℕ → Outcome ℕ → Type 0
+TypesAt f ks q (Ok (n, c)) = (n ≡ length ks) × (repeat n v64 f c.at ≡ got ks q)
+TypesAt f ks q (Err e) = ⊥
 
-pub record MapTypes (f : List ℕ) (at : ℕ) (a : Number) : Type 0 where
+pub record MapTypes (f : List ℕ) (at : ℕ) (a : Outcome ℕ) : Type 0 where
   pub there : (ks : List ℕ) (q : ℕ) → new_kind f at ≡ got (mapping ks) q → TypesAt f ks q a
 
-module _ {f : List ℕ} {at : ℕ} {a : Number} (R : Read restrictions 1 f at a) where
-  pub types-no-map : {e : Refusal} → a ≡ No e → {b : Number} → MapTypes f at b
+module _ {f : List ℕ} {at : ℕ} {a : Outcome ℕ} (R : Read restrictions 1 f at a) where
+  pub types-no-map : {e : Refusal} → a ≡ Err e → {b : Outcome ℕ} → MapTypes f at b
   types-no-map is = record { there = λ ks q h. not-got (sym (was-refused R is).says ∙ (map-parts f at ks q h).none_read) }
 
-  module _ {x : ℕ} {c : Cursor} (is : a ≡ Got x c) {b : Number} (S : Read v64 (2 ^ 64) f c.at b) where
+  module _ {x : ℕ} {c : Cursor} (is : a ≡ Ok (x, c)) {b : Outcome ℕ} (S : Read v64 (2 ^ 64) f c.at b) where
     first-there : {ks : List ℕ} {q : ℕ} (P : MapParts f at ks q) → v64 f c.at ≡ got P.first P.after_first
     first-there P = let z : c.at ≡ P.after_none = cc (sym (was-got R is).says ∙ P.none_read) in rw z P.first_read
 
-    pub types-no-kind : {e : Refusal} → b ≡ No e → {d : Number} → MapTypes f at d
+    pub types-no-kind : {e : Refusal} → b ≡ Err e → {d : Outcome ℕ} → MapTypes f at d
     types-no-kind no? = record { there = λ ks q h. not-got (sym (was-refused S no?).says ∙ first-there (map-parts f at ks q h)) }
 
-    pub types-read : {y : ℕ} {c₂ : Cursor} → b ≡ Got y c₂ → {d : Number} → Read v64 (2 ^ 64) f c₂.at d → MapTypes f at d
+    pub types-read : {y : ℕ} {c₂ : Cursor} → b ≡ Ok (y, c₂) → {d : Outcome ℕ} → Read v64 (2 ^ 64) f c₂.at d → MapTypes f at d
     types-read {y} {c₂} got? {d} T =
         record {
           there = λ ks q h.
@@ -204,9 +202,9 @@ module _ {f : List ℕ} {at : ℕ} {a : Number} (R : Read restrictions 1 f at a)
               told d ks q P.after-count (T.says ∙ rw z P.count-read) P.kinds-read;
         }
       where
-        told : (n : Number) (ks : List ℕ) (q p : ℕ) → out_of n ≡ got (length ks) p → repeat (length ks) v64 f p ≡ got ks q → TypesAt f ks q n
-        told (Got n c) ks q p h r = let m : n ≡ length ks = cc h in let e : c.at ≡ p = cc h in (m, rw (m, e) r)
-        told (No e) ks q p h r = not-got h
+        told : (n : Outcome ℕ) (ks : List ℕ) (q p : ℕ) → out_of n ≡ got (length ks) p → repeat (length ks) v64 f p ≡ got ks q → TypesAt f ks q n
+        told (Ok (n, c)) ks q p h r = let m : n ≡ length ks = cc h in let e : c.at ≡ p = cc h in (m, rw (m, e) r)
+        told (Err e) ks q p h r = not-got h
 
 -- ── its line ──
 
@@ -224,12 +222,12 @@ map-line :
 unfolding ascii new_line line kind_word joined
 map-line ks name = rw (joined-commas decimal (decimal (length ks)) ks, twenty) (simp append_assoc)
 
-module _ {f : List ℕ} {at : ℕ} {a : Number} (T : MapTypes f at a) {name : ℕ} {l : List ℕ} {o : ℕ} where
-  pub map-no-types : {e : Refusal} → a ≡ No e → {m : List ℕ} {p : ℕ} → MapPrinted f at name l o m p
+module _ {f : List ℕ} {at : ℕ} {a : Outcome ℕ} (T : MapTypes f at a) {name : ℕ} {l : List ℕ} {o : ℕ} where
+  pub map-no-types : {e : Refusal} → a ≡ Err e → {m : List ℕ} {p : ℕ} → MapPrinted f at name l o m p
   map-no-types is = record { line = λ ks q h. absurd (subst (TypesAt f ks q) is (T.there ks q h)) }
 
   pub map-printed :
-      {n : ℕ} {c : Cursor} → a ≡ Got n c → {m m₂ m₃ : List ℕ} {p p₂ p₃ : ℕ} → Laid l o (ascii "new\t20," ++ decimal n) m p
+      {n : ℕ} {c : Cursor} → a ≡ Ok (n, c) → {m m₂ m₃ : List ℕ} {p p₂ p₃ : ℕ} → Laid l o (ascii "new\t20," ++ decimal n) m p
       → Shown (λ s. repeat n v64) (commas decimal) f c.at m p m₂ p₂ → Laid m₂ p₂ (tab ∷ (decimal name ++ newline ∷ [])) m₃ p₃
       → MapPrinted f at name l o m₃ p₃
   map-printed is begin kinds end =

@@ -1,5 +1,5 @@
 -- The lines of a pair, and of all pairs of an accepted file. Assumes nothing.
-use Rattle.std.specs.Prelude.{◌≡◌, refl, ◌⊎◌, ℕ, zero, suc, ◌+◌, ◌-◌, ◌≤◌, ◌<◌, length}
+use Rattle.std.specs.Prelude.{Err, Ok, ◌≡◌, refl, ◌⊎◌, ℕ, zero, suc, ◌+◌, ◌-◌, ◌≤◌, ◌<◌, length}
 use Rattle.std.proofs.Math.Path.{sym, ap}
 use Rattle.std.proofs.Common.{◌∙◌, inl, inr, arith}
 use mathlib.Core.List.{List, [], ◌∷◌, ◌++◌, append-nil}
@@ -14,11 +14,10 @@ use Rattle.laws.specs.Laws.{not-got, part-inv}
 use Rattle.laws.specs.Longer.{AtEnd, Before, unless_end-inv}
 use Rattle.laws.specs.Damage.{Parts, parts, Went, went-through}
 use Rattle.lay.specs.Laid.{most, Laid, laid_then, laid_as, Leads, leads-start, leads-on, leads-end}
-use Rattle.table.specs.View.{dues_of, chunks_of, view, said, Said, Ok, block_in}
+use Rattle.table.specs.View.{dues_of, chunks_of, view, said, Said, Ok as TableOk, block_in}
 use Rattle.table.specs.Counts.{next_block, Next}
 use Rattle.numbers.specs.declared.Cursor.{Cursor}
 use Rattle.numbers.specs.declared.Refusal.{Refusal}
-use Rattle.numbers.specs.declared.Number.TheVariants.{Got, No}
 use Rattle.reader.specs.Sound.{Sound}
 use Rattle.reader.specs.Kinds.{named_by}
 use Rattle.reader.specs.Fields.{out_going}
@@ -59,10 +58,10 @@ module _ {f l : List ℕ} {at : ℕ} (R : PairReady f l at) {l₁ out : List ℕ
   unfolding front_go named_by
   read-so h = D.passed.says ∙ rw h
 
-  pub pair-not-read : {e : Refusal} → r.read ≡ No e → {l' : List ℕ} {m' : List ℕ} {h : Behind} → PairPrinted f l l' at out o m' h
+  pub pair-not-read : {e : Refusal} → r.read ≡ Err e → {l' : List ℕ} {m' : List ℕ} {h : Behind} → PairPrinted f l l' at out o m' h
   pair-not-read is = record { printed = λ K. not-got (ap (out_going f l₁) (sym is) ∙ read-so (parts (view f l) f at K.own K.end K.read).first) }
 
-  module _ {size : ℕ} {c : Cursor} (is : r.read ≡ Got size c) where
+  module _ {size : ℕ} {c : Cursor} (is : r.read ≡ Ok (size, c)) where
     F : Fronted f l l₁ at size c.at
     F = fronted R D.passed is
 
@@ -154,7 +153,7 @@ module _ {f l : List ℕ} {at : ℕ} (R : PairReady f l at) {l₁ out : List ℕ
     pair-printed Q N there = record { printed = λ K. pair-text K Q N there }
 
     -- what ending the block asks
-    pub block-ends : Ok l₁ × (block_in l₁ < 4294967295)
+    pub block-ends : TableOk l₁ × (block_in l₁ < 4294967295)
     block-ends = (D.passed.holds.ok, omega (arith, sound.block))
 
 -- ── all pairs ──

@@ -1,5 +1,5 @@
 -- What is read, printed: for a reading that succeeds, its text stands there and the cursor is behind it. Assumes nothing.
-use Rattle.std.specs.Prelude.{◌≡◌, refl, true, false, List, [], ◌∷◌, replicate}
+use Rattle.std.specs.Prelude.{Err, Ok, Result, ◌≡◌, refl, true, false, List, [], ◌∷◌, replicate}
 use Prim.Native.Nat.{ℕ, zero, suc, ◌-◌, ◌≤◌, ◌<◌}
 use native.Mathlib.Omega.{arith}
 use Rattle.paper.specs.Reader.{Reader, Out, got, no, and_then, hold, must, Rule, ◌or_no◌, give, each, times}
@@ -7,20 +7,18 @@ use Rattle.paper.specs.Numbers.{v64, number}
 use Rattle.paper.specs.Keeps.{hold?}
 use Rattle.laws.specs.Laws.{not-got, each-inv}
 use Rattle.lay.specs.Laid.{Laid}
-use Rattle.listing.specs.declared.fields.Listed.{Listed}
-use Rattle.listing.specs.declared.fields.Listed.TheVariants.{Got, No}
 
 -- the words w are laid, and the cursor is at q
-abbrev pub StandsBy : List ℕ → ℕ → List ℕ → List ℕ → ℕ → Listed → Type 0
-StandsBy l at w m q (Got c p) = Laid l at w m p × (c.at ≡ q)
-StandsBy l at w m q (No e) = ⊥
+abbrev pub StandsBy : List ℕ → ℕ → List ℕ → List ℕ → ℕ → Result (Cursor × ℕ) Refusal → Type 0
+StandsBy l at w m q (Ok (c, p)) = Laid l at w m p × (c.at ≡ q)
+StandsBy l at w m q (Err e) = ⊥
 
-pub record Prints {A : Type 0} (r : Reader A) (w : A → List ℕ) (f : List ℕ) (from : ℕ) (l : List ℕ) (at : ℕ) (m : List ℕ) (o : Listed) : Type 0 where
+pub record Prints {A : Type 0} (r : Reader A) (w : A → List ℕ) (f : List ℕ) (from : ℕ) (l : List ℕ) (at : ℕ) (m : List ℕ) (o : Result (Cursor × ℕ) Refusal) : Type 0 where
   pub there : (v : A) (q : ℕ) → r f from ≡ got v q → StandsBy l at (w v) m q o
 
 -- nothing is promised where nothing is read
 pub prints-none :
-    {A : Type 0} {r : Reader A} {w : A → List ℕ} {f : List ℕ} {from : ℕ} {l : List ℕ} {at : ℕ} {m : List ℕ} {o : Listed}
+    {A : Type 0} {r : Reader A} {w : A → List ℕ} {f : List ℕ} {from : ℕ} {l : List ℕ} {at : ℕ} {m : List ℕ} {o : Result (Cursor × ℕ) Refusal}
     → ((v : A) (q : ℕ) → r f from ≡ got v q → ⊥) → Prints r w f from l at m o
 prints-none never = record { there = λ v q h. absurd (never v q h) }
 

@@ -1,5 +1,6 @@
 -- The call: a file as text. Assumes nothing.
-use Rattle.std.specs.Prelude.{◌≡◌, refl, Bool, true, false, List, [], ◌++◌, ℕ, ◌^◌, ◌≤◌, ◌<◌, leb, drop}
+use Rattle.std.specs.Prelude as prelude
+use Rattle.std.specs.Prelude.{Err, Ok, ◌≡◌, refl, Bool, true, false, List, [], ◌++◌, ℕ, ◌^◌, ◌≤◌, ◌<◌, leb, drop, Result}
 use Rattle.std.proofs.Common.{sym, ◌∙◌, leb-true}
 use Rattle.std.proofs.Math.Path.{ap, subst}
 use native.Mathlib.Omega.{arith}
@@ -16,24 +17,23 @@ use Rattle.laws.specs.Longer.{file-inv}
 use Rattle.laws.specs.Says.{Bytes}
 use Rattle.laws.specs.Promises.{fitted-done}
 use Rattle.lay.specs.Laid.{most, Laid}
-use Rattle.table.specs.View.{view, Said, Ok}
+use Rattle.table.specs.View.{view, Said, Ok as TableOk}
 use Rattle.table.specs.Counts.{noughts, begun, Begun}
 use Rattle.numbers.specs.declared.Cursor.{Cursor}
 use Rattle.numbers.specs.declared.Refusal.{Refusal}
 use Rattle.values.specs.Filling.{sets-front}
 use Rattle.walk.specs.PairTurns.{WalkReady}
 use Rattle.walk.specs.FileLaws.{FileRead, walk-ready}
-use Rattle.numbers.specs.declared.Step.{Step}
-use Rattle.numbers.specs.declared.Step.TheVariants.{Got, No}
 use Rattle.calls.specs.Told.{answer_of, after, Wrote, wrote_none, wrote-all, read-got, read_no}
 use Rattle.calls.specs.Table.{untouched, read_short, noughts-first, read-long}
 use Rattle.calls.specs.Column.{sees, still-holds}
 use Rattle.calls.specs.Behind.{table-known, refused-file}
 use Rattle.calls.specs.Fixed.{one_way}
-use Rattle.calls.specs.declared.replies.Reply.{Reply}
-use Rattle.calls.specs.declared.replies.Reply.TheVariants.{Done, Refused}
+use Rattle.calls.specs.declared.replies.Refused.{Refused}
 use Rattle.listing.specs.Pairs.{PairsThere, PairsPrinted}
 use Rattle.listing.specs.Room.{Roomy, roomy-fits}
+use Rattle.numbers.specs.Cursors.{Step}
+use Rattle.numbers.specs.Faults.{number_of}
 
 -- the file is accepted
 pub record FileThere (f : List ℕ) : Type 0 where
@@ -44,7 +44,7 @@ pub record FileThere (f : List ℕ) : Type 0 where
 pub record FilePrinted (f out m : List ℕ) (r : ℕ) : Type 0 where
   pub text : (K : FileThere f) → Laid out 0 (print K.ledger) m r
 
-pub record TextWritten (f out : List ℕ) (r : Reply) (m : List ℕ) : Type 0 where
+pub record TextWritten (f out : List ℕ) (r : Result ℕ Refused) (m : List ℕ) : Type 0 where
   pub wrote : (K : FileThere f) → Wrote (fitted (length out) (print K.ledger)) out r m
 
 -- ── a table that knows nothing ──
@@ -77,7 +77,7 @@ module _ (f : List ℕ) {l : List ℕ} (B : Begun l) where
 -- ── counted, and then written ──
 
 module _ {f out out₁ : List ℕ} (same : out₁ ≡ out) {m₀ : List ℕ} {n : ℕ} (C : FilePrinted f [] m₀ n) (small : length out < 2 ^ 63) where
-  pub text-no-room : length out₁ < n → TextWritten f out (Refused 19) out₁
+  pub text-no-room : length out₁ < n → TextWritten f out (prelude.Err (record { number = 19 })) out₁
   unfolding fitted need ◌>>◌ ◌>>=◌ most
   text-no-room lt =
       record {
@@ -87,7 +87,7 @@ module _ {f out out₁ : List ℕ} (same : out₁ ≡ out) {m₀ : List ℕ} {n 
             rw same (wrote_none (rw (lt-leb (length (print K.ledger)) (length out) (omega (arith, count)))));
       }
 
-  pub text-written : n ≤ length out₁ → {m : List ℕ} {r : ℕ} → FilePrinted f out₁ m r → TextWritten f out (Done n) m
+  pub text-written : n ≤ length out₁ → {m : List ℕ} {r : ℕ} → FilePrinted f out₁ m r → TextWritten f out (prelude.Ok n) m
   unfolding most
   text-written le {m} {r} L =
       record {
@@ -103,7 +103,7 @@ module _ {f out out₁ : List ℕ} (same : out₁ ≡ out) {m₀ : List ℕ} {n 
 -- written at once, where it is known to fit
 pub text-direct :
     {f l out m : List ℕ} {n : ℕ} {b : Bool} → Roomy f l (length out) b → b ≡ true → Bytes f → ((K : FileThere f) → view f l ≡ known K.ledger) → length out < 2 ^ 63
-    → FilePrinted f out m n → TextWritten f out (Done n) m
+    → FilePrinted f out m n → TextWritten f out (prelude.Ok n) m
 unfolding most
 text-direct {f} {l} {out} {m} {n} R is bytes says small L =
     record {
@@ -117,12 +117,12 @@ text-direct {f} {l} {out} {m} {n} R is bytes says small L =
 
 -- the table that was read is asked for its fields
 pub record TableThere (f l : List ℕ) : Type 0 where
-  pub ok : Ok l
+  pub ok : TableOk l
   pub there : FileThere f
   pub says : (K : FileThere f) → view f l ≡ known K.ledger
 
 module _ {f l : List ℕ} {a : Step} (F : FileRead f l a) where
-  pub table-there : {c : Cursor} → a ≡ Got c → TableThere f l
+  pub table-there : {c : Cursor} → a ≡ Ok c → TableThere f l
   table-there is =
       let K = table-known F is in
       record {
@@ -134,25 +134,25 @@ module _ {f l : List ℕ} {a : Step} (F : FileRead f l a) where
       one-ledger : {x y : Ledger} {d e : ℕ} → got x d ≡ got y e → x ≡ y
       one-ledger q = cc q
 
-  pub file-there : {c : Cursor} → a ≡ Got c → FileThere f
+  pub file-there : {c : Cursor} → a ≡ Ok c → FileThere f
   file-there is = let K = table-known F is in record { ledger = K.accepted.ledger; end = K.at; read = K.accepted.read }
 
-  pub listing-accepted : {c : Cursor} (is : a ≡ Got c) {out : List ℕ} {r : Reply} {m : List ℕ} → TextWritten f out r m → Wrote (listing (length out) 16384 f) out r m
+  pub listing-accepted : {c : Cursor} (is : a ≡ Ok c) {out : List ℕ} {r : Result ℕ Refused} {m : List ℕ} → TextWritten f out r m → Wrote (listing (length out) 16384 f) out r m
   unfolding listing ◌>>=◌ file-there
   listing-accepted is T = rw (read-got f (file-there is).read) (T.wrote (file-there is))
 
-  pub listing-refused : {e : Refusal} → a ≡ No e → {out : List ℕ} → Wrote (listing (length out) 16384 f) out (Refused e.number) out
+  pub listing-refused : {e : Refusal} → a ≡ Err e → {out : List ℕ} → Wrote (listing (length out) 16384 f) out (prelude.Err (record { number = number_of e.fault })) out
   unfolding listing ◌>>=◌
   listing-refused is = wrote_none (rw (read_no f (refused-file F is)))
 
 -- ── by the length of the lent work table ──
 
-pub listing-short : (f w out : List ℕ) → length w < 16384 → after (Refused 15) w out ≡ after_listing f w out
+pub listing-short : (f w out : List ℕ) → length w < 16384 → after (prelude.Err (record { number = 15 })) w out ≡ after_listing f w out
 unfolding after_listing writes listing ◌>>=◌ answer_of how_many left_in
 listing-short f w out lt = rw (read_short f w lt, untouched f w lt)
 
 pub listing-long :
-    (f w : List ℕ) → 16384 ≤ length w → (r : Reply) {t : List ℕ} → t ≡ noughts → {out out' : List ℕ} → Wrote (listing (length out) 16384 f) out r out'
+    (f w : List ℕ) → 16384 ≤ length w → (r : Result ℕ Refused) {t : List ℕ} → t ≡ noughts → {out out' : List ℕ} → Wrote (listing (length out) 16384 f) out r out'
     → after r (t ++ drop 16384 w) out' ≡ after_listing f w out
 unfolding after_listing writes listing
 listing-long f w le r left h = rw (read-long f w le, noughts-first f w le, left, h.says, h.left)
@@ -160,5 +160,5 @@ listing-long f w le r left h = rw (read-long f w le, noughts-first f w le, left,
 -- ── the contract fixes the reply and all that is lent ──
 
 pub listing-fixed :
-    (f work out : List ℕ) {r q : Reply} {w v o p : List ℕ} → after r w o ≡ after_listing f work out → after q v p ≡ after_listing f work out → (r ≡ q) × (w ≡ v) × (o ≡ p)
+    (f work out : List ℕ) {r q : Result ℕ Refused} {w v o p : List ℕ} → after r w o ≡ after_listing f work out → after q v p ≡ after_listing f work out → (r ≡ q) × (w ≡ v) × (o ≡ p)
 listing-fixed f work out a b = one_way a b

@@ -11,43 +11,42 @@ ghost use Rattle.table.specs.View.{said};
 ghost use Rattle.reader.specs.Sound.{Sound};
 ghost use Rattle.listing.specs.Entries.{EntryPrinted, EntriesDone};
 
-use crate::fields::{Listed, print_fields};
+use crate::fields::print_fields;
 use lines::put_type;
-use numbers::{Cursor, Number};
+use numbers::{Cursor, Outcome};
 use reader::fields::{fields, known_fields};
-use reader::heads::{Top, Topped, refused_top};
+use reader::heads::Top;
 use reader::kinds::Named;
 use reader::known::enter_any;
-use words::read::Maybe;
 
 // What a reading answered, and the place behind what was printed meanwhile.
 #[derive(Clone, Copy)]
 pub struct Printed {
-    pub read: Number,
+    pub read: Outcome<u64>,
     pub at: usize,
 }
 
 // A known type's super type is known too, and left out.
-fn super_word(top: Top) -> Maybe
+fn super_word(top: Top) -> Option<u64>
     ensures { option result ≡ due top.name.fresh top.above.number }
 {
     let name = top.name;
     if name.fresh {
         let above = top.above;
-        return Maybe::Some(above.number);
+        return Some(above.number);
     }
-    Maybe::Dash
+    None
 }
 
 // A base type has no local start.
-fn start_word(top: Top) -> Maybe
+fn start_word(top: Top) -> Option<u64>
     ensures { option result ≡ due (given? (maybe top.above.up)) top.start }
 {
     let above = top.above;
     if above.up == 0 {
-        return Maybe::Dash;
+        return None;
     }
-    Maybe::Some(top.start as u64)
+    Some(top.start as u64)
 }
 
 // The `type` line.
@@ -64,10 +63,10 @@ fn put_head(out: &mut [u8], at: usize, top: Top, n: u64) -> usize
 // refusal is given by `fields`, which reads the same bytes next and holds them to their rules.
 fn print_entry(file: &[u8], c: Cursor, work: &[u32], top: Top, out: &mut [u8], at: usize) -> usize
     requires { Holds file.now work.now }
-    ensures { (l : List ℕ) (from : ℕ) → TopEntered file.now l work.now from (Topped.Got top c) → EntryPrinted file.now l from out.old at out.new result }
+    ensures { (l : List ℕ) (from : ℕ) → TopEntered file.now l work.now from (Ok (top, c)) → EntryPrinted file.now l from out.old at out.new result }
 {
     let a = c.v64(file);
-    let Number::Got(n, fields_at) = a else {
+    let Ok((n, fields_at)) = a else {
         return at;
     };
     let name = top.name;
@@ -77,7 +76,7 @@ fn print_entry(file: &[u8], c: Cursor, work: &[u32], top: Top, out: &mut [u8], a
     }
     let behind_head = put_head(out, at, top, n);
     let all = print_fields(file, fields_at, known, n - known, out, behind_head);
-    let Listed::Got(_, end) = all else {
+    let Ok((_, end)) = all else {
         return at;
     };
     end
@@ -103,25 +102,32 @@ pub fn print_entries(
     let mut here = c.at;
     let mut last: u64 = 0;
     let mut p = at;
-    let mut rest = count;
-    while 0 < rest {
-        let h = enter_any(file, Cursor { at: here }, work);
-        let Topped::Got(top, c1) = h else {
-            let read = Number::No(refused_top(h));
-            return Printed { read, at: p };
+    for _ in 0..count {
+        let (top, c1) = match enter_any(file, Cursor { at: here }, work) {
+            Ok(entered) => entered,
+            Err(e) => {
+                return Printed {
+                    read: Err(e),
+                    at: p,
+                };
+            }
         };
         p = print_entry(file, c1, work, top, out, p);
         let name = top.name;
-        let a = fields(file, c1, work, name.typ, top.count, last, any);
-        let Number::Got(e, next) = a else {
-            return Printed { read: a, at: p };
+        let (end, next) = match fields(file, c1, work, name.typ, top.count, last, any) {
+            Ok(read) => read,
+            Err(e) => {
+                return Printed {
+                    read: Err(e),
+                    at: p,
+                };
+            }
         };
         here = next.at;
-        last = e;
-        rest -= 1;
+        last = end;
     }
     Printed {
-        read: Number::Got(last, Cursor { at: here }),
+        read: Ok((last, Cursor { at: here })),
         at: p,
     }
 }

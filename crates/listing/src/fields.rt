@@ -10,42 +10,30 @@ ghost use Rattle.listing.specs.Fields.{PastAll, NewKind, new_word, new_words, Fi
 
 use crate::maps::put_new_map;
 use lines::{put_new, put_olds};
-use numbers::{Cursor, Number, Refusal, Step, refused, refused_step};
-use reader::kinds::{Kind, KindRead, Named, read_kind, refused_kind};
+use numbers::{Cursor, Outcome, Refusal, Step};
+use reader::kinds::{Kind, Named, read_kind};
 use reader::ruled::no_restrictions;
 
 // Behind what was read and behind what was printed, or the refusal of the read that failed.
-#[derive(Clone, Copy)]
-pub enum Listed {
-    Got(Cursor, usize),
-    No(Refusal),
-}
+pub type Listed = Result<(Cursor, usize), Refusal>;
 
 // Behind the end offsets of n known fields, of which nothing is shown.
 fn past_ends(file: &[u8], c: Cursor, n: u64) -> Step
     ensures { PastAll n file.now c.at result }
 {
     let mut here = c;
-    let mut rest = n;
-    while 0 < rest {
-        let a = here.v64(file);
-        let Number::Got(_, next) = a else {
-            return Step::No(refused(a));
-        };
+    for _ in 0..n {
+        let (_, next) = here.v64(file)?;
         here = next;
-        rest -= 1;
     }
-    Step::Got(here)
+    Ok(here)
 }
 
 // The kind of a new field. Before it stands the number of restrictions, of which nothing is shown.
-fn new_kind(file: &[u8], c: Cursor) -> KindRead
+fn new_kind(file: &[u8], c: Cursor) -> Outcome<Kind>
     ensures { NewKind file.now c.at result }
 {
-    let a = no_restrictions(file, c);
-    let Number::Got(_, next) = a else {
-        return KindRead::No(refused(a));
-    };
+    let (_, next) = no_restrictions(file, c)?;
     let any = Named {
         strict: false,
         types: 0,
@@ -67,20 +55,11 @@ fn put_field(file: &[u8], c: Cursor, kind: Kind, name: u64, out: &mut [u8], at: 
 fn print_new(file: &[u8], c: Cursor, out: &mut [u8], at: usize) -> Listed
     ensures { (t : ℕ) (u : Upto) → Prints (new_field any_type t u) new_word file.now c.at out.old at out.new result }
 {
-    let k = new_kind(file, c);
-    let KindRead::Got(kind, c1) = k else {
-        return Listed::No(refused_kind(k));
-    };
-    let a = c1.v64(file);
-    let Number::Got(name, c2) = a else {
-        return Listed::No(refused(a));
-    };
-    let b = c2.v64(file);
-    let Number::Got(_, next) = b else {
-        return Listed::No(refused(b));
-    };
+    let (kind, c1) = new_kind(file, c)?;
+    let (name, c2) = c1.v64(file)?;
+    let (_, next) = c2.v64(file)?;
     let end = put_field(file, c, kind, name, out, at);
-    Listed::Got(next, end)
+    Ok((next, end))
 }
 
 // The lines of so many new fields.
@@ -89,17 +68,12 @@ fn print_news(file: &[u8], c: Cursor, count: u64, out: &mut [u8], at: usize) -> 
 {
     let mut here = c;
     let mut p = at;
-    let mut rest = count;
-    while 0 < rest {
-        let one = print_new(file, here, out, p);
-        let Listed::Got(next, end) = one else {
-            return one;
-        };
+    for _ in 0..count {
+        let (next, end) = print_new(file, here, out, p)?;
         here = next;
         p = end;
-        rest -= 1;
     }
-    Listed::Got(here, p)
+    Ok((here, p))
 }
 
 // The lines of so many known fields and of so many new ones.
@@ -113,10 +87,7 @@ pub fn print_fields(
 ) -> Listed
     ensures { FieldsPrinted known count file.now c.at out.old at out.new result }
 {
-    let a = past_ends(file, c, known);
-    let Step::Got(news) = a else {
-        return Listed::No(refused_step(a));
-    };
+    let news = past_ends(file, c, known)?;
     let behind_olds = put_olds(out, at, known);
     print_news(file, news, count, out, behind_olds)
 }

@@ -10,7 +10,7 @@ ghost use Rattle.listing.specs.Fronts.{FrontDone};
 
 use crate::entries::{Printed, print_entries};
 use lines::{put_pair, put_string};
-use numbers::{Cursor, Number, Step, refused_step};
+use numbers::Cursor;
 use reader::strings::read_strings;
 use table::rows::{Span, string_at, strings};
 
@@ -35,10 +35,8 @@ fn print_strings(file: &[u8], work: &[u32], from: u32, out: &mut [u8], at: usize
 {
     let n = strings(work);
     let mut p = at;
-    let mut i = from;
-    while i < n {
+    for i in from..n {
         p = put_part(file, string_at(work, i), out, p);
-        i += 1;
     }
     p
 }
@@ -49,16 +47,13 @@ pub fn print_front(file: &[u8], c: Cursor, work: &mut [u32], out: &mut [u8], at:
     ensures { FrontDone file.now work.old work.new c.at out.old at out.new result }
 {
     let before = strings(work);
-    let s = read_strings(file, c, work);
-    let Step::Got(c1) = s else {
-        return Printed {
-            read: Number::No(refused_step(s)),
-            at,
-        };
+    let c1 = match read_strings(file, c, work) {
+        Ok(behind) => behind,
+        Err(e) => return Printed { read: Err(e), at },
     };
-    let a = c1.small(file);
-    let Number::Got(n, c2) = a else {
-        return Printed { read: a, at };
+    let (n, c2) = match c1.small(file) {
+        Ok(count) => count,
+        Err(e) => return Printed { read: Err(e), at },
     };
     let more = strings(work) - before;
     let behind_pair = put_pair(out, at, more as u64, n);

@@ -15,7 +15,7 @@ ghost use Rattle.walk.specs.FileLaws.{FileRead};
 ghost use Rattle.calls.specs.Told.{Wrote, after};
 ghost use Rattle.listing.specs.Text.{FileThere, FilePrinted, TextWritten, TableThere};
 
-use calls::replies::Reply;
+use calls::replies::{Refused, Reply};
 use numbers::Step;
 use pairs::print_pairs;
 use paper::Ledger;
@@ -40,10 +40,10 @@ fn count_and_write(file: &[u8], table: &mut [u32], out: &mut [u8]) -> Reply
 {
     let count = print_file(file, table, &mut out[..0]);
     if out.len() < count {
-        return Reply::Refused(19);
+        return Err(Refused::ROOM);
     }
     print_file(file, table, out);
-    Reply::Done(count as u64)
+    Ok(count as u64)
 }
 
 // The text, where the table is the one that was read. With the room that is advised nothing need be counted.
@@ -53,7 +53,7 @@ fn write_text(file: &[u8], table: &mut [u32], out: &mut [u8]) -> Reply
 {
     if is_roomy(file, table, out.len()) {
         let count = print_file(file, table, out);
-        return Reply::Done(count as u64);
+        return Ok(count as u64);
     }
     count_and_write(file, table, out)
 }
@@ -63,10 +63,8 @@ fn listing_read(a: Step, file: &[u8], table: &mut [u32], out: &mut [u8]) -> Repl
     requires { (length table.old ≡ 16384) × FileRead file.now table.old a }
     ensures { Wrote (listing (length out.old) 16384 file.now) out.old result out.new }
 {
-    match a {
-        Step::Got(_) => write_text(file, table, out),
-        Step::No(e) => Reply::Refused(e.number),
-    }
+    a?;
+    write_text(file, table, out)
 }
 
 // The call over a table of just the length that reading needs.
@@ -86,7 +84,7 @@ pub fn listing(file: &[u8], work: &mut [u32], out: &mut [u8]) -> Reply
 {
     let needed = Ledger::TABLE as usize;
     if work.len() < needed {
-        return Reply::Refused(15);
+        return Err(Refused::TABLE);
     }
     listing_in(file, &mut work[..needed], out)
 }

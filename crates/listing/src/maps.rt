@@ -9,22 +9,16 @@ ghost use Rattle.show.specs.Shown.{Shown, Shows};
 ghost use Rattle.listing.specs.Maps.{MapTypes, MapPrinted};
 
 use lines::{put_map, put_map_kind, put_name};
-use numbers::{Cursor, Number};
+use numbers::{Cursor, Outcome};
 use reader::ruled::no_restrictions;
 use show::Behind;
 
 // The number of types of the new map at c. Before it stand the number of restrictions and the number of the kind itself.
-fn map_types(file: &[u8], c: Cursor) -> Number
+fn map_types(file: &[u8], c: Cursor) -> Outcome<u64>
     ensures { MapTypes file.now c.at result }
 {
-    let a = no_restrictions(file, c);
-    let Number::Got(_, kind) = a else {
-        return a;
-    };
-    let b = kind.v64(file);
-    let Number::Got(_, types) = b else {
-        return b;
-    };
+    let (_, kind) = no_restrictions(file, c)?;
+    let (_, types) = kind.v64(file)?;
     types.v64(file)
 }
 
@@ -33,7 +27,7 @@ fn put_next_kind(file: &[u8], c: Cursor, out: &mut [u8], at: usize) -> Behind
     ensures { Shows (λ s. v64) (λ k. comma ∷ decimal k) file.now c.at out.old at out.new result }
 {
     let a = c.v64(file);
-    let Number::Got(k, next) = a else {
+    let Ok((k, next)) = a else {
         return Behind { next: c, at };
     };
     let end = put_map_kind(out, at, k);
@@ -45,10 +39,8 @@ fn put_kinds(file: &[u8], c: Cursor, n: u64, out: &mut [u8], at: usize) -> usize
     ensures { Shown (λ s. repeat n v64) (commas decimal) file.now c.at out.old at out.new result }
 {
     let mut here = Behind { next: c, at };
-    let mut rest = n;
-    while 0 < rest {
+    for _ in 0..n {
         here = put_next_kind(file, here.next, out, here.at);
-        rest -= 1;
     }
     here.at
 }
@@ -58,7 +50,7 @@ pub fn put_new_map(file: &[u8], c: Cursor, name: u64, out: &mut [u8], at: usize)
     ensures { MapPrinted file.now c.at name out.old at out.new result }
 {
     let a = map_types(file, c);
-    let Number::Got(n, kinds) = a else {
+    let Ok((n, kinds)) = a else {
         return at;
     };
     let first = put_map(out, at, n);

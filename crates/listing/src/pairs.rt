@@ -6,7 +6,7 @@ ghost use Rattle.walk.specs.PairTurns.{WalkReady};
 ghost use Rattle.listing.specs.Pairs.{PairThere, PairPrinted, PairsThere, PairsPrinted};
 
 use crate::fronts::print_front;
-use numbers::{Cursor, Number};
+use numbers::Cursor;
 use paper::Ledger;
 use show::{Behind, show_chunk};
 use table::counts::next_block;
@@ -20,8 +20,7 @@ fn print_region(file: &[u8], from: usize, work: &[u32], out: &mut [u8], at: usiz
     let n = dues(work);
     let mut place = from;
     let mut p = at;
-    let mut i = 0;
-    while i < n {
+    for i in 0..n {
         let d = due_at(work, i);
         let kind = field_at(work, d.field);
         let end = place + (d.size as usize);
@@ -35,7 +34,6 @@ fn print_region(file: &[u8], from: usize, work: &[u32], out: &mut [u8], at: usiz
             p,
         );
         place = end;
-        i += 1;
     }
     p
 }
@@ -47,7 +45,7 @@ fn print_pair(file: &[u8], c: Cursor, work: &mut [u32], out: &mut [u8], at: usiz
 {
     let printed = print_front(file, c, work, out, at);
     let a = printed.read;
-    let Number::Got(size, start) = a else {
+    let Ok((size, start)) = a else {
         return Behind { next: c, at };
     };
     let from = start.at;
@@ -68,6 +66,7 @@ pub fn print_pairs(file: &[u8], work: &mut [u32], out: &mut [u8], at: usize) -> 
     let mut place: usize = 0;
     let mut p = at;
     let mut left = Ledger::PAIRS;
+    // What ends the loop is the end of the file; a `for` over the pairs that may be would have to ask for it all the same.
     while place < file.len() {
         // No accepted file has more.
         if left == 0 {

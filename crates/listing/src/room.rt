@@ -24,12 +24,10 @@ fn has_empty(table: &[u32]) -> bool
     ensures { result ≡ any empty_field? (flds_of table.now) }
 {
     let n = fields(table);
-    let mut i = 0;
-    while i < n {
+    for i in 0..n {
         if is_empty(field_at(table, i)) {
             return true;
         }
-        i += 1;
     }
     false
 }

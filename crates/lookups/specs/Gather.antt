@@ -1,6 +1,6 @@
 -- The ranges of one type, gathered from the log into two lists: what the objects of the type are, for whoever asks for one
 -- of them often. They are put down from the last to the first, each before those that are there. Assumes nothing.
-use Rattle.std.specs.Prelude.{◌≡◌, Bool, true, false, ◌&&◌, ◌||◌, List, [], ◌∷◌, ℕ, zero, suc, ◌+◌, ◌-◌, ◌≤◌, ◌<◌, length, take, set}
+use Rattle.std.specs.Prelude.{Option, Some, None, ◌≡◌, Bool, true, false, ◌&&◌, ◌||◌, List, [], ◌∷◌, ℕ, zero, suc, ◌+◌, ◌-◌, ◌≤◌, ◌<◌, length, take, set}
 use Rattle.std.proofs.Math.Path.{refl, sym, ap}
 use Rattle.std.proofs.Common.{◌∙◌, add-one, length-take, length-drop, drop-drop, eq-eqb, ne_eqb, lt_of_not-le}
 use native.Mathlib.Omega.{arith}
@@ -15,11 +15,9 @@ use Rattle.paper.specs.Lists.{any, total}
 use Rattle.paper.specs.Ledger.{Range, of?, size, holds?}
 use Rattle.table.specs.Answers.{no_range}
 use Rattle.table.specs.ToldLaws.{joined}
-use Rattle.table.specs.Loops.{any-on, any-end, total-on}
+use Rattle.table.specs.Loops.{any-on, any-end, total_here}
 use Rattle.values.specs.Items.{in_ranges}
 use Rattle.lookups.specs.Low.{Low, low-at, count_of, Bounded}
-use Rattle.lookups.specs.declared.ranges.Found.{Found}
-use Rattle.lookups.specs.declared.ranges.Found.TheVariants.{All, Unknown}
 
 -- a part of a list, as code lends it
 abbrev pub between : ℕ → ℕ → List ℕ → List ℕ
@@ -185,17 +183,17 @@ module _ (log : List Range) (i : ℕ) (lt : i < length log) {x : Range} (is : x 
   end_fits low few = let (a, b) = low-at 0 log no_range i low lt in rw is (omega arith)
 
   module _ {t : ℕ} (same : x.type ≡ t) where
+    its_type : true ≡ of? t x
+    unfolding of?
+    its_type = rw (eq-eqb x.type t same)
+
     one_more : count_of t (drop i log) ≡ 1 + count_of t (drop (i + 1) log)
-    unfolding count_of of? total when◌then◌else◌
-    one_more =
-        let one : total (of? t) (λ r. 1) (x ∷ []) ≡ 1 = rw (eq-eqb x.type t same) in
-        omega (arith, total-on (of? t) log i no_range lt is (λ r. 1), one)
+    unfolding count_of
+    one_more = total_here (of? t) log i no_range lt is its_type (λ r. 1) refl
 
     its-objects : total (of? t) size (drop i log) ≡ x.count + total (of? t) size (drop (i + 1) log)
-    unfolding of? size total when◌then◌else◌
-    its-objects =
-        let one : total (of? t) size (x ∷ []) ≡ x.count + 0 = rw (eq-eqb x.type t same) in
-        omega (arith, total-on (of? t) log i no_range lt is size, one)
+    unfolding size
+    its-objects = total_here (of? t) log i no_range lt is its_type size refl
 
     its_own : (n : ℕ) → any (holds? t n) (drop i log) ≡ ((leb (x.first + 1) n && leb n (x.first + x.count)) || any (holds? t n) (drop (i + 1) log))
     unfolding any holds? of?
@@ -358,12 +356,12 @@ module _ {t : ℕ} {log : List Range} {to : ℕ} {first₀ last₀ first last : 
       }
 
 -- the ranges, or it is not known
-abbrev pub GatheredBy : ℕ → List Range → ℕ → List ℕ → List ℕ → List ℕ → List ℕ → Found → Type 0
-GatheredBy t log to first₀ last₀ first last (All k) = GatheredTo t log to first₀ last₀ first last k
-GatheredBy t log to first₀ last₀ first last Unknown = Unit {0}
+abbrev pub GatheredBy : ℕ → List Range → ℕ → List ℕ → List ℕ → List ℕ → List ℕ → Option ℕ → Type 0
+GatheredBy t log to first₀ last₀ first last (Some k) = GatheredTo t log to first₀ last₀ first last k
+GatheredBy t log to first₀ last₀ first last None = Unit {0}
 
 -- the lists are as long as they were, and hold the same from the place on
-pub record MaybeGathered (t : ℕ) (log : List Range) (to : ℕ) (first₀ last₀ first last : List ℕ) (r : Found) : Type 0 where
+pub record MaybeGathered (t : ℕ) (log : List Range) (to : ℕ) (first₀ last₀ first last : List ℕ) (r : Option ℕ) : Type 0 where
   pub first-long : length first ≡ length first₀
   pub last-long : length last ≡ length last₀
   pub first-kept : drop to first ≡ drop to first₀
@@ -371,16 +369,16 @@ pub record MaybeGathered (t : ℕ) (log : List Range) (to : ℕ) (first₀ last�
   pub found : GatheredBy t log to first₀ last₀ first last r
 
 module _ {t : ℕ} {log : List Range} {to : ℕ} {first₀ last₀ first last : List ℕ} where
-  pub not_known : {i k sum : ℕ} → Linking t log to first₀ last₀ first last i k sum → MaybeGathered t log to first₀ last₀ first last Unknown
+  pub not_known : {i k sum : ℕ} → Linking t log to first₀ last₀ first last i k sum → MaybeGathered t log to first₀ last₀ first last None
   not_known L =
       record { first-long = L.first-long; last-long = L.last-long; first-kept = L.first-kept; last-kept = L.last-kept; found = tt }
 
-  pub all_found : {k : ℕ} → GatheredTo t log to first₀ last₀ first last k → MaybeGathered t log to first₀ last₀ first last (All k)
+  pub all_found : {k : ℕ} → GatheredTo t log to first₀ last₀ first last k → MaybeGathered t log to first₀ last₀ first last (Some k)
   all_found G =
       record { first-long = G.first-long; last-long = G.last-long; first-kept = G.first-kept; last-kept = G.last-kept; found = G }
 
   -- gathered again, where the lists had others before
-  module _ {r : Found} (M : MaybeGathered t log to first₀ last₀ first last r) where
+  module _ {r : Option ℕ} (M : MaybeGathered t log to first₀ last₀ first last r) where
     pub gathered-again : {first₁ last₁ : List ℕ} {k : ℕ} → GatheredTo t log to first last first₁ last₁ k → GatheredTo t log to first₀ last₀ first₁ last₁ k
     gathered-again G =
         record {
@@ -393,5 +391,5 @@ module _ {t : ℕ} {log : List Range} {to : ℕ} {first₀ last₀ first last : 
           objects-are = G.objects-are;
         }
 
-    pub found_all : {k : ℕ} → r ≡ All k → GatheredTo t log to first₀ last₀ first last k
+    pub found_all : {k : ℕ} → r ≡ Some k → GatheredTo t log to first₀ last₀ first last k
     found_all is = let N = rw is at M in N.found

@@ -1,7 +1,8 @@
 -- The ranges of the types that a map's kinds name, gathered one type after the other. Assumes nothing.
+use Rattle.std.specs.List.{list_any}
 use Rattle.std.specs.Prelude.{◌≡◌, Bool, ◌||◌, List, [], ◌∷◌, ℕ, zero, suc, ◌+◌, ◌-◌, ◌*◌, ◌%◌, ◌≤◌, ◌<◌, leb, eqb, length, take, drop, set}
 use Rattle.std.proofs.Math.Path.{refl}
-use Rattle.std.proofs.Common.{sym, ap, ◌∙◌, add-one, mod-lt, length-set, get_or-set_same, get_or-set_other}
+use Rattle.std.proofs.Common.{sym, ap, ap₂, ◌∙◌, add-one, mod-lt, length-set, get_or-set_same, get_or-set_other}
 use Rattle.std.proofs.Math.Bool.{true, false}
 use native.Mathlib.Omega.{arith}
 use Rattle.std.proofs.Math.Nat.{lt_of_not-le}
@@ -17,7 +18,6 @@ use Rattle.table.specs.Segs.{cells, seg}
 use Rattle.table.specs.RowLaws.{length-tab, get_d-tab}
 use Rattle.table.specs.View.{range_of, log_of}
 use Rattle.table.specs.Answers.{no_range}
-use Rattle.table.specs.Loops.{any_here, any-on, any-end}
 use Rattle.values.specs.Items.{in_ranges}
 use Rattle.values.specs.Spans.{there?, from_of, to_of, ranges, Grouped}
 use Rattle.lookups.specs.Gather.{between, between-kept, GatheredTo}
@@ -35,22 +35,18 @@ asked? kinds k = any (eqb k) kinds
 unfoldable pub refers? : List ℕ → Bool
 refers? kinds = any (leb 32) kinds
 
--- a walk through them that has met none so far
-pub record Unmet (p : ℕ → Bool) (kinds : List ℕ) (i : ℕ) : Type 0 where
-  pub rest : any p kinds ≡ any p (drop i kinds)
+-- what the library finds among them
+pub found_any : {A : Type 0} (p q : A → Bool) → ((x : A) → p x ≡ q x) → (l : List A) → list_any p l ≡ any q l
+unfolding any
+found_any p q same [] = refl
+found_any p q same (x ∷ l) = ap₂ (λ (a b : Bool). a || b) (same x) (found_any p q same l)
 
-pub unmet-start : (p : ℕ → Bool) (kinds : List ℕ) → Unmet p kinds 0
-unmet-start p kinds = record { rest = refl }
+turned : (k j : ℕ) → eqb j k ≡ eqb k j
+turned k j = elim (ℕᴺ_discrete j k) [ yes e ↦ eq-eqb j k e ∙ sym (eq-eqb k j (sym e)) | no ne ↦ ne_eqb j k ne ∙ sym (ne_eqb k j (λ e. ne (sym e))) ]
 
-module _ {p : ℕ → Bool} {kinds : List ℕ} {i : ℕ} (U : Unmet p kinds i) where
-  pub unmet-here : i < length kinds → p (get_or kinds i 0) ≡ true → true ≡ any p kinds
-  unmet-here lt is = sym (U.rest ∙ any_here p kinds i 0 lt refl refl is)
-
-  pub unmet-on : i < length kinds → p (get_or kinds i 0) ≡ false → Unmet p kinds (i + 1)
-  unmet-on lt is = record { rest = U.rest ∙ any-on p kinds i 0 lt refl refl is }
-
-  pub unmet-end : length kinds ≤ i → false ≡ any p kinds
-  unmet-end h = sym (U.rest ∙ any-end p kinds i h)
+pub found-asked : (kinds : List ℕ) (k : ℕ) → list_any (λ j. eqb j k) kinds ≡ asked? kinds k
+unfolding asked?
+found-asked kinds k = found_any (λ j. eqb j k) (eqb k) (turned k) kinds
 
 pub asked-first : (k : ℕ) (kinds : List ℕ) → asked? (k ∷ kinds) k ≡ true
 unfolding asked? any

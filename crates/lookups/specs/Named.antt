@@ -129,8 +129,8 @@ module _ {f l₀ : List ℕ} {n : ℕ} where
             pooling = pooling-on G.pooling place-there (T.is ∙ ap (λ (u : Said). pool_of u.state (type_named u.state (text u.state (suc i)))) G.now.says);
           }
 
-    pub pools-done : n ≤ i → (Pooling (view f l₀) list i × (i ≡ strings_in l₀)) × Now f l (said f l₀)
-    pools-done le = ((G.pooling, omega (arith, G.all_of, G.upto)), G.now)
+    pub pools-done : n ≤ i → (Pooling (view f l₀) list n × (n ≡ strings_in l₀)) × Now f l (said f l₀)
+    pools-done le = let z : n ≡ i = omega (arith, G.upto) in ((rw z G.pooling, G.all_of), G.now)
 
 -- they say which annotations keep the rule
 pub pools-say :
@@ -258,5 +258,5 @@ module _ {count packed left rest : ℕ} (A : Asked (λ k. not (eqb k 5)) count p
     unfolding unnamed?
     map-out is = asked-out (λ k. not (eqb k 5)) A more {b = not (eqb (rest % 256) 5)} refl (rw (eq-eqb (rest % 256) 5 is))
 
-    pub map_on : (rest % 256 ≡ 5 → ⊥) → Asked (λ k. not (eqb k 5)) count packed (left - 1) (rest / 256)
-    map_on other = asked-on (λ k. not (eqb k 5)) A more {b = not (eqb (rest % 256) 5)} refl (rw (ne_eqb (rest % 256) 5 other))
+    pub map_on : (rest % 256 ≡ 5 → ⊥) → {next : ℕ} → next ≡ left - 1 → Asked (λ k. not (eqb k 5)) count packed next (rest / 256)
+    map_on other is = rw is (asked-on (λ k. not (eqb k 5)) A more {b = not (eqb (rest % 256) 5)} refl (rw (ne_eqb (rest % 256) 5 other)))

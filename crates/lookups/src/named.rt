@@ -43,12 +43,10 @@ pub fn pools(file: &[u8], work: &mut [u32], list: &mut [u32]) -> usize
     ensures now { Now file.now work.new (said file.now work.old) }
 {
     let n = strings(work);
-    let mut i = 0;
-    while i < n {
+    for i in 0..n {
         list[i as usize] = pool_of(file, work, i);
-        i += 1;
     }
-    i as usize
+    n as usize
 }
 
 // Whether none of a map's element kinds, which a row has in one number, a byte each, is that of annotations. They are asked from the
@@ -59,14 +57,12 @@ fn map_unnamed(count: u64, packed: u64) -> bool
     if count == 0 {
         return true;
     }
-    let mut left = count;
     let mut rest = packed;
-    while 1 < left {
+    for _ in 1..count {
         if rest % 256 == 5 {
             return false;
         }
         rest /= 256;
-        left -= 1;
     }
     rest != 5
 }
@@ -90,13 +86,10 @@ fn all_unnamed(work: &[u32]) -> bool
     requires { Ok work.now }
     ensures { result ≡ all unnamed_field? (flds_of work.now) }
 {
-    let n = fields(work);
-    let mut i = 0;
-    while i < n {
+    for i in 0..fields(work) {
         if !row_unnamed(field_at(work, i)) {
             return false;
         }
-        i += 1;
     }
     true
 }

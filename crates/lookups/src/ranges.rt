@@ -6,7 +6,7 @@ ghost use Rattle.lookups.specs.Low.{Bounded};
 ghost use Rattle.lookups.specs.Gather.{RangePut, GatheredTo, MaybeGathered};
 ghost use Rattle.lookups.specs.Group.{refers?, asked?, GatheredAsked, AllGrouped};
 
-use table::ranges::{Pool, objects_of, pool_of, tally_at};
+use table::ranges::{objects_of, pool_of, tally_at};
 use table::rows::{link_at, range_at, ranges};
 
 // The range of the objects behind number `begin` up to number `end`, before those that stand from k up to a place: where it
@@ -36,16 +36,15 @@ fn put_range(
     k - 1
 }
 
-// What a walk by links has found: all ranges of a type, from a place on, or it does not know.
-#[derive(Clone, Copy)]
-enum Found {
-    All(usize),
-    Unknown,
-}
-
-// The ranges of type t, from the last to the first by the links between them, before a place. Nothing is known of a link, but where
-// the ranges that were met have as many objects as the type, none is missing.
-fn gather_linked(work: &[u32], t: u32, first: &mut [u32], last: &mut [u32], to: usize) -> Found
+// The ranges of type t, from the last to the first by the links between them, before a place: where they begin. Nothing is known of a
+// link, but where the ranges that were met have as many objects as the type, none is missing; where they have not, it does not know.
+fn gather_linked(
+    work: &[u32],
+    t: u32,
+    first: &mut [u32],
+    last: &mut [u32],
+    to: usize,
+) -> Option<usize>
     requires ok { Ok work.now × Bounded (log_of work.now) × (t < 32) }
     requires to_in_bounds { (to ≤ length first.old) × (to ≤ length last.old) × (32 ≤ to) }
     ensures { MaybeGathered t (log_of work.now) to first.old last.old first.new last.new result }
@@ -57,18 +56,18 @@ fn gather_linked(work: &[u32], t: u32, first: &mut [u32], last: &mut [u32], to: 
     let mut i = tally_at(work, t, 4);
     while sum < objects {
         if met <= i {
-            return Found::Unknown;
+            return None;
         }
         let r = range_at(work, i);
         if r.typ != t {
-            return Found::Unknown;
+            return None;
         }
         k = put_range(first, last, k, to, r.first, r.first + r.count);
         sum += r.count;
         met = i;
         i = link_at(work, i);
     }
-    Found::All(k)
+    Some(k)
 }
 
 // The same for any type, by a walk through the whole log.
@@ -78,9 +77,7 @@ fn gather_each(work: &[u32], t: u64, first: &mut [u32], last: &mut [u32], to: us
     ensures { GatheredTo t (log_of work.now) to first.old last.old first.new last.new result }
 {
     let mut k = to;
-    let mut i = ranges(work);
-    while 0 < i {
-        i -= 1;
+    for i in (0..ranges(work)).rev() {
         let r = range_at(work, i);
         if r.typ as u64 == t {
             k = put_range(first, last, k, to, r.first, r.first + r.count);
@@ -96,11 +93,10 @@ fn gather_known(work: &[u32], t: u32, first: &mut [u32], last: &mut [u32], to: u
     ensures { GatheredTo t (log_of work.now) to first.old last.old first.new last.new result }
 {
     let pool = pool_of(work, t);
-    if let Pool::Whole(n) = pool {
+    if let Some(n) = pool {
         return put_range(first, last, to, to, 0, n);
     }
-    let found = gather_linked(work, t, first, last, to);
-    if let Found::All(k) = found {
+    if let Some(k) = gather_linked(work, t, first, last, to) {
         return k;
     }
     gather_each(work, t as u64, first, last, to)
@@ -123,28 +119,14 @@ pub fn gather(work: &[u32], t: u64, first: &mut [u32], last: &mut [u32], to: usi
 pub fn refers(kinds: &[u64]) -> bool
     ensures { result ≡ refers? kinds.now }
 {
-    let mut i: usize = 0;
-    while i < kinds.len() {
-        if 32 <= kinds[i] {
-            return true;
-        }
-        i += 1;
-    }
-    false
+    kinds.iter().any(|kind| 32 <= *kind)
 }
 
 // Whether kind k is one of these.
 pub fn asked(kinds: &[u64], k: u64) -> bool
     ensures { result ≡ asked? kinds.now k }
 {
-    let mut i: usize = 0;
-    while i < kinds.len() {
-        if k == kinds[i] {
-            return true;
-        }
-        i += 1;
-    }
-    false
+    kinds.contains(&k)
 }
 
 // The ranges of type t, before a place, if one of the kinds names it.
@@ -174,9 +156,7 @@ pub fn group(work: &[u32], kinds: &[u64], starts: &mut [u32], first: &mut [u32],
 {
     starts[32] = 256;
     let mut k: usize = 256;
-    let mut t: usize = 32;
-    while 0 < t {
-        t -= 1;
+    for t in (0..32).rev() {
         k = gather_asked(work, kinds, t as u64, first, last, k);
         starts[t] = k as u32;
     }

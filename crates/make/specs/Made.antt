@@ -1,10 +1,10 @@
 -- What the program writes for its input. Assumes nothing.
-use Rattle.std.specs.Prelude.{◌≡◌, List, ℕ, ◌+◌, ◌≤◌, ◌<◌, length, take}
+use Rattle.std.specs.Prelude.{◌≡◌, List, ℕ, ◌+◌, ◌≤◌, ◌<◌, length, take, Result}
 use Rattle.paper.specs.Bounds.{table_length, most_input, most_output}
 use Rattle.paper.specs.Calls.{build, after_build}
 use Rattle.lay.specs.Laid.{Laid}
 use Rattle.calls.specs.Told.{after}
-use Rattle.calls.specs.declared.replies.Reply.{Reply}
+use Rattle.calls.specs.declared.replies.Refused.{Refused}
 use Rattle.streams.specs.Answers.{refusal_line, written_by, AtFront, Told, written-front, written-long, written-told}
 
 -- what the program writes: the file of a listing, as far as the bounds of the programs let it
@@ -25,7 +25,7 @@ module _ (text out : List ℕ) {m : List ℕ} {r : ℕ} (room : length out ≡ m
 
   -- the call has answered, lent a table of this length
   pub answer-told :
-      length text ≤ most_input → (work : List ℕ) → length work ≡ table_length → (a : Reply) {w o : List ℕ} → after a w o ≡ after_build text work out → Told a o m r
+      length text ≤ most_input → (work : List ℕ) → length work ≡ table_length → (a : Result ℕ Refused) {w o : List ℕ} → after a w o ≡ after_build text work out → Told a o m r
       → AtFront (made text) out m r
   unfolding made after_build
   answer-told short work table a L T = written-told (build most_output table_length) text out room short work a (rw (table, room) at L) T

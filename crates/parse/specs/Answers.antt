@@ -12,7 +12,7 @@ use Rattle.words.specs.Answers.{Scanned, option}
 use Rattle.parse.specs.declared.StringLine.{StringLine}
 use Rattle.parse.specs.declared.TypeLine.{TypeLine}
 use Rattle.parse.specs.declared.NewLine.{NewLine}
-use Rattle.parse.specs.declared.kinds.Kind.{Kind as Numbers}
+use Rattle.reader.specs.declared.kinds.Kind.{Kind as Numbers}
 
 -- ── pair ──
 
@@ -120,12 +120,12 @@ pub record Half (w h : ℕ) : Type 0 where
   pub most : h ≤ 9223372036854775808
 
 abbrev pub out_kind : Scanned Numbers → Out Kind
-out_kind (Some (x, c)) = got (kind_from x.k x.a x.e) c.at
+out_kind (Some (x, c)) = got (kind_from x.first x.bits x.last) c.at
 out_kind None = no 20 0
 
 -- a row of the table has room for the first number
 abbrev pub ToldKind : Scanned Numbers → Type 0
-ToldKind (Some (x, c)) = x.k ≤ 32
+ToldKind (Some (x, c)) = x.first ≤ 32
 ToldKind None = Unit {0}
 
 -- the answer is what is kept of the kind that the reader `r` gives at `at`, if it keeps the rules
@@ -144,11 +144,11 @@ abbrev pub noted_new : New → New
 noted_new g = record { kind = noted g.kind; name = g.name }
 
 abbrev pub out_new : Scanned NewLine → Out New
-out_new (Some (l, c)) = got (record { kind = kind_from l.kind.k l.kind.a l.kind.e; name = l.name }) c.at
+out_new (Some (l, c)) = got (record { kind = kind_from l.kind.first l.kind.bits l.kind.last; name = l.name }) c.at
 out_new None = no 20 0
 
 abbrev pub ToldNew : Scanned NewLine → Type 0
-ToldNew (Some (l, c)) = l.kind.k ≤ 32
+ToldNew (Some (l, c)) = l.kind.first ≤ 32
 ToldNew None = Unit {0}
 
 pub record NewReads (t : List ℕ) (at : ℕ) (r : Scanned NewLine) : Type 0 where

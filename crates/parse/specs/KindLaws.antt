@@ -19,7 +19,7 @@ use Rattle.paper.specs.Keeps.{hold?, number?, signed?, whole?, kind_kept?}
 use Rattle.paper.specs.Scan.{heed, byte_is, ended, natural, integer, read_kind}
 use Rattle.table.specs.View.{kind_from}
 use Rattle.values.specs.Chunks.{kind-array, kind-many, kind-plain}
-use Rattle.parse.specs.declared.kinds.Kind.{Kind as Numbers}
+use Rattle.reader.specs.declared.kinds.Kind.{Kind as Numbers}
 use Rattle.words.specs.Answers.{Scanned}
 use Rattle.parse.specs.Answers.{keeping, constant_of, array_of, many_of, element_of, kinds_of, map_of, width_of, Half, KindReads}
 
@@ -111,7 +111,7 @@ module _ {r : Reader Kind} {t : List ℕ} {at : ℕ} where
     unfolding keeping heed ◌>>=◌ ◌>>◌ when◌then◌else◌
     kind-broken b = record { says = rw (← h, b); told = tt }
 
-    kind-kept : kind_kept? x ≡ true → (n : Numbers) → kind_from n.k n.a n.e ≡ noted x → n.k ≤ 32 → KindReads r t at (Some (n, (record { at = e })))
+    kind-kept : kind_kept? x ≡ true → (n : Numbers) → kind_from n.first n.bits n.last ≡ noted x → n.first ≤ 32 → KindReads r t at (Some (n, (record { at = e })))
     unfolding keeping heed ◌>>=◌ ◌>>◌ give when◌then◌else◌
     kind-kept b n is l = record { says = rw (← h, b, is); told = l }
 
@@ -144,17 +144,17 @@ module _ (k : ℕ) (t : List ℕ) (at : ℕ) where
       unfolding kind_kept? whole?
       kept_if s = rw (le-leb k 4 l) s
 
-      constant-kept : (a : ℕ) → (signed? (width_of k) (signed 8 x) ≡ true) × (signed (width_of k) a ≡ signed 8 x) → KindReads (constant_of k) t at (Some ((record { k = k; a = a; e = 0 }), (record { at = e })))
+      constant-kept : (a : ℕ) → (signed? (width_of k) (signed 8 x) ≡ true) × (signed (width_of k) a ≡ signed 8 x) → KindReads (constant_of k) t at (Some ((record { first = k; bits = a; last = 0 }), (record { at = e })))
       unfolding noted
       constant-kept a s = kind-kept constant-is (kept_if s.0) _ (kind-constant k a 0 l ∙ ap (constant k) s.1) (omega arith)
 
-      pub constant-low : x < h → KindReads (constant_of k) t at (Some ((record { k = k; a = x; e = 0 }), (record { at = e })))
+      pub constant-low : x < h → KindReads (constant_of k) t at (Some ((record { first = k; bits = x; last = 0 }), (record { at = e })))
       constant-low s = constant-kept x (fits_low (width_of k) H x s)
 
       pub constant_wide : h ≤ x → h ≤ 18446744073709551615 - x → KindReads (constant_of k) t at None
       constant_wide s u = kind-broken constant-is (kept_if (too_wide (width_of k) H x s u))
 
-      pub constant-high : x < 2 ^ 64 → 18446744073709551615 - x < h → KindReads (constant_of k) t at (Some ((record { k = k; a = h + (h - 1 - (18446744073709551615 - x)); e = 0 }), (record { at = e })))
+      pub constant-high : x < 2 ^ 64 → 18446744073709551615 - x < h → KindReads (constant_of k) t at (Some ((record { first = k; bits = h + (h - 1 - (18446744073709551615 - x)); last = 0 }), (record { at = e })))
       constant-high f s = constant-kept _ (fits-high (width_of k) H x f s)
 
 -- ── an array ──
@@ -184,7 +184,7 @@ module _ (t : List ℕ) (at : ℕ) where
         array_long {b} is h = kind-broken array-is (rw (small_is n fits, ← is, not-true b h))
 
         module _ {b : Bool} (is : b ≡ leb n most_objects) (h : not b ≡ false) where
-          pub array-got : true ≡ number? (element_kind_rules any_type) e → KindReads array_of t at (Some ((record { k = 15; a = n; e = e }), (record { at = d })))
+          pub array-got : true ≡ number? (element_kind_rules any_type) e → KindReads array_of t at (Some ((record { first = 15; bits = n; last = e }), (record { at = d })))
           unfolding kind_kept? noted
           array-got s = kind-kept array-is (rw (small_is n fits, ← is, not-false b h, ← s)) _ (kind-array 15 n e refl) (omega arith)
 
@@ -241,7 +241,7 @@ module _ (k : ℕ) (t : List ℕ) (at : ℕ) (lo : 17 ≤ k) (hi : k ≤ 19) whe
   pub many-none : bad 20 0 ≡ element_of t at → KindReads (many_of k) t at None
   many-none h = record { says = rw (many_is, ← h); told = tt }
 
-  pub many-got : {e d : ℕ} → got e d ≡ element_of t at → KindReads (many_of k) t at (Some ((record { k = k; a = 0; e = e }), (record { at = d })))
+  pub many-got : {e d : ℕ} → got e d ≡ element_of t at → KindReads (many_of k) t at (Some ((record { first = k; bits = 0; last = e }), (record { at = d })))
   unfolding noted
   many-got {e} h = record { says = rw (many_is, ← h, kind-many k 0 e lo hi); told = omega arith }
 
@@ -256,7 +256,7 @@ module _ (k : ℕ) (t : List ℕ) (at : ℕ) where
   unfolding kind_kept?
   alone-gap s = kind-broken alone-is (sym s)
 
-  alone-kept : true ≡ number? (element_kind_rules any_type) k → (n : ℕ) → kind_from n 0 k ≡ plain k → n ≤ 32 → KindReads (give (plain k)) t at (Some ((record { k = n; a = 0; e = k }), (record { at = at })))
+  alone-kept : true ≡ number? (element_kind_rules any_type) k → (n : ℕ) → kind_from n 0 k ≡ plain k → n ≤ 32 → KindReads (give (plain k)) t at (Some ((record { first = n; bits = 0; last = k }), (record { at = at })))
   unfolding kind_kept? noted
   alone-kept s n is hi = kind-kept alone-is (sym s) _ is hi
 
@@ -299,12 +299,12 @@ module _ {t : List ℕ} {at : ℕ} where
         ])
 
   module _ {k e : ℕ} (h : got k e ≡ natural t at) (fits : k < 2 ^ 64) where
-    pub kind-is-low : 5 ≤ k → k ≤ 14 → KindReads read_kind t at (Some ((record { k = k; a = 0; e = k }), (record { at = e })))
+    pub kind-is-low : 5 ≤ k → k ≤ 14 → KindReads read_kind t at (Some ((record { first = k; bits = 0; last = k }), (record { at = e })))
     kind-is-low lo hi =
         kind-is-alone h (omega arith) (λ q. omega arith) (λ q. omega arith)
         (alone-kept k t e (element-low k fits lo hi) k (kind-plain k 0 k (omega arith) (λ q. omega arith) (λ q. omega arith) (λ q. omega arith)) (omega arith))
 
-    pub kind-is-type : 32 ≤ k → KindReads read_kind t at (Some ((record { k = 32; a = 0; e = k }), (record { at = e })))
+    pub kind-is-type : 32 ≤ k → KindReads read_kind t at (Some ((record { first = 32; bits = 0; last = k }), (record { at = e })))
     kind-is-type lo =
         kind-is-alone h (omega arith) (λ q. omega arith) (λ q. omega arith)
         (alone-kept k t e (element-type k fits lo) 32 (kind-plain 32 0 k (omega arith) (λ q. omega arith) (λ q. omega arith) (λ q. omega arith)) (omega arith))

@@ -22,7 +22,7 @@ use Rattle.laws.specs.Packed.{packed, packed_none, packed_more, packed-room, pac
 use Rattle.laws.specs.Laws.{not-got}
 use Rattle.table.specs.View.{kind_from}
 use Rattle.words.specs.Answers.{Scanned}
-use Rattle.parse.specs.declared.kinds.Kind.{Kind as Numbers}
+use Rattle.reader.specs.declared.kinds.Kind.{Kind as Numbers}
 use Rattle.parse.specs.Answers.{keeping, element_of, kinds_of, map_of, KindReads}
 use Rattle.parse.specs.Twenty.{Twenty, byte-twenty, natural-twenty, then-twenty, repeat-twenty}
 use Rattle.parse.specs.KindLaws.{kind-bad}
@@ -198,7 +198,7 @@ module _ {t : List ℕ} {from n at left bytes : ℕ} (g : KindsGoing t from n at
         let due : left ≡ suc (left - 1) = omega arith in
         record { says = sym (rw (kinds-held n t from (types-kept n lo hi), g.rest, one_more due, ← h)); told = tt }
 
-    pub kinds-done : left ≤ 0 → KindReads (kinds_of n) t from (Some ((record { k = 20; a = n; e = bytes }), (record { at = at })))
+    pub kinds-done : left ≤ 0 → KindReads (kinds_of n) t from (Some ((record { first = 20; bits = n; last = bytes }), (record { at = at })))
     unfolding noted kind_from when◌then◌else◌
     kinds-done le =
         let none : left ≡ 0 = omega arith in

@@ -13,7 +13,7 @@ use Rattle.paper.specs.Scan.{heed, byte_is, literal, ended, natural, read_kind, 
 use Rattle.laws.specs.Laws.{not-got}
 use Rattle.table.specs.View.{kind_from}
 use Rattle.words.specs.declared.read.Place.{Place}
-use Rattle.parse.specs.declared.kinds.Kind.{Kind as Numbers}
+use Rattle.reader.specs.declared.kinds.Kind.{Kind as Numbers}
 use Rattle.parse.specs.Answers.{keeping, KindReads, kept_new, noted_new, NewReads}
 use Rattle.parse.specs.Twenty.{Twenty, byte-twenty, ended-twenty}
 
@@ -95,7 +95,7 @@ module _ (t : List ℕ) (at : ℕ) where
         go (bad n q) h = let x : 20 ≡ n = cc h in let y : 0 ≡ q = cc h in rw (← x, ← y)
 
     module _ {x : Numbers} {q : Place} (K : KindReads read_kind t p (Some (x, q))) where
-      kept-kind : Before noted (keeping read_kind t p) (kind_from x.k x.a x.e) q.at
+      kept-kind : Before noted (keeping read_kind t p) (kind_from x.first x.bits x.last) q.at
       kept-kind = turned-got noted _ K.says
 
       read : got kept-kind.value q.at ≡ read_kind t p

@@ -7,19 +7,10 @@ ghost use Rattle.words.specs.Answers.{out_number};
 ghost use Rattle.parse.specs.Answers.{width_of, Half, constant_of, array_of, many_of, element_of, kinds_of, map_of, KindReads};
 
 use paper::Ledger;
+use reader::kinds::Kind;
 use words::read::{Place, Scanned};
 
 const COMMA: u64 = 44;
-
-// A kind by three numbers: the first, of which 32 stands for all above; a constant's bits, an array's length or a map's number
-// of types, and else 0; and the last, which is the element kind, or the kind's only number. A constant's is 0. A map has several
-// element kinds, and of each a byte is kept.
-#[derive(Clone, Copy)]
-pub struct Kind {
-    pub k: u64,
-    pub a: u64,
-    pub e: u64,
-}
 
 // An element kind: 5 to 14, or 32 upwards. Constants, arrays and maps are no elements, and the gaps are no kinds.
 fn is_element(k: u64) -> bool
@@ -53,7 +44,14 @@ fn constant(t: &[u8], p: Place, k: u64) -> Scanned<Kind>
     let (bits, next) = value.integer(t)?;
     let half = half_of(k);
     if bits < half {
-        return Some((Kind { k, a: bits, e: 0 }, next));
+        return Some((
+            Kind {
+                first: k,
+                bits,
+                last: 0,
+            },
+            next,
+        ));
     }
     // The value is as far below -1 as its bits are below the top.
     let below = u64::MAX - bits;
@@ -62,7 +60,14 @@ fn constant(t: &[u8], p: Place, k: u64) -> Scanned<Kind>
     }
     let above = half - 1 - below;
     let kept = half + above;
-    Some((Kind { k, a: kept, e: 0 }, next))
+    Some((
+        Kind {
+            first: k,
+            bits: kept,
+            last: 0,
+        },
+        next,
+    ))
 }
 
 // An array's length and element kind follow its number.
@@ -76,7 +81,14 @@ fn array(t: &[u8], p: Place) -> Scanned<Kind>
         return None;
     }
     if is_element(e) {
-        return Some((Kind { k: 15, a: n, e }, next));
+        return Some((
+            Kind {
+                first: 15,
+                bits: n,
+                last: e,
+            },
+            next,
+        ));
     }
     None
 }
@@ -99,7 +111,14 @@ fn many(t: &[u8], p: Place, k: u64) -> Scanned<Kind>
     ensures { KindReads (many_of k) t.now p.at result }
 {
     let (e, next) = element(t, p)?;
-    Some((Kind { k, a: 0, e }, next))
+    Some((
+        Kind {
+            first: k,
+            bits: 0,
+            last: e,
+        },
+        next,
+    ))
 }
 
 // The n element kinds of a map. Eight bytes hold what is kept of them, and the first stands highest. A kind from 255 upwards
@@ -117,9 +136,9 @@ fn map_kinds(t: &[u8], p: Place, n: u64) -> Scanned<Kind>
     }
     Some((
         Kind {
-            k: 20,
-            a: n,
-            e: packed,
+            first: 20,
+            bits: n,
+            last: packed,
         },
         at,
     ))
@@ -147,11 +166,25 @@ pub fn kind_word(t: &[u8], p: Place) -> Scanned<Kind>
     let (k, next) = p.natural(t)?;
     match k {
         0..=4 => constant(t, next, k),
-        5..=14 => Some((Kind { k, a: 0, e: k }, next)),
+        5..=14 => Some((
+            Kind {
+                first: k,
+                bits: 0,
+                last: k,
+            },
+            next,
+        )),
         15 => array(t, next),
         17..=19 => many(t, next, k),
         20 => mapping(t, next),
-        32..=u64::MAX => Some((Kind { k: 32, a: 0, e: k }, next)),
+        32..=u64::MAX => Some((
+            Kind {
+                first: 32,
+                bits: 0,
+                last: k,
+            },
+            next,
+        )),
         16 | 21..=31 => None,
     }
 }

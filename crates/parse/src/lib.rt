@@ -10,7 +10,8 @@ ghost use Rattle.values.specs.Pass.{forget};
 ghost use Rattle.words.specs.Answers.{out_step};
 ghost use Rattle.parse.specs.Answers.{read_two, HexEnd, out_pair, StringReads, out_type, NewReads};
 
-use crate::kinds::{Kind, kind_word};
+use crate::kinds::kind_word;
+use reader::kinds::Kind;
 use words::read::{Place, Scanned};
 
 pub mod kinds;
@@ -36,7 +37,7 @@ pub struct TypeLine {
     pub fields: u64,
 }
 
-// A new field: its kind by three numbers, as in `kinds`, and its name by the string's number.
+// A new field: its kind by three numbers, as a file's reader has it, and its name by the string's number.
 #[derive(Clone, Copy)]
 pub struct NewLine {
     pub kind: Kind,

@@ -6,7 +6,6 @@ ghost use Rattle.print.specs.Printed.{printed};
 
 use listing::listing;
 use paper::Ledger;
-use streams::Came;
 
 // What the program writes for the input that came: it stands at the front of `out`, and the answer says how long it is. The
 // length of `out` is the bound on the output, so that the call itself refuses what is longer.
@@ -24,8 +23,7 @@ fn answer(came: &[u8], out: &mut [u8; Ledger::OUTPUT as usize]) -> usize
 fn main(rt: HostRuntime) {
     // One byte more than is taken tells that there are too many.
     let mut input = [0u8; Ledger::INPUT as usize + 1];
-    let a = streams::read_input(&rt, &mut input);
-    let Came::Bytes(n) = a else {
+    let Ok(n) = streams::read_input(&rt, &mut input) else {
         return;
     };
     let mut out = [0u8; Ledger::OUTPUT as usize];

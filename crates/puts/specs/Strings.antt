@@ -22,7 +22,6 @@ use Rattle.words.specs.declared.read.Bytes.{Bytes}
 use Rattle.table.specs.View.{strs_of, Holds, strings_in}
 use Rattle.table.specs.Answers.{Stands}
 use Rattle.table.specs.NameLaws.{part_of}
-use Rattle.values.specs.Constants.{Capped}
 
 -- ── what is laid, of any digits ──
 
@@ -119,24 +118,15 @@ module _ (f l : List ℕ) (i : ℕ) (le : length (strs_of f l) ≤ i) where
 
 -- ── as code meets them ──
 
-pub end_is : (end n : ℕ) {a r : ℕ} → Capped a 4294967295 r → a ≡ end + n / 2 → r ≡ end_behind end n
-unfolding end_behind
-end_is end n {a} C is =
-    rw (← is)
-    (elim (dec_le a 4294967295) [
-      | yes d ↦ C.same d ∙ sym (min-eq_left d)
-      | no d ↦ (let lt = lt_of_not-le d in C.top lt ∙ sym (min-eq_right (le_of_lt lt)))
-    ])
-
 -- a part as code lends it
-pub digits_are : (t : List ℕ) {start end s : ℕ} → end ≤ length t → Capped start end s → take (end - s) (drop s t) ≡ slice start end t
-digits_are t {start} {end} {s} h C =
+pub digits_are : (t : List ℕ) (start : ℕ) {end : ℕ} → end ≤ length t → take (end - min start end) (drop (min start end) t) ≡ slice start end t
+digits_are t start {end} h =
     elim (dec_le start end) [
-      | yes d ↦ (let same = C.same d in go (omega arith))
-      | no d ↦ (let top = C.top (lt_of_not-le d) in go (omega (arith, lt_of_not-le d)))
+      | yes d ↦ go (omega (arith, min-eq_left d))
+      | no d ↦ (let le = le_of_lt (lt_of_not-le d) in go (omega (arith, min-eq_right le)))
     ]
   where
-    go : end - (end - start) ≡ s → take (end - s) (drop s t) ≡ slice start end t
+    go : end - (end - start) ≡ min start end → take (end - min start end) (drop (min start end) t) ≡ slice start end t
     go e = rw e at (part_of start end (end - start) t refl h)
 
 pub unhexed-laid : {t l m : List ℕ} {at : ℕ} {r : Bytes} → Unhexed t 0 l at m r → Laid l at (bytes_in t) m r.at

@@ -11,10 +11,12 @@ ghost use Rattle.laws.specs.Put.{put_option, put_head, put_whole, put_kind, put_
 ghost use Rattle.lay.specs.Laid.{Laid};
 ghost use Rattle.table.specs.View.{kind_from};
 ghost use Rattle.words.specs.Answers.{option};
+ghost use Rattle.parse.specs.Answers.{head_of};
 ghost use Rattle.puts.specs.Kinds.{constant_of};
 
 use numbers::write::{put_be, put_v64};
-use values::constants::at_most;
+use parse::{NewLine, TypeLine};
+use reader::kinds::Kind;
 
 // What an entry may leave out.
 fn put_option(out: &mut [u8], at: usize, x: Option<u64>) -> usize
@@ -36,15 +38,15 @@ fn put_restrictions(out: &mut [u8], at: usize, sup: Option<u64>) -> usize
     }
 }
 
-// The head of an entry.
-pub fn put_head(out: &mut [u8], at: usize, name: u64, sup: Option<u64>, start: Option<u64>, count: u64) -> usize
-    ensures { Laid out.old at (put_head (record { name = name; super = option sup; start = option start; count = count })) out.new result }
+// The head of an entry, as its line says it.
+pub fn put_head(out: &mut [u8], at: usize, line: TypeLine) -> usize
+    ensures { Laid out.old at (put_head (head_of line)) out.new result }
 {
-    let second = put_v64(out, at, name);
-    let third = put_option(out, second, sup);
-    let fourth = put_option(out, third, start);
-    let fifth = put_v64(out, fourth, count);
-    put_restrictions(out, fifth, sup)
+    let second = put_v64(out, at, line.name);
+    let third = put_option(out, second, line.sup);
+    let fourth = put_option(out, third, line.start);
+    let fifth = put_v64(out, fourth, line.count);
+    put_restrictions(out, fifth, line.sup)
 }
 
 // Two numbers.
@@ -61,9 +63,9 @@ fn put_whole(out: &mut [u8], at: usize, k: u64, a: u64) -> usize
     ensures { Laid out.old at (put_whole k (constant_of k a)) out.new result }
 {
     match k {
-        0 => put_be::<1>(out, at, at_most(a, 255)),
-        1 => put_be::<2>(out, at, at_most(a, 65535)),
-        2 => put_be::<4>(out, at, at_most(a, 4294967295)),
+        0 => put_be::<1>(out, at, a.min(255)),
+        1 => put_be::<2>(out, at, a.min(65535)),
+        2 => put_be::<4>(out, at, a.min(4294967295)),
         3 => put_be::<8>(out, at, a),
         _ => put_v64(out, at, a),
     }
@@ -86,27 +88,27 @@ fn put_array(out: &mut [u8], at: usize, n: u64, e: u64) -> usize
     put_v64(out, third, e)
 }
 
-// The kind that has the first number k, a constant's bits or an array's length a, and the last number e. A map's element kinds
-// do not stand in these, so its numbers are laid by whoever reads them.
-pub fn put_kind(out: &mut [u8], at: usize, k: u64, a: u64, e: u64) -> usize
-    requires { k ≡ 20 → ⊥ }
-    ensures { Laid out.old at (put_kind (kind_from k a e)) out.new result }
+// A kind, by its numbers. A map's element kinds do not stand in these, so they are laid by whoever reads them.
+pub fn put_kind(out: &mut [u8], at: usize, kind: Kind) -> usize
+    requires { kind.first ≡ 20 → ⊥ }
+    ensures { Laid out.old at (put_kind (kind_from kind.first kind.bits kind.last)) out.new result }
 {
-    match k {
-        0..=4 => put_constant(out, at, k, a),
-        15 => put_array(out, at, a, e),
-        17..=19 => put_two(out, at, k, e),
-        _ => put_v64(out, at, e),
+    let Kind { first, bits, last } = kind;
+    match first {
+        0..=4 => put_constant(out, at, first, bits),
+        15 => put_array(out, at, bits, last),
+        17..=19 => put_two(out, at, first, last),
+        _ => put_v64(out, at, last),
     }
 }
 
-// A new field, by the numbers of its kind, and where its chunk ends. It has no restrictions.
-pub fn put_new(out: &mut [u8], at: usize, k: u64, a: u64, e: u64, name: u64, end: u64) -> usize
-    requires { k ≡ 20 → ⊥ }
-    ensures { Laid out.old at (put_new (record { kind = kind_from k a e; name = name }, end)) out.new result }
+// A new field, as its line says it, and where its chunk ends. It has no restrictions.
+pub fn put_new(out: &mut [u8], at: usize, line: NewLine, end: u64) -> usize
+    requires { line.kind.first ≡ 20 → ⊥ }
+    ensures { Laid out.old at (put_new (record { kind = kind_from line.kind.first line.kind.bits line.kind.last; name = line.name }, end)) out.new result }
 {
     let second = put_v64(out, at, 0);
-    let third = put_kind(out, second, k, a, e);
-    let fourth = put_v64(out, third, name);
+    let third = put_kind(out, second, line.kind);
+    let fourth = put_v64(out, third, line.name);
     put_v64(out, fourth, end)
 }

@@ -12,7 +12,6 @@ ghost use Rattle.puts.specs.Strings.{end_behind, ends_behind, bytes_in};
 
 use numbers::write::{put_be, put_v64};
 use table::rows::{Span, string_at, strings};
-use values::constants::at_most;
 use words::read::Place;
 
 // How many strings there are from a row on.
@@ -33,7 +32,7 @@ fn digits(t: &[u8], s: Span) -> &[u8]
     ensures { result.now ≡ slice s.start s.end t.now }
 {
     let end = s.end as usize;
-    let start = at_most(s.start as u64, s.end as u64) as usize;
+    let start = s.start.min(s.end) as usize;
     &t[start..end]
 }
 
@@ -43,7 +42,7 @@ fn end_behind(end: u64, n: usize) -> u64
     requires { end < 4294967296 }
     ensures { (result ≡ end_behind end n) × (result < 4294967296) }
 {
-    at_most(end + (n / 2) as u64, 4294967295)
+    (end + (n / 2) as u64).min(4294967295)
 }
 
 // The end offset of each string from a row on.
@@ -51,15 +50,12 @@ fn put_ends(t: &[u8], work: &[u32], from: u32, out: &mut [u8], at: usize) -> usi
     requires { Holds t.now work.now }
     ensures { Laid out.old at (flat (put_fixed 4) (ends_behind 0 (drop from (strs_of t.now work.now)))) out.new result }
 {
-    let n = strings(work);
     let mut p = at;
     let mut end: u64 = 0;
-    let mut i = from;
-    while i < n {
+    for i in from..strings(work) {
         let s = digits(t, string_at(work, i));
         end = end_behind(end, s.len());
         p = put_be::<4>(out, p, end);
-        i += 1;
     }
     p
 }
@@ -78,12 +74,9 @@ fn put_string_bytes(t: &[u8], work: &[u32], from: u32, out: &mut [u8], at: usize
     requires { Holds t.now work.now }
     ensures { Laid out.old at (flat bytes_in (drop from (strs_of t.now work.now))) out.new result }
 {
-    let n = strings(work);
     let mut p = at;
-    let mut i = from;
-    while i < n {
+    for i in from..strings(work) {
         p = put_unhexed(digits(t, string_at(work, i)), out, p);
-        i += 1;
     }
     p
 }

@@ -1,5 +1,5 @@
 -- The ways out of the reader of a local start, and of what holds a count to its rules, on plain values. Assumes nothing.
-use Rattle.std.specs.Prelude.{◌≡◌, Bool, true, false, leb, eqb}
+use Rattle.std.specs.Prelude.{Ok, Err, ◌≡◌, Bool, true, false, leb, eqb}
 use Rattle.std.proofs.Math.Path.{refl, ap, subst}
 use Rattle.std.proofs.Common.{sym, ◌∙◌}
 use mathlib.Core.List.{List, []}
@@ -11,28 +11,27 @@ use Rattle.paper.specs.Reader.{when◌then◌else◌, Reader, got, only, give, t
 use Rattle.paper.specs.Lists.{any, all, given?}
 use Rattle.paper.specs.Ledger.{State, objects_in_all}
 use Rattle.paper.specs.Rules.{around?, clear?, in_range?, few_objects?, count_rules}
-use Rattle.numbers.specs.Cursors.{Read}
-use Rattle.numbers.specs.declared.Number.{Number}
-use Rattle.numbers.specs.declared.Number.TheVariants.{Got, No}
+use Rattle.numbers.specs.Cursors.{Read, Outcome}
 use Rattle.numbers.specs.declared.Cursor.{Cursor}
 use Rattle.laws.specs.Bools.{and_split}
 use Rattle.table.specs.View.{view, maybe}
 use Rattle.reader.specs.Ruled.{judged-bad, judged-got}
 use Rattle.reader.specs.Heads.{due, DueRead, CountJudged}
 use Rattle.reader.specs.HeadLaws.{differ, only-due}
+use Rattle.numbers.specs.declared.Fault.TheVariants as fault
 
 -- ── what is read only if it is due ──
 
 module _ {b : Bool} {q : Reader ℕ} {m : ℕ} {f : List ℕ} {at : ℕ} where
-  pub due-read : b ≡ true → {r : Number} → Read q m f at r → DueRead b q m f at r
+  pub due-read : b ≡ true → {r : Outcome ℕ} → Read q m f at r → DueRead b q m f at r
   due-read e {r} read =
       subst (λ (b : Bool). DueRead b q m f at r) (sym e)
       (record { says = ap (turned (due true)) read.says ∙ sym (only-due q f at); inside = read.inside; below = read.below; none = λ w. differ (cc w) })
 
-  pub due-none : b ≡ false → 0 < m → {c : Cursor} → at ≡ c.at → DueRead b q m f at (Got 0 c)
+  pub due-none : b ≡ false → 0 < m → {c : Cursor} → at ≡ c.at → DueRead b q m f at (Ok (0, c))
   unfolding only give
   due-none e pos {c} is =
-      subst (λ (b : Bool). DueRead b q m f at (Got 0 c)) (sym e)
+      subst (λ (b : Bool). DueRead b q m f at (Ok (0, c))) (sym e)
       (record { says = ap (got none) (sym is); inside = λ lo. rw (← is) lo; below = pos; none = λ w. refl })
 
 pub given-up : (up : ℕ) → (up ≡ 0 → ⊥) → given? (maybe up) ≡ true
@@ -88,16 +87,16 @@ module _ (s : State) (start n : ℕ) where
 -- ── the count ──
 
 module _ {l : List ℕ} (up start : ℕ) {n at next : ℕ} where
-  pub count-over : ((f : List ℕ) → few_objects? (view f l) (maybe up) n ≡ false) → CountJudged l up start n at next (No (record { number = 3; place = at }))
+  pub count-over : ((f : List ℕ) → few_objects? (view f l) (maybe up) n ≡ false) → CountJudged l up start n at next (Err (record { fault = fault.Limit; place = at }))
   unfolding count_rules
   count-over e = record { judged = λ f h. judged-bad (count_rules (view f l) (maybe up) start) (rw (e f)); below = omega arith }
 
   module _ (few : (f : List ℕ) → few_objects? (view f l) (maybe up) n ≡ true) where
-    pub count-out : ((f : List ℕ) → in_range? (view f l) (maybe up) start n ≡ false) → CountJudged l up start n at next (No (record { number = 21; place = at }))
+    pub count-out : ((f : List ℕ) → in_range? (view f l) (maybe up) start n ≡ false) → CountJudged l up start n at next (Err (record { fault = fault.Range; place = at }))
     unfolding count_rules
     count-out e = record { judged = λ f h. judged-bad (count_rules (view f l) (maybe up) start) (rw (few f, e f)); below = omega arith }
 
-    pub count-in : {c : Cursor} → c.at ≡ next → ((f : List ℕ) → in_range? (view f l) (maybe up) start n ≡ true) → CountJudged l up start n at next (Got n c)
+    pub count-in : {c : Cursor} → c.at ≡ next → ((f : List ℕ) → in_range? (view f l) (maybe up) start n ≡ true) → CountJudged l up start n at next (Ok (n, c))
     unfolding count_rules
     count-in here e =
         record {

@@ -1,4 +1,5 @@
 -- A head enters the table, on plain values. Assumes nothing.
+use Rattle.std.specs.Prelude as prelude
 use Rattle.std.specs.Prelude.{◌≡◌, Bool, not, ℕ, zero, suc, ◌+◌, ◌-◌, ◌≤◌, ◌<◌, get_or}
 use Rattle.std.proofs.Math.Path.{refl, ap}
 use Rattle.std.proofs.Common.{sym, ◌∙◌, subst, arith}
@@ -24,13 +25,12 @@ use Rattle.table.specs.Notes.{NoteTaken}
 use Rattle.table.specs.declared.rows.RangeRow.{RangeRow}
 use Rattle.reader.specs.declared.heads.Name.{Name}
 use Rattle.reader.specs.declared.heads.Top.{Top}
-use Rattle.reader.specs.declared.heads.Topped.{Topped}
-use Rattle.reader.specs.declared.heads.Topped.TheVariants as topped
 use Rattle.reader.specs.Sound.{Sound, Headed, Open, log-room, entered-new, opened}
 use Rattle.reader.specs.Going.{Going, go_head}
-use Rattle.reader.specs.Heads.{Placed, head_of, TopRead, add_head, range_for, Declares, add_new, TypeEntered, Entered, LeftTop, TopEntered}
+use Rattle.reader.specs.Heads.{Placed, head_of, TopRead, add_head, range_for, Declares, add_new, TypeEntered, Entered, TopEntered}
 use Rattle.reader.specs.HeadLaws.{differ, named-below}
 use Rattle.reader.specs.TopLaws.{or-due}
+use Rattle.numbers.specs.Cursors.{Outcome}
 
 -- ── the base type of a pool ──
 
@@ -250,16 +250,16 @@ module _ {f l : List ℕ} (h : Holds f l) {t : Top} (placed : Placed (view f l) 
 
 -- ── the ways out of `enter_head` ──
 
-module _ {f l : List ℕ} (h : Holds f l) {at : ℕ} {a : Topped} (read : TopRead (view f l) f at a) where
-  pub entered-no : {e : Refusal} → a ≡ topped.No e → TopEntered f l l at a
-  entered-no is = record { says = read.says; inside = read.inside; left = subst (LeftTop f l l) (sym is) h }
+module _ {f l : List ℕ} (h : Holds f l) {at : ℕ} {a : Outcome Top} (read : TopRead (view f l) f at a) where
+  pub entered-no : {e : Refusal} → a ≡ prelude.Err e → TopEntered f l l at (prelude.Err e)
+  entered-no is = let R = rw is at read in record { says = R.says; inside = R.inside; left = h }
 
-  module _ {t : Top} {c : Cursor} (is : a ≡ topped.Got t c) where
-    top_read : TopRead (view f l) f at (topped.Got t c)
+  module _ {t : Top} {c : Cursor} (is : a ≡ prelude.Ok (t, c)) where
+    top_read : TopRead (view f l) f at (prelude.Ok (t, c))
     top_read = rw is at read
 
     pub top_placed : Placed (view f l) t
     top_placed = top_read.told
 
-    pub entered-top : {l' : List ℕ} → Entered f l l' t → TopEntered f l l' at (topped.Got t c)
+    pub entered-top : {l' : List ℕ} → Entered f l l' t → TopEntered f l l' at (prelude.Ok (t, c))
     entered-top entry = record { says = top_read.says; inside = top_read.inside; left = entry }

@@ -1,6 +1,6 @@
 -- The numbers of an entry's fields that are held to rules, and how many values a chunk has: the ways out, on plain values.
 -- Assumes nothing.
-use Rattle.std.specs.Prelude.{◌≡◌, refl, Bool, true, false, ◌&&◌, List, ℕ, ◌+◌, ◌-◌, ◌≤◌, ◌<◌, ◌^◌, leb, eqb, length}
+use Rattle.std.specs.Prelude.{Ok, Err, ◌≡◌, refl, Bool, true, false, ◌&&◌, List, ℕ, ◌+◌, ◌-◌, ◌≤◌, ◌<◌, ◌^◌, leb, eqb, length}
 use Rattle.std.proofs.Common.{arith}
 use Rattle.std.proofs.Math.Decide.{dec_le}
 use borrow.Author.Tests.{le-leb, lt-leb, eq-eqb, ne_eqb}
@@ -9,57 +9,56 @@ use Rattle.paper.specs.Numbers.{put_fixed, v64, number}
 use Rattle.paper.specs.Ledger.{State, plain, array, many, mapping}
 use Rattle.paper.specs.Rules.{restriction_rules, field_count_rules, end_rules, values_due}
 use Rattle.paper.specs.File.{restrictions, end_offset}
-use Rattle.numbers.specs.Cursors.{Read, was-got}
-use Rattle.numbers.specs.declared.Number.{Number}
-use Rattle.numbers.specs.declared.Number.TheVariants.{Got, No}
+use Rattle.numbers.specs.Cursors.{Read, was-got, Outcome}
 use Rattle.numbers.specs.declared.Cursor.{Cursor}
 use Rattle.numbers.specs.declared.Refusal.{Refusal}
 use Rattle.table.specs.View.{kind_from}
 use Rattle.numbers.specs.Ruled.{read_no, read-bad, read-got}
 use Rattle.reader.specs.Ruled.{Judged, judged-bad, judged-got}
+use Rattle.numbers.specs.declared.Fault.TheVariants as fault
 
-module _ {f : List ℕ} {at : ℕ} {a : Number} (read : Read v64 (2 ^ 64) f at a) where
+module _ {f : List ℕ} {at : ℕ} {a : Outcome ℕ} (read : Read v64 (2 ^ 64) f at a) where
   -- ── the number of restrictions ──
 
-  pub restrictions-no : {e : Refusal} → a ≡ No e → Read restrictions 1 f at a
+  pub restrictions-no : {e : Refusal} → a ≡ Err e → Read restrictions 1 f at (Err e)
   unfolding restrictions number
   restrictions-no is = read_no read restriction_rules (omega arith) is
 
-  pub restrictions-some : {n : ℕ} {c : Cursor} → a ≡ Got n c → (n ≡ 0 → ⊥) → Read restrictions 1 f at (No (record { number = 9; place = at }))
+  pub restrictions-some : {n : ℕ} {c : Cursor} → a ≡ Ok (n, c) → (n ≡ 0 → ⊥) → Read restrictions 1 f at (Err (record { fault = fault.Restriction; place = at }))
   unfolding restrictions number restriction_rules
   restrictions-some {n} is ne = read-bad read restriction_rules (omega arith) is (rw (ne_eqb n 0 ne))
 
-  pub restrictions-none : {n : ℕ} {c : Cursor} → a ≡ Got n c → n ≡ 0 → Read restrictions 1 f at (Got n c)
+  pub restrictions-none : {n : ℕ} {c : Cursor} → a ≡ Ok (n, c) → n ≡ 0 → Read restrictions 1 f at (Ok (n, c))
   unfolding restrictions number restriction_rules
   restrictions-none {n} is eq = read-got read restriction_rules (omega arith) is (rw (eq-eqb n 0 eq))
 
   -- ── an end offset ──
 
   module _ (before : ℕ) where
-    pub end-no : {e : Refusal} → a ≡ No e → Read (end_offset before) (2 ^ 64) f at a
+    pub end-no : {e : Refusal} → a ≡ Err e → Read (end_offset before) (2 ^ 64) f at (Err e)
     unfolding end_offset number
     end-no is = read_no read (end_rules before) (omega arith) is
 
-    pub end_falls : {e : ℕ} {c : Cursor} → a ≡ Got e c → e < before → Read (end_offset before) (2 ^ 64) f at (No (record { number = 4; place = at }))
+    pub end_falls : {e : ℕ} {c : Cursor} → a ≡ Ok (e, c) → e < before → Read (end_offset before) (2 ^ 64) f at (Err (record { fault = fault.Ends; place = at }))
     unfolding end_offset number end_rules
     end_falls {e} is lt = read-bad read (end_rules before) (omega arith) is (rw (lt-leb before e lt))
 
-    pub end-got : {e : ℕ} {c : Cursor} → a ≡ Got e c → before ≤ e → Read (end_offset before) (2 ^ 64) f at (Got e c)
+    pub end-got : {e : ℕ} {c : Cursor} → a ≡ Ok (e, c) → before ≤ e → Read (end_offset before) (2 ^ 64) f at (Ok (e, c))
     unfolding end_offset number end_rules
     end-got {e} is le = read-got read (end_rules before) (was-got read is).below is (rw (le-leb before e le))
 
 -- ── the number of fields ──
 
 module _ (s : State) (known : ℕ) {n at next : ℕ} where
-  pub count-many : 128 < length s.fields + (n - known) → Judged (field_count_rules s known) n at next (No (record { number = 3; place = at }))
+  pub count-many : 128 < length s.fields + (n - known) → Judged (field_count_rules s known) n at next (Err (record { fault = fault.Limit; place = at }))
   unfolding field_count_rules
   count-many gt = judged-bad (field_count_rules s known) (rw (lt-leb (length s.fields + (n - known)) 128 gt))
 
-  pub count-few : length s.fields + (n - known) ≤ 128 → n < known → Judged (field_count_rules s known) n at next (No (record { number = 11; place = at }))
+  pub count-few : length s.fields + (n - known) ≤ 128 → n < known → Judged (field_count_rules s known) n at next (Err (record { fault = fault.Fields; place = at }))
   unfolding field_count_rules
   count-few le lt = judged-bad (field_count_rules s known) (rw (le-leb (length s.fields + (n - known)) 128 le, lt-leb known n lt))
 
-  pub count-got : {c : Cursor} → c.at ≡ next → length s.fields + (n - known) ≤ 128 → known ≤ n → Judged (field_count_rules s known) n at next (Got n c)
+  pub count-got : {c : Cursor} → c.at ≡ next → length s.fields + (n - known) ≤ 128 → known ≤ n → Judged (field_count_rules s known) n at next (Ok (n, c))
   unfolding field_count_rules
   count-got here le all = judged-got (field_count_rules s known) here (rw (le-leb (length s.fields + (n - known)) 128 le, le-leb known n all))
 

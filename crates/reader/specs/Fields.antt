@@ -1,18 +1,17 @@
 -- The fields of an entry, as steps of all that the table says and of the last end offset. Assumes nothing.
-use Rattle.std.specs.Prelude.{◌≡◌, Bool, List, [], ◌∷◌, ◌++◌, map, ℕ, ◌≤◌, eqb, length}
+use Rattle.std.specs.Prelude.{Ok, Err, ◌≡◌, Bool, List, [], ◌∷◌, ◌++◌, map, ℕ, ◌≤◌, eqb, length}
 use Rattle.paper.specs.Reader.{when◌then◌else◌, Reader, Out, got, no, turned, times}
 use Rattle.paper.specs.Lists.{fold, last_or}
 use Rattle.paper.specs.Ledger.{Kind, New, State, owns?, field_at, fields_of, objects_of}
 use Rattle.paper.specs.Rules.{noted, after_new, values_due, old_due, new_dues}
 use Rattle.paper.specs.File.{Upto, end_offset, new_field, upto_new, fields, sized}
-use Rattle.numbers.specs.Cursors.{place_of}
-use Rattle.numbers.specs.declared.Number.{Number}
-use Rattle.numbers.specs.declared.Number.TheVariants.{Got, No}
+use Rattle.numbers.specs.Cursors.{place_of, Outcome}
 use Rattle.table.specs.View.{Holds, Said, said, Now}
 use Rattle.reader.specs.declared.kinds.Kind.{Kind as KindRow}
 use Rattle.reader.specs.Kinds.{kind_in}
 use Rattle.reader.specs.Sound.{Open}
 use Rattle.reader.specs.Going.{Going, go_old, go_olds, go_new}
+use Rattle.numbers.specs.Faults.{number_of}
 
 -- what the table says, with the last end offset
 abbrev pub going : List ℕ → List ℕ → ℕ → Going
@@ -78,17 +77,17 @@ pub record FieldAdded (f : List ℕ) (t n name : ℕ) (k : KindRow) (size : ℕ)
 -- ── answers ──
 
 -- an answer whose value is the last end offset
-abbrev pub out_going : List ℕ → List ℕ → Number → Out Going
-out_going f l (Got e c) = got (going f l e) c.at
-out_going f l (No r) = no r.number r.place
+abbrev pub out_going : List ℕ → List ℕ → Outcome ℕ → Out Going
+out_going f l (Ok (e, c)) = got (going f l e) c.at
+out_going f l (Err r) = no (number_of r.fault) r.place
 
-abbrev pub OpenBefore : List ℕ → List ℕ → ℕ → ℕ → Number → Type 0
-OpenBefore f l t i (Got e c) = Open (said f l) t i
-OpenBefore f l t i (No r) = Unit {0}
+abbrev pub OpenBefore : List ℕ → List ℕ → ℕ → ℕ → Outcome ℕ → Type 0
+OpenBefore f l t i (Ok (e, c)) = Open (said f l) t i
+OpenBefore f l t i (Err r) = Unit {0}
 
 -- the answer, with the table l that is left, is the outcome o; from a place within the file it leads to one, and the chunks
 -- of type t that are due are then of fields before i
-pub record Went (f l : List ℕ) (t i at : ℕ) (r : Number) (o : Out Going) : Type 0 where
+pub record Went (f l : List ℕ) (t i at : ℕ) (r : Outcome ℕ) (o : Out Going) : Type 0 where
   pub holds : Holds f l
   pub says : out_going f l r ≡ o
   pub inside : at ≤ length f → place_of r ≤ length f

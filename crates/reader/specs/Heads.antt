@@ -1,5 +1,6 @@
 -- An entry's head, as the code reads it. Assumes nothing.
-use Rattle.std.specs.Prelude.{ℕ, ◌+◌, ◌≤◌, ◌<◌, List, [], ◌∷◌, ◌≡◌, Bool, true, false, not, length}
+use Rattle.std.specs.Prelude as prelude
+use Rattle.std.specs.Prelude.{Ok, Err, Some, None, ℕ, ◌+◌, ◌≤◌, ◌<◌, List, [], ◌∷◌, ◌≡◌, Bool, true, false, not, length}
 use Rattle.std.proofs.Math.Option.{Option, none, some}
 use Rattle.paper.specs.Reader.{Reader, Out, got, no, only, turned, hold, Rule, ◌or_no◌}
 use Rattle.paper.specs.Numbers.{number}
@@ -7,24 +8,16 @@ use Rattle.paper.specs.Lists.{given?, or, total, any}
 use Rattle.paper.specs.Ledger.{State, Head, Typ, Range, before?, size, type_named, text}
 use Rattle.paper.specs.Rules.{entry_of?, entered?, new?, type_of, place_rules, type_name_rules, super_named, chain_ends?, super_name_rules, super_of, count_rules, after_head}
 use Rattle.paper.specs.File.{head}
-use Rattle.numbers.specs.Cursors.{out_of, place_of, value_of}
-use Rattle.numbers.specs.declared.Number.{Number}
-use Rattle.numbers.specs.declared.Refusal.{Refusal}
+use Rattle.numbers.specs.Cursors.{out_of, place_of, value_of, Outcome}
 use Rattle.table.specs.View.{view, said, maybe, log_of, Holds, Said, Now, strings_in, types_in, ranges_in, block_in}
 use Rattle.table.specs.Adds.{add_type}
 use Rattle.table.specs.Asks.{found}
-use Rattle.table.specs.declared.names.Found.{Found}
-use Rattle.table.specs.declared.names.Found.TheVariants.{At, Nothing}
 use Rattle.reader.specs.Sound.{Open}
 use Rattle.reader.specs.Ruled.{Judged}
 use Rattle.reader.specs.declared.heads.Name.{Name}
-use Rattle.reader.specs.declared.heads.Named.{Named}
-use Rattle.reader.specs.declared.heads.Named.TheVariants as named
-use Rattle.reader.specs.declared.heads.Above.{Above}
-use Rattle.reader.specs.declared.heads.Above.TheVariants as above
 use Rattle.reader.specs.declared.heads.Top.{Top}
-use Rattle.reader.specs.declared.heads.Topped.{Topped}
-use Rattle.reader.specs.declared.heads.Topped.TheVariants as topped
+use Rattle.numbers.specs.Faults.{number_of}
+use Rattle.reader.specs.declared.heads.Super.{Super}
 
 -- a number that stands only if it is due
 abbrev pub due : Bool → ℕ → Option ℕ
@@ -33,12 +26,12 @@ due false n = none
 
 -- ── a type by its name ──
 
-abbrev pub FoundBelow : ℕ → Found → Type 0
-FoundBelow m (At t) = t < m
-FoundBelow m Nothing = Unit {0}
+abbrev pub FoundBelow : ℕ → prelude.Option ℕ → Type 0
+FoundBelow m (Some t) = t < m
+FoundBelow m None = Unit {0}
 
 -- string n names the type r
-pub record Known (f l : List ℕ) (n : ℕ) (r : Found) : Type 0 where
+pub record Known (f l : List ℕ) (n : ℕ) (r : prelude.Option ℕ) : Type 0 where
   pub is : type_named (view f l) (text (view f l) n) ≡ found r
   pub below : FoundBelow (types_in l) r
 
@@ -53,29 +46,25 @@ pub record Resolved (s : State) (x : Name) : Type 0 where
   pub room : x.fresh ≡ true → length s.type_names < 32
   pub first : x.fresh ≡ false → entered? s x.typ ≡ false
 
-abbrev pub out_name : Named → Out ℕ
-out_name (named.Got x c) = got x.number c.at
-out_name (named.No e) = no e.number e.place
+abbrev pub out_name : Outcome Name → Out ℕ
+out_name (Ok (x, c)) = got x.number c.at
+out_name (Err e) = no (number_of e.fault) e.place
 
-abbrev pub name_place : Named → ℕ
-name_place (named.Got x c) = c.at
-name_place (named.No e) = e.place
+abbrev pub name_place : Outcome Name → ℕ
+name_place (Ok (x, c)) = c.at
+name_place (Err e) = e.place
 
-abbrev pub no_name : Named → Refusal
-no_name (named.Got x c) = record { number = 0; place = c.at }
-no_name (named.No e) = e
-
-abbrev pub ToldName : State → Named → Type 0
-ToldName s (named.Got x c) = Resolved s x
-ToldName s (named.No e) = Unit {0}
+abbrev pub ToldName : State → Outcome Name → Type 0
+ToldName s (Ok (x, c)) = Resolved s x
+ToldName s (Err e) = Unit {0}
 
 -- what the rules make of the number n that began at `at` and has `next` behind it
-pub record NameJudged (s : State) (n at next : ℕ) (r : Named) : Type 0 where
+pub record NameJudged (s : State) (n at next : ℕ) (r : Outcome Name) : Type 0 where
   pub says : out_name r ≡ hold (type_name_rules s n) at (got n next)
   pub inside : (m : ℕ) → at ≤ m → next ≤ m → name_place r ≤ m
   pub told : ToldName s r
 
-pub record NameRead (s : State) (f : List ℕ) (at : ℕ) (r : Named) : Type 0 where
+pub record NameRead (s : State) (f : List ℕ) (at : ℕ) (r : Outcome Name) : Type 0 where
   pub says : out_name r ≡ number (type_name_rules s) f at
   pub inside : at ≤ length f → name_place r ≤ length f
   pub told : ToldName s r
@@ -89,70 +78,66 @@ pub record Place (l : List ℕ) (n : ℕ) (o : Option ℕ) (x : Name) : Type 0 w
   pub room : x.fresh ≡ true → types_in l < 32
   pub first : x.fresh ≡ false → any (entry_of? (block_in l) x.typ) (log_of l) ≡ false
 
-abbrev pub ToldPlace : List ℕ → ℕ → Option ℕ → Named → Type 0
-ToldPlace l n o (named.Got x c) = Place l n o x
-ToldPlace l n o (named.No e) = Unit {0}
+abbrev pub ToldPlace : List ℕ → ℕ → Option ℕ → Outcome Name → Type 0
+ToldPlace l n o (Ok (x, c)) = Place l n o x
+ToldPlace l n o (Err e) = Unit {0}
 
-pub record NamePlaced (l : List ℕ) (n : ℕ) (o : Option ℕ) (at next : ℕ) (r : Named) : Type 0 where
+pub record NamePlaced (l : List ℕ) (n : ℕ) (o : Option ℕ) (at next : ℕ) (r : Outcome Name) : Type 0 where
   pub says : (f : List ℕ) → Holds f l → out_name r ≡ hold (place_rules (view f l) o) at (got n next)
   pub inside : (m : ℕ) → at ≤ m → next ≤ m → name_place r ≤ m
   pub told : ToldPlace l n o r
 
 -- ── a super type ──
 
-abbrev pub out_above : Bool → Above → Out (Option ℕ)
-out_above b (above.Got y c) = got (due b y.number) c.at
-out_above b (above.No e) = no e.number e.place
+abbrev pub out_above : Bool → Outcome Super → Out (Option ℕ)
+out_above b (Ok (y, c)) = got (due b y.number) c.at
+out_above b (Err e) = no (number_of e.fault) e.place
 
-abbrev pub above_place : Above → ℕ
-above_place (above.Got y c) = c.at
-above_place (above.No e) = e.place
-
-abbrev pub no_above : Above → Refusal
-no_above (above.Got y c) = record { number = 0; place = c.at }
-no_above (above.No e) = e
+abbrev pub above_place : Outcome Super → ℕ
+above_place (Ok (y, c)) = c.at
+above_place (Err e) = e.place
 
 -- the rules of a super type that is named by string n, which the types' names have at o
 abbrev pub known_rules : List Typ → ℕ → Option ℕ → List Rule
 known_rules ts t o = (given? o or_no 7) ∷ (chain_ends? (length ts) ts t o or_no 8) ∷ []
 
-abbrev pub ToldUp : ℕ → Option ℕ → Above → Type 0
-ToldUp n o (above.Got y c) = (y.number ≡ n) × (maybe y.up ≡ o)
-ToldUp n o (above.No e) = Unit {0}
+abbrev pub ToldUp : ℕ → Option ℕ → Outcome Super → Type 0
+ToldUp n o (Ok (y, c)) = (y.number ≡ n) × (maybe y.up ≡ o)
+ToldUp n o (Err e) = Unit {0}
 
-pub record SuperPlaced (ts : List Typ) (t n : ℕ) (o : Option ℕ) (at next : ℕ) (r : Above) : Type 0 where
+pub record SuperPlaced (ts : List Typ) (t n : ℕ) (o : Option ℕ) (at next : ℕ) (r : Outcome Super) : Type 0 where
   pub says : out_above true r ≡ turned (due true) (hold (known_rules ts t o) at (got n next))
   pub inside : (m : ℕ) → at ≤ m → next ≤ m → above_place r ≤ m
   pub told : ToldUp n o r
 
 -- of the new type t
-abbrev pub ToldSuper : State → Above → Type 0
-ToldSuper s (above.Got y c) = maybe y.up ≡ super_named s y.number
-ToldSuper s (above.No e) = Unit {0}
+abbrev pub ToldSuper : State → Outcome Super → Type 0
+ToldSuper s (Ok (y, c)) = maybe y.up ≡ super_named s y.number
+ToldSuper s (Err e) = Unit {0}
 
-pub record SuperJudged (s : State) (t n at next : ℕ) (r : Above) : Type 0 where
+pub record SuperJudged (s : State) (t n at next : ℕ) (r : Outcome Super) : Type 0 where
   pub says : out_above true r ≡ turned (due true) (hold (super_name_rules s t n) at (got n next))
   pub inside : (m : ℕ) → at ≤ m → next ≤ m → above_place r ≤ m
   pub told : ToldSuper s r
 
-pub record SuperRead (s : State) (t : ℕ) (f : List ℕ) (at : ℕ) (r : Above) : Type 0 where
+pub record SuperRead (s : State) (t : ℕ) (f : List ℕ) (at : ℕ) (r : Outcome Super) : Type 0 where
   pub says : out_above true r ≡ only true (number (super_name_rules s t)) f at
   pub inside : at ≤ length f → above_place r ≤ length f
   pub told : ToldSuper s r
 
 -- of an entry's type, which may be known
-abbrev pub ToldAbove : State → Name → Above → Type 0
-ToldAbove s x (above.Got y c) = maybe y.up ≡ super_of s x.number (due x.fresh y.number)
-ToldAbove s x (above.No e) = Unit {0}
+abbrev pub ToldAbove : State → Name → Outcome Super → Type 0
+ToldAbove s x (Ok (y, c)) = maybe y.up ≡ super_of s x.number (due x.fresh y.number)
+ToldAbove s x (Err e) = Unit {0}
 
-pub record AboveRead (s : State) (x : Name) (f : List ℕ) (at : ℕ) (r : Above) : Type 0 where
+pub record AboveRead (s : State) (x : Name) (f : List ℕ) (at : ℕ) (r : Outcome Super) : Type 0 where
   pub says : out_above x.fresh r ≡ only x.fresh (number (super_name_rules s x.typ)) f at
   pub inside : at ≤ length f → above_place r ≤ length f
   pub told : ToldAbove s x r
 
 -- ── a number that is read only if it is due, and else is 0 ──
 
-pub record DueRead (b : Bool) (q : Reader ℕ) (bound : ℕ) (f : List ℕ) (at : ℕ) (r : Number) : Type 0 where
+pub record DueRead (b : Bool) (q : Reader ℕ) (bound : ℕ) (f : List ℕ) (at : ℕ) (r : Outcome ℕ) : Type 0 where
   pub says : turned (due b) (out_of r) ≡ only b q f at
   pub inside : at ≤ length f → place_of r ≤ length f
   pub below : value_of r < bound
@@ -160,7 +145,7 @@ pub record DueRead (b : Bool) (q : Reader ℕ) (bound : ℕ) (f : List ℕ) (at 
 
 -- ── a count of objects ──
 
-pub record CountJudged (l : List ℕ) (up start n at next : ℕ) (r : Number) : Type 0 where
+pub record CountJudged (l : List ℕ) (up start n at next : ℕ) (r : Outcome ℕ) : Type 0 where
   pub judged : (f : List ℕ) → Holds f l → Judged (count_rules (view f l) (maybe up) start) n at next r
   pub below : value_of r < 65536
 
@@ -176,17 +161,13 @@ head_of h =
       count = h.count;
     }
 
-abbrev pub out_top : Topped → Out Head
-out_top (topped.Got h c) = got (head_of h) c.at
-out_top (topped.No e) = no e.number e.place
+abbrev pub out_top : Outcome Top → Out Head
+out_top (Ok (h, c)) = got (head_of h) c.at
+out_top (Err e) = no (number_of e.fault) e.place
 
-abbrev pub top_place : Topped → ℕ
-top_place (topped.Got h c) = c.at
-top_place (topped.No e) = e.place
-
-abbrev pub no_top : Topped → Refusal
-no_top (topped.Got h c) = record { number = 0; place = c.at }
-no_top (topped.No e) = e
+abbrev pub top_place : Outcome Top → ℕ
+top_place (Ok (h, c)) = c.at
+top_place (Err e) = e.place
 
 pub record Placed (s : State) (h : Top) : Type 0 where
   pub name : Resolved s h.name
@@ -195,11 +176,11 @@ pub record Placed (s : State) (h : Top) : Type 0 where
   pub none : h.above.up ≡ 0 → h.start ≡ 0
   pub count : h.count < 65536
 
-abbrev pub ToldTop : State → Topped → Type 0
-ToldTop s (topped.Got h c) = Placed s h
-ToldTop s (topped.No e) = Unit {0}
+abbrev pub ToldTop : State → Outcome Top → Type 0
+ToldTop s (Ok (h, c)) = Placed s h
+ToldTop s (Err e) = Unit {0}
 
-pub record TopRead (s : State) (f : List ℕ) (at : ℕ) (r : Topped) : Type 0 where
+pub record TopRead (s : State) (f : List ℕ) (at : ℕ) (r : Outcome Top) : Type 0 where
   pub says : out_top r ≡ head s f at
   pub inside : at ≤ length f → top_place r ≤ length f
   pub told : ToldTop s r
@@ -242,11 +223,11 @@ pub record Entered (f l l' : List ℕ) (h : Top) : Type 0 where
   pub now : Now f l' (add_head (said f l) (head_of h))
   pub opens : Open (said f l') h.name.typ 0
 
-abbrev pub LeftTop : List ℕ → List ℕ → List ℕ → Topped → Type 0
-LeftTop f l l' (topped.Got h c) = Entered f l l' h
-LeftTop f l l' (topped.No e) = Holds f l'
+abbrev pub LeftTop : List ℕ → List ℕ → List ℕ → Outcome Top → Type 0
+LeftTop f l l' (Ok (h, c)) = Entered f l l' h
+LeftTop f l l' (Err e) = Holds f l'
 
-pub record TopEntered (f l l' : List ℕ) (at : ℕ) (r : Topped) : Type 0 where
+pub record TopEntered (f l l' : List ℕ) (at : ℕ) (r : Outcome Top) : Type 0 where
   pub says : out_top r ≡ head (view f l) f at
   pub inside : at ≤ length f → top_place r ≤ length f
   pub left : LeftTop f l l' r

@@ -1,11 +1,9 @@
 -- A number that was held to rules keeps them or breaks one, in the words of the rules without reading. Assumes nothing.
-use Rattle.std.specs.Prelude.{◌≡◌, refl, Bool, true, false, ◌&&◌, List, [], ◌∷◌, ℕ, ◌<◌, ◌^◌}
+use Rattle.std.specs.Prelude.{Ok, Err, ◌≡◌, refl, Bool, true, false, ◌&&◌, List, [], ◌∷◌, ℕ, ◌<◌, ◌^◌}
 use Rattle.std.proofs.Common.{sym, ap, ap₂, ◌∙◌, arith, lt-ltb}
 use Rattle.paper.specs.Reader.{got, no, hold, Rule, ◌or_no◌}
 use Rattle.paper.specs.Keeps.{hold?, number?}
-use Rattle.numbers.specs.Cursors.{out_of}
-use Rattle.numbers.specs.declared.Number.{Number}
-use Rattle.numbers.specs.declared.Number.TheVariants.{Got, No}
+use Rattle.numbers.specs.Cursors.{out_of, Outcome}
 use Rattle.numbers.specs.declared.Cursor.{Cursor}
 use Rattle.numbers.specs.declared.Refusal.{Refusal}
 use Rattle.reader.specs.Ruled.{Judged, refused-not-got}
@@ -27,9 +25,9 @@ pub number-as : (rules : ℕ → List Rule) {n : ℕ} → n < 2 ^ 64 → {b : Bo
 unfolding number?
 number-as rules {n} fits h = ap₂ ◌&&◌ (lt-ltb n (256 ^ 8) (omega arith)) h
 
-module _ (rules : ℕ → List Rule) {n at next : ℕ} (fits : n < 2 ^ 64) {r : Number} (judged : Judged rules n at next r) where
-  pub judged-keeps : {x : ℕ} {c : Cursor} → r ≡ Got x c → number? rules n ≡ true
+module _ (rules : ℕ → List Rule) {n at next : ℕ} (fits : n < 2 ^ 64) {r : Outcome ℕ} (judged : Judged rules n at next r) where
+  pub judged-keeps : {x : ℕ} {c : Cursor} → r ≡ Ok (x, c) → number? rules n ≡ true
   judged-keeps is = number-as rules fits (rules-hold (rules n) at n next (sym judged.says ∙ ap out_of is))
 
-  pub judged-breaks : {e : Refusal} → r ≡ No e → number? rules n ≡ false
+  pub judged-breaks : {e : Refusal} → r ≡ Err e → number? rules n ≡ false
   judged-breaks is = number-as rules fits (rules-break (rules n) at n next (sym judged.says ∙ ap out_of is))

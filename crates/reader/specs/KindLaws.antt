@@ -1,5 +1,5 @@
 -- The ways out of the readers of kinds, on plain values; and what a caller learns of a kind. Assumes nothing.
-use Rattle.std.specs.Prelude.{◌≡◌, Bool, ◌&&◌, ◌||◌, List, [], map, ◌⊎◌, ℕ, ◌-◌, ◌^◌, ◌≤◌, ◌<◌, min, length}
+use Rattle.std.specs.Prelude.{Ok, Err, ◌≡◌, Bool, ◌&&◌, ◌||◌, List, [], map, ◌⊎◌, ℕ, ◌-◌, ◌^◌, ◌≤◌, ◌<◌, min, length}
 use Rattle.std.proofs.Math.Path.{refl, ap}
 use Rattle.std.proofs.Common.{sym, ◌∙◌, inl, inr, arith}
 use Rattle.std.proofs.Math.Bool.{true, false}
@@ -14,14 +14,10 @@ use Rattle.paper.specs.File.{small, whole_of, kind}
 use Rattle.laws.specs.Codes.{fixed-length}
 use Rattle.laws.specs.Packed.{packed, packed-back}
 use Rattle.table.specs.View.{kind_from}
-use Rattle.numbers.specs.Cursors.{Read, refusal_of, was-got, its-refusal}
-use Rattle.numbers.specs.declared.Number.{Number}
-use Rattle.numbers.specs.declared.Number.TheVariants.{Got, No}
+use Rattle.numbers.specs.Cursors.{Read, was-got, Outcome, was-refused}
 use Rattle.numbers.specs.declared.Cursor.{Cursor}
 use Rattle.numbers.specs.declared.Refusal.{Refusal}
 use Rattle.reader.specs.declared.kinds.Kind.{Kind as KindRow}
-use Rattle.reader.specs.declared.kinds.KindRead.{KindRead}
-use Rattle.reader.specs.declared.kinds.KindRead.TheVariants as kinds
 use Rattle.reader.specs.Kinds.{
   named_by,
   bits_of,
@@ -31,12 +27,13 @@ use Rattle.reader.specs.Kinds.{
   mapping_of,
   packed_of,
   kind_in,
-  refusal_of_kind,
   KindReadBy,
   KindReads,
 }
 use Rattle.reader.specs.Runs.{times-many}
 use Rattle.numbers.specs.Ruled.{read_no, read-bad, read-got, ruled-is}
+use Rattle.numbers.specs.Faults.{number_of}
+use Rattle.numbers.specs.declared.Fault.TheVariants as fault
 
 differ : {X : Type 0} → ◌≡◌ {A = ℕ} 0 1 → X
 differ z = absurd (omega arith)
@@ -68,7 +65,7 @@ named-types s = refl
 
 -- ── the bits of a constant ──
 
-module _ {f : List ℕ} {at : ℕ} {a : Number} where
+module _ {f : List ℕ} {at : ℕ} {a : Outcome ℕ} where
   pub bits-fixed : {b : ℕ} (k w : ℕ) → k < 4 → w ≡ 2 ^ k → b ≤ 2 ^ 64 → Read (fixed w) b f at a → Read (bits_of k) (2 ^ 64) f at a
   unfolding bits_of when◌then◌else◌
   bits-fixed k w lt is le R =
@@ -179,21 +176,21 @@ module _ (k : ℕ) where
 
 -- ── an element kind ──
 
-module _ (named : ℕ → Bool) {f : List ℕ} {at : ℕ} {a : Number} (read : Read v64 (2 ^ 64) f at a) where
-  pub element-no : {e : Refusal} → a ≡ No e → Read (number (element_kind_rules named)) (2 ^ 64) f at a
+module _ (named : ℕ → Bool) {f : List ℕ} {at : ℕ} {a : Outcome ℕ} (read : Read v64 (2 ^ 64) f at a) where
+  pub element-no : {e : Refusal} → a ≡ Err e → Read (number (element_kind_rules named)) (2 ^ 64) f at (Err e)
   unfolding number
   element-no is = read_no read (element_kind_rules named) (omega arith) is
 
-  module _ {k : ℕ} {c : Cursor} (is : a ≡ Got k c) where
-    pub element-got : element_kind? k ≡ true → true ≡ named k → Read (number (element_kind_rules named)) (2 ^ 64) f at (Got k c)
+  module _ {k : ℕ} {c : Cursor} (is : a ≡ Ok (k, c)) where
+    pub element-got : element_kind? k ≡ true → true ≡ named k → Read (number (element_kind_rules named)) (2 ^ 64) f at (Ok (k, c))
     unfolding number element_kind_rules
     element-got x y = read-got read (element_kind_rules named) (was-got read is).below is (rw (x, ← y))
 
-    pub element-bad : element_kind? k ≡ false → Read (number (element_kind_rules named)) (2 ^ 64) f at (No (record { number = 10; place = at }))
+    pub element-bad : element_kind? k ≡ false → Read (number (element_kind_rules named)) (2 ^ 64) f at (Err (record { fault = fault.Kind; place = at }))
     unfolding number element_kind_rules
     element-bad x = read-bad read (element_kind_rules named) (omega arith) is (rw x)
 
-    pub element-unnamed : element_kind? k ≡ true → false ≡ named k → Read (number (element_kind_rules named)) (2 ^ 64) f at (No (record { number = 10; place = at }))
+    pub element-unnamed : element_kind? k ≡ true → false ≡ named k → Read (number (element_kind_rules named)) (2 ^ 64) f at (Err (record { fault = fault.Kind; place = at }))
     unfolding number element_kind_rules
     element-unnamed x y = read-bad read (element_kind_rules named) (omega arith) is (rw (x, ← y))
 
@@ -251,15 +248,15 @@ last_row k e = record { first = k; bits = 0; last = e }
 
 -- `r` reads the kind, and from `from` on no more than a number, of which `row` makes the answer
 module _
-    {q : Reader ℕ} {b : ℕ} {f : List ℕ} {from : ℕ} {a : Number} (read : Read q b f from a)
+    {q : Reader ℕ} {b : ℕ} {f : List ℕ} {from : ℕ} {a : Outcome ℕ} (read : Read q b f from a)
     {r : Reader Kind} {at : ℕ} (on : at ≤ length f → from ≤ length f)
     (row : ℕ → KindRow) (ends : turned noted (r f at) ≡ turned (λ x. kind_in (row x)) (q f from)) where
-  ends-no : {e u : Refusal} → a ≡ No e → u ≡ refusal_of a → KindReadBy r f at (kinds.No u)
-  ends-no is same =
-      let R = its-refusal read is same in
+  ends-no : {e : Refusal} → a ≡ Err e → KindReadBy r f at (Err e)
+  ends-no is =
+      let R = was-refused read is in
       record { says = sym (ends ∙ ap (turned (λ x. kind_in (row x))) R.says); inside = λ lo. R.inside (on lo); told = tt }
 
-  ends-got : {x : ℕ} {c : Cursor} → a ≡ Got x c → (row x).first ≤ 32 → KindReadBy r f at (kinds.Got (row x) c)
+  ends-got : {x : ℕ} {c : Cursor} → a ≡ Ok (x, c) → (row x).first ≤ 32 → KindReadBy r f at (Ok ((row x), c))
   ends-got is low =
       let G = was-got read is in
       record { says = sym (ends ∙ ap (turned (λ x. kind_in (row x))) G.says); inside = λ lo. G.inside (on lo); told = low }
@@ -290,59 +287,59 @@ constant-ends k le f at = rw (whole_is k f at) (go (bits_of k f at))
     go (got x e) = ap (λ (c : Kind). got c e) (sym (kind-constant k x 0 le))
     go (no n p) = refl
 
-module _ {k : ℕ} {f : List ℕ} {at : ℕ} {a : Number} (read : Read (bits_of k) (2 ^ 64) f at a) (le : k ≤ 4) where
-  pub constant-no : {e u : Refusal} → a ≡ No e → u ≡ refusal_of a → KindReadBy (constant_of k) f at (kinds.No u)
-  constant-no is same = ends-no read (λ lo. lo) (constant_row k) (constant-ends k le f at) is same
+module _ {k : ℕ} {f : List ℕ} {at : ℕ} {a : Outcome ℕ} (read : Read (bits_of k) (2 ^ 64) f at a) (le : k ≤ 4) where
+  pub constant-no : {e : Refusal} → a ≡ Err e → KindReadBy (constant_of k) f at (Err e)
+  constant-no is = ends-no read (λ lo. lo) (constant_row k) (constant-ends k le f at) is
 
-  pub constant-got : {x : ℕ} {c : Cursor} → a ≡ Got x c → KindReadBy (constant_of k) f at (kinds.Got (constant_row k x) c)
+  pub constant-got : {x : ℕ} {c : Cursor} → a ≡ Ok (x, c) → KindReadBy (constant_of k) f at (Ok (constant_row k x, c))
   constant-got is = ends-got read (λ lo. lo) (constant_row k) (constant-ends k le f at) is (omega arith)
 
 -- ── an array ──
 
-module _ (named : ℕ → Bool) {f : List ℕ} {at : ℕ} {a : Number} (read : Read small 65536 f at a) where
-  pub array-no-length : {e u : Refusal} → a ≡ No e → u ≡ refusal_of a → KindReadBy (array_of named) f at (kinds.No u)
+module _ (named : ℕ → Bool) {f : List ℕ} {at : ℕ} {a : Outcome ℕ} (read : Read small 65536 f at a) where
+  pub array-no-length : {e : Refusal} → a ≡ Err e → KindReadBy (array_of named) f at (Err e)
   unfolding array_of ◌>>=◌
-  array-no-length is same =
-      let R = its-refusal read is same in
+  array-no-length is =
+      let R = was-refused read is in
       record { says = rw R.says; inside = R.inside; told = tt }
 
-  module _ {l : ℕ} {c : Cursor} (is : a ≡ Got l c) {b : Number} (next : Read (number (element_kind_rules named)) (2 ^ 64) f c.at b) where
+  module _ {l : ℕ} {c : Cursor} (is : a ≡ Ok (l, c)) {b : Outcome ℕ} (next : Read (number (element_kind_rules named)) (2 ^ 64) f c.at b) where
     array-ends : turned noted (array_of named f at) ≡ turned (λ x. kind_in (array_row l x)) (number (element_kind_rules named) f c.at)
     unfolding array_of noted ◌>>=◌ give
     array-ends = rw (was-got read is).says (then-give (array l) (array_row l) (λ x. kind-array 15 l x refl) (number (element_kind_rules named) f c.at))
 
-    pub array-no-element : {e u : Refusal} → b ≡ No e → u ≡ refusal_of b → KindReadBy (array_of named) f at (kinds.No u)
-    array-no-element none same = ends-no next (was-got read is).inside (array_row l) array-ends none same
+    pub array-no-element : {e : Refusal} → b ≡ Err e → KindReadBy (array_of named) f at (Err e)
+    array-no-element none = ends-no next (was-got read is).inside (array_row l) array-ends none
 
-    pub array-got : {e : ℕ} {d : Cursor} → b ≡ Got e d → KindReadBy (array_of named) f at (kinds.Got (array_row l e) d)
+    pub array-got : {e : ℕ} {d : Cursor} → b ≡ Ok (e, d) → KindReadBy (array_of named) f at (Ok (array_row l e, d))
     array-got it = ends-got next (was-got read is).inside (array_row l) array-ends it (omega arith)
 
 -- ── many ──
 
-module _ (named : ℕ → Bool) {k : ℕ} {f : List ℕ} {at : ℕ} {a : Number} (read : Read (number (element_kind_rules named)) (2 ^ 64) f at a) (lo : 17 ≤ k) (hi : k ≤ 19) where
+module _ (named : ℕ → Bool) {k : ℕ} {f : List ℕ} {at : ℕ} {a : Outcome ℕ} (read : Read (number (element_kind_rules named)) (2 ^ 64) f at a) (lo : 17 ≤ k) (hi : k ≤ 19) where
   many-ends : turned noted (many_of named k f at) ≡ turned (λ x. kind_in (last_row k x)) (number (element_kind_rules named) f at)
   unfolding many_of noted ◌>>=◌ give
   many-ends = then-give (many k) (last_row k) (λ x. kind-many k 0 x lo hi) (number (element_kind_rules named) f at)
 
-  pub many-no : {e u : Refusal} → a ≡ No e → u ≡ refusal_of a → KindReadBy (many_of named k) f at (kinds.No u)
-  many-no is same = ends-no read (λ lo. lo) (last_row k) many-ends is same
+  pub many-no : {e : Refusal} → a ≡ Err e → KindReadBy (many_of named k) f at (Err e)
+  many-no is = ends-no read (λ lo. lo) (last_row k) many-ends is
 
-  pub many-got : {e : ℕ} {c : Cursor} → a ≡ Got e c → KindReadBy (many_of named k) f at (kinds.Got (last_row k e) c)
+  pub many-got : {e : ℕ} {c : Cursor} → a ≡ Ok (e, c) → KindReadBy (many_of named k) f at (Ok (last_row k e, c))
   many-got is = ends-got read (λ lo. lo) (last_row k) many-ends is (omega arith)
 
 -- ── a map ──
 
-module _ {f : List ℕ} {at : ℕ} {a : Number} (read : Read v64 (2 ^ 64) f at a) where
-  pub types-no : {e : Refusal} → a ≡ No e → Read (number types_rules) 9 f at a
+module _ {f : List ℕ} {at : ℕ} {a : Outcome ℕ} (read : Read v64 (2 ^ 64) f at a) where
+  pub types-no : {e : Refusal} → a ≡ Err e → Read (number types_rules) 9 f at (Err e)
   unfolding number
   types-no is = read_no read types_rules (omega arith) is
 
-  module _ {n : ℕ} {c : Cursor} (is : a ≡ Got n c) where
-    pub types-got : 2 ≤ n → n ≤ 8 → Read (number types_rules) 9 f at (Got n c)
+  module _ {n : ℕ} {c : Cursor} (is : a ≡ Ok (n, c)) where
+    pub types-got : 2 ≤ n → n ≤ 8 → Read (number types_rules) 9 f at (Ok (n, c))
     unfolding number types_rules
     types-got lo hi = read-got read types_rules (omega arith) is (rw (le-leb 2 n lo, le-leb n 8 hi))
 
-    pub types-bad : (2 ≤ n → n ≤ 8 → ⊥) → Read (number types_rules) 9 f at (No (record { number = 10; place = at }))
+    pub types-bad : (2 ≤ n → n ≤ 8 → ⊥) → Read (number types_rules) 9 f at (Err (record { fault = fault.Kind; place = at }))
     unfolding number types_rules
     types-bad out = read-bad read types_rules (omega arith) is (rw (outside 2 n 8 out))
 
@@ -355,46 +352,46 @@ map-given : (n : ℕ) (o : Out (List ℕ)) → ((ks : List ℕ) (e : ℕ) → o 
 map-given n (got ks e) as_many = ap (λ (k : Kind). got k e) (sym (kept-kinds n ks (as_many ks e refl)))
 map-given n (no m p) as_many = refl
 
-module _ (named : ℕ → Bool) {f : List ℕ} {at : ℕ} {a : Number} (read : Read (number types_rules) 9 f at a) where
-  pub map-no-count : {e u : Refusal} → a ≡ No e → u ≡ refusal_of a → KindReadBy (mapping_of named) f at (kinds.No u)
+module _ (named : ℕ → Bool) {f : List ℕ} {at : ℕ} {a : Outcome ℕ} (read : Read (number types_rules) 9 f at a) where
+  pub map-no-count : {e : Refusal} → a ≡ Err e → KindReadBy (mapping_of named) f at (Err e)
   unfolding mapping_of ◌>>=◌
-  map-no-count is same =
-      let R = its-refusal read is same in
+  map-no-count is =
+      let R = was-refused read is in
       record { says = rw R.says; inside = R.inside; told = tt }
 
-  module _ {n : ℕ} {c : Cursor} (is : a ≡ Got n c) {b : Number} (next : Read (packed_of named n) (2 ^ 64) f c.at b) where
+  module _ {n : ℕ} {c : Cursor} (is : a ≡ Ok (n, c)) {b : Outcome ℕ} (next : Read (packed_of named n) (2 ^ 64) f c.at b) where
     map-ends : turned noted (mapping_of named f at) ≡ turned (λ x. kind_in (map_row n x)) (packed_of named n f c.at)
     unfolding mapping_of packed_of repeat ◌>>=◌ give
     map-ends =
         rw (was-got read is).says
         (map-given n (repeat n (number (element_kind_rules named)) f c.at) (λ ks e h. times-many n (λ u. number (element_kind_rules named)) (λ u k. u) tt f c.at h))
 
-    pub map-no-kinds : {e u : Refusal} → b ≡ No e → u ≡ refusal_of b → KindReadBy (mapping_of named) f at (kinds.No u)
-    map-no-kinds none same = ends-no next (was-got read is).inside (map_row n) map-ends none same
+    pub map-no-kinds : {e : Refusal} → b ≡ Err e → KindReadBy (mapping_of named) f at (Err e)
+    map-no-kinds none = ends-no next (was-got read is).inside (map_row n) map-ends none
 
-    pub map-got : {e : ℕ} {d : Cursor} → b ≡ Got e d → KindReadBy (mapping_of named) f at (kinds.Got (map_row n e) d)
+    pub map-got : {e : ℕ} {d : Cursor} → b ≡ Ok (e, d) → KindReadBy (mapping_of named) f at (Ok (map_row n e, d))
     map-got it = ends-got next (was-got read is).inside (map_row n) map-ends it (omega arith)
 
 -- ── a kind ──
 
-module _ (named : ℕ → Bool) {f : List ℕ} {at : ℕ} {a : Number} (read : Read v64 (2 ^ 64) f at a) where
+module _ (named : ℕ → Bool) {f : List ℕ} {at : ℕ} {a : Outcome ℕ} (read : Read v64 (2 ^ 64) f at a) where
   -- there is no number
-  pub kind-no : {e u : Refusal} → a ≡ No e → u ≡ refusal_of a → KindReads named f at (kinds.No u)
+  pub kind-no : {e : Refusal} → a ≡ Err e → KindReads named f at (Err e)
   unfolding kind number must ◌>>=◌
-  kind-no is same =
-      let R = its-refusal read is same in
+  kind-no is =
+      let R = was-refused read is in
       record { says = rw R.says; inside = R.inside; told = tt }
 
-  module _ {k : ℕ} {c : Cursor} (is : a ≡ Got k c) where
-    refused-at : number (kind_rules named) f at ≡ no 10 at → KindReads named f at (kinds.No (record { number = 10; place = at }))
+  module _ {k : ℕ} {c : Cursor} (is : a ≡ Ok (k, c)) where
+    refused-at : number (kind_rules named) f at ≡ no 10 at → KindReads named f at (Err (record { fault = fault.Kind; place = at }))
     unfolding kind ◌>>=◌
     refused-at h = record { says = rw h; inside = λ lo. lo; told = tt }
 
-    pub kind-unlisted : kind? k ≡ false → KindReads named f at (kinds.No (record { number = 10; place = at }))
+    pub kind-unlisted : kind? k ≡ false → KindReads named f at (Err (record { fault = fault.Kind; place = at }))
     unfolding number kind_rules
     kind-unlisted gap = refused-at (ruled-is read (kind_rules named) is ∙ rw gap)
 
-    pub kind-unnamed : 32 ≤ k → false ≡ named k → KindReads named f at (kinds.No (record { number = 10; place = at }))
+    pub kind-unnamed : 32 ≤ k → false ≡ named k → KindReads named f at (Err (record { fault = fault.Kind; place = at }))
     unfolding number kind_rules
     kind-unnamed le unnamed =
         refused-at (ruled-is read (kind_rules named) is ∙ rw (listed-element k (omega arith) (element-type k le), ← unnamed))
@@ -405,23 +402,23 @@ module _ (named : ℕ → Bool) {f : List ℕ} {at : ℕ} {a : Number} (read : R
       ruled listed = ruled-is read (kind_rules named) is ∙ rw (listed, ← stands)
 
       -- what follows the number is read by r
-      goes_on : {r : Reader Kind} {b : KindRead} → kind named f at ≡ r f c.at → KindReadBy r f c.at b → KindReads named f at b
+      goes_on : {r : Reader Kind} {b : Outcome KindRow} → kind named f at ≡ r f c.at → KindReadBy r f c.at b → KindReads named f at b
       goes_on same B = record { says = B.says ∙ ap (turned noted) (sym same); inside = λ lo. B.inside ((was-got read is).inside lo); told = B.told }
 
-      pub kind-is-constant : {b : KindRead} → k ≤ 4 → KindReadBy (constant_of k) f c.at b → KindReads named f at b
+      pub kind-is-constant : {b : Outcome KindRow} → k ≤ 4 → KindReadBy (constant_of k) f c.at b → KindReads named f at b
       unfolding kind constant_of when◌then◌else◌ ◌>>=◌
       kind-is-constant le B = goes_on (rw (ruled (listed-constant k le), le-leb k 4 le)) B
 
-      pub kind-is-array : {b : KindRead} → k ≡ 15 → KindReadBy (array_of named) f c.at b → KindReads named f at b
+      pub kind-is-array : {b : Outcome KindRow} → k ≡ 15 → KindReadBy (array_of named) f c.at b → KindReads named f at b
       unfolding kind array_of when◌then◌else◌ ◌>>=◌
       kind-is-array at15 B = goes_on (rw (ruled (listed-array k at15), lt-leb k 4 (omega arith), eq-eqb k 15 at15)) B
 
-      pub kind-is-many : {b : KindRead} → 17 ≤ k → k ≤ 19 → KindReadBy (many_of named k) f c.at b → KindReads named f at b
+      pub kind-is-many : {b : Outcome KindRow} → 17 ≤ k → k ≤ 19 → KindReadBy (many_of named k) f c.at b → KindReads named f at b
       unfolding kind many_of when◌then◌else◌ ◌>>=◌
       kind-is-many lo hi B =
           goes_on (rw (ruled (listed-many k lo hi), lt-leb k 4 (omega arith), ne_eqb k 15 (λ e. omega arith), le-leb 17 k lo, le-leb k 19 hi)) B
 
-      pub kind-is-map : {b : KindRead} → k ≡ 20 → KindReadBy (mapping_of named) f c.at b → KindReads named f at b
+      pub kind-is-map : {b : Outcome KindRow} → k ≡ 20 → KindReadBy (mapping_of named) f c.at b → KindReads named f at b
       unfolding kind mapping_of when◌then◌else◌ ◌>>=◌
       kind-is-map at20 B =
           goes_on (rw (ruled (listed-map k at20), lt-leb k 4 (omega arith), ne_eqb k 15 (λ e. omega arith), outside 17 k 19 (λ l h. omega arith), eq-eqb k 20 at20)) B
@@ -439,7 +436,7 @@ module _ (named : ℕ → Bool) {f : List ℕ} {at : ℕ} {a : Number} (read : R
               ne_eqb k 20 alone.no-map,
             )
 
-        stands-alone : (first : ℕ) → Alone first → first ≤ 32 → KindReads named f at (kinds.Got (last_row first k) c)
+        stands-alone : (first : ℕ) → Alone first → first ≤ 32 → KindReads named f at (Ok (last_row first k, c))
         unfolding noted
         stands-alone first shown hi =
             record {
@@ -448,10 +445,10 @@ module _ (named : ℕ → Bool) {f : List ℕ} {at : ℕ} {a : Number} (read : R
               told = hi;
             }
 
-      pub kind-is-low : 5 ≤ k → k ≤ 14 → KindReads named f at (kinds.Got (last_row k k) c)
+      pub kind-is-low : 5 ≤ k → k ≤ 14 → KindReads named f at (Ok (last_row k k, c))
       kind-is-low lo hi = stands-alone (element-low k lo hi) (low-alone k lo hi) k (low-alone k lo hi) (omega arith)
 
-      pub kind-is-type : 32 ≤ k → KindReads named f at (kinds.Got (last_row 32 k) c)
+      pub kind-is-type : 32 ≤ k → KindReads named f at (Ok (last_row 32 k, c))
       kind-is-type le = stands-alone (element-type k le) (high-alone k (omega arith)) 32 (high-alone 32 (omega arith)) (omega arith)
 
 -- ── what a caller learns ──
@@ -479,19 +476,17 @@ never-noted : (o : Out Kind) {n p : ℕ} → no n p ≡ turned noted o → o ≡
 never-noted (got x e) q = differ (cc q)
 never-noted (no m r) q = sym q
 
-module _ {named : ℕ → Bool} {f : List ℕ} {at : ℕ} {a : KindRead} (R : KindReads named f at a) where
-  pub kind-was-got : {r : KindRow} {c : Cursor} → a ≡ kinds.Got r c → KindValue named f at r c.at
+module _ {named : ℕ → Bool} {f : List ℕ} {at : ℕ} {a : Outcome KindRow} (R : KindReads named f at a) where
+  pub kind-was-got : {r : KindRow} {c : Cursor} → a ≡ Ok (r, c) → KindValue named f at r c.at
   kind-was-got h =
       let S = rw h at R in
       let (x, read, kept) = was-noted (kind named f at) S.says in
       record { own = x; says = read; kept = kept; inside = S.inside; first = S.told }
 
-  -- of what `refused_kind` gives
-  pub kind-refusal : {e u : Refusal} → a ≡ kinds.No e → u ≡ refusal_of_kind a → KindRefused named f at u.number u.place
-  kind-refusal {e} {u} h q =
+  pub kind-refusal : {e : Refusal} → a ≡ Err e → KindRefused named f at (number_of e.fault) e.place
+  kind-refusal h =
       let S = rw h at R in
-      let z : u ≡ e = q ∙ ap refusal_of_kind h in
-      rw z (record { says = never-noted (kind named f at) S.says; inside = S.inside })
+      record { says = never-noted (kind named f at) S.says; inside = S.inside }
 
 -- ── what the row leaves out ──
 

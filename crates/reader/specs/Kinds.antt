@@ -1,5 +1,5 @@
 -- Kinds, as the code reads them. Assumes nothing.
-use Rattle.std.specs.Prelude.{◌≡◌, Bool, true, false, ◌||◌, List, ℕ, ◌-◌, ◌^◌, ◌≤◌, ltb, length}
+use Rattle.std.specs.Prelude.{Ok, Err, ◌≡◌, Bool, true, false, ◌||◌, List, ℕ, ◌-◌, ◌^◌, ◌≤◌, ltb, length}
 use Rattle.paper.specs.Reader.{when◌then◌else◌, Reader, Out, got, no, turned, ◌>>=◌, give, repeat}
 use Rattle.paper.specs.Numbers.{fixed, v64, number}
 use Rattle.paper.specs.Ledger.{Kind, constant, array, many, mapping}
@@ -7,11 +7,10 @@ use Rattle.paper.specs.Rules.{any_type, element_kind_rules, types_rules, noted}
 use Rattle.paper.specs.File.{small, whole_of, kind}
 use Rattle.laws.specs.Packed.{packed}
 use Rattle.table.specs.View.{kind_from}
-use Rattle.numbers.specs.declared.Refusal.{Refusal}
 use Rattle.reader.specs.declared.kinds.Named.{Named}
 use Rattle.reader.specs.declared.kinds.Kind.{Kind as KindRow}
-use Rattle.reader.specs.declared.kinds.KindRead.{KindRead}
-use Rattle.reader.specs.declared.kinds.KindRead.TheVariants as kinds
+use Rattle.numbers.specs.Cursors.{Outcome}
+use Rattle.numbers.specs.Faults.{number_of}
 
 -- ── which numbers name a type ──
 
@@ -60,28 +59,24 @@ packed_of named n f at = turned packed (repeat n (number (element_kind_rules nam
 abbrev pub kind_in : KindRow → Kind
 kind_in r = kind_from r.first r.bits r.last
 
-abbrev pub out_kind : KindRead → Out Kind
-out_kind (kinds.Got r c) = got (kind_in r) c.at
-out_kind (kinds.No e) = no e.number e.place
+abbrev pub out_kind : Outcome KindRow → Out Kind
+out_kind (Ok (r, c)) = got (kind_in r) c.at
+out_kind (Err e) = no (number_of e.fault) e.place
 
-abbrev pub place_of_kind : KindRead → ℕ
-place_of_kind (kinds.Got r c) = c.at
-place_of_kind (kinds.No e) = e.place
-
-abbrev pub refusal_of_kind : KindRead → Refusal
-refusal_of_kind (kinds.Got r c) = record { number = 0; place = c.at }
-refusal_of_kind (kinds.No e) = e
+abbrev pub place_of_kind : Outcome KindRow → ℕ
+place_of_kind (Ok (r, c)) = c.at
+place_of_kind (Err e) = e.place
 
 -- a row of the table has room for the first number of a kind that was read
-abbrev pub ToldKind : KindRead → Type 0
-ToldKind (kinds.Got r c) = r.first ≤ 32
-ToldKind (kinds.No e) = Unit {0}
+abbrev pub ToldKind : Outcome KindRow → Type 0
+ToldKind (Ok (r, c)) = r.first ≤ 32
+ToldKind (Err e) = Unit {0}
 
 -- the answer is what is kept of the kind that the reader `r` gives at `at`; from a place within the file it leads to one
-pub record KindReadBy (r : Reader Kind) (f : List ℕ) (at : ℕ) (a : KindRead) : Type 0 where
+pub record KindReadBy (r : Reader Kind) (f : List ℕ) (at : ℕ) (a : Outcome KindRow) : Type 0 where
   pub says : out_kind a ≡ turned noted (r f at)
   pub inside : at ≤ length f → place_of_kind a ≤ length f
   pub told : ToldKind a
 
-abbrev pub KindReads : (ℕ → Bool) → List ℕ → ℕ → KindRead → Type 0
+abbrev pub KindReads : (ℕ → Bool) → List ℕ → ℕ → Outcome KindRow → Type 0
 KindReads named f at a = KindReadBy (kind named) f at a

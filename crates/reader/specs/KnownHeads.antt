@@ -1,6 +1,7 @@
 -- The head of an entry whose type is known, read the short way: what its pieces say, and that it is the head that is read number
 -- by number. Assumes nothing.
-use Rattle.std.specs.Prelude.{◌≡◌, refl, Bool, true, List, [], ◌∷◌, ◌++◌, ℕ, zero, suc, ◌+◌, ◌-◌, ◌^◌, ◌≤◌, ◌<◌, length, get_or}
+use Rattle.std.specs.Prelude as prelude
+use Rattle.std.specs.Prelude.{Some, ◌≡◌, refl, Bool, true, List, [], ◌∷◌, ◌++◌, ℕ, zero, suc, ◌+◌, ◌-◌, ◌^◌, ◌≤◌, ◌<◌, length, get_or}
 use Rattle.std.proofs.Math.Path.{sym, ap}
 use Rattle.std.proofs.Common.{◌∙◌, subst, append-nil, arith, length-append}
 use Rattle.std.proofs.Math.Bool.{false}
@@ -14,19 +15,13 @@ use Rattle.paper.specs.Ledger.{Range, text, a_string?, type_named, type_in, befo
 use Rattle.paper.specs.Rules.{entry_of?, few_objects?, in_range?, count_rules, new?, after_head, new_type, new_range}
 use Rattle.paper.specs.File.{small, restrictions}
 use Rattle.numbers.specs.Begun.{one_byte}
-use Rattle.numbers.specs.Cursors.{Read, answer-got}
+use Rattle.numbers.specs.Cursors.{Read, answer-got, Outcome}
 use Rattle.numbers.specs.Ruled.{small-got}
-use Rattle.numbers.specs.declared.Number.TheVariants.{Got}
 use Rattle.table.specs.View.{view, Said, said, maybe, strs_of, names_of, types_of, log_of, Ok, Holds, strings_in, types_in, ranges_in, block_in}
 use Rattle.table.specs.Answers.{Stands, Named, range_in, no_range}
-use Rattle.table.specs.declared.names.Found.TheVariants.{At}
 use Rattle.table.specs.declared.rows.RangeRow.{RangeRow}
 use Rattle.reader.specs.declared.heads.Name.{Name}
-use Rattle.reader.specs.declared.heads.Named.TheVariants as named
 use Rattle.reader.specs.declared.heads.Top.{Top}
-use Rattle.reader.specs.declared.heads.Topped.{Topped}
-use Rattle.reader.specs.declared.heads.Topped.TheVariants as topped
-use Rattle.reader.specs.declared.heads.Above.TheVariants as above
 use Rattle.reader.specs.Sound.{Sound}
 use Rattle.reader.specs.Ruled.{number-judged}
 use Rattle.reader.specs.Heads.{head_of, Known, NamePlaced, CountJudged, NameRead, AboveRead, DueRead, TopRead, Placed, add_head, range_for, Entered, TopEntered}
@@ -41,7 +36,7 @@ use Rattle.reader.specs.EnterLaws.{no-up}
 pub record OneByte (f : List ℕ) (at n : ℕ) : Type 0 where
   pub there : at < length f
   pub is : n ≡ get_or f at 0
-  pub read : Read v64 (2 ^ 64) f at (Got n (record { at = at + 1 }))
+  pub read : Read v64 (2 ^ 64) f at (prelude.Ok (n, record { at = at + 1 }))
 
 low-v64 : (f : List ℕ) (p : ℕ) → p < length f → get_or f p 0 < 128 → v64 f p ≡ got (get_or f p 0) (p + 1)
 unfolding v64 started coding low_first ◌>>=◌ give when◌then◌else◌
@@ -87,7 +82,7 @@ behind-one at (suc up) ne = refl
 
 pub record StartByte (f : List ℕ) (at up n : ℕ) : Type 0 where
   pub inside : at ≤ length f → behind at up ≤ length f
-  pub read : DueRead (given? (maybe up)) small 65536 f at (Got n (record { at = behind at up }))
+  pub read : DueRead (given? (maybe up)) small 65536 f at (prelude.Ok (n, record { at = behind at up }))
 
 pub start_none : (f : List ℕ) (at up : ℕ) → up ≡ 0 → StartByte f at up 0
 start_none f at up e = rw e (record { inside = λ lo. lo; read = due-none (given-none 0 refl) (omega arith) refl })
@@ -98,13 +93,13 @@ start-there f at (suc up) n ne lt b = record { inside = λ lo. omega (arith, b.t
 
 pub record CountByte (f l : List ℕ) (at up start n : ℕ) : Type 0 where
   pub there : at < length f
-  pub read : Read (number (count_rules (view f l) (maybe up) start)) 65536 f at (Got n (record { at = at + 1 }))
+  pub read : Read (number (count_rules (view f l) (maybe up) start)) 65536 f at (prelude.Ok (n, record { at = at + 1 }))
 
 pub count-there :
     {f l : List ℕ} {at n : ℕ} (up start : ℕ) → Holds f l → OneByte f at n
     → ((f : List ℕ) → few_objects? (view f l) (maybe up) n ≡ true) → ((f : List ℕ) → in_range? (view f l) (maybe up) start n ≡ true) → CountByte f l at up start n
 count-there {f} {l} {at} {n} up start h b few range =
-    let J : CountJudged l up start n at (at + 1) (Got n (record { at = at + 1 })) = count-in up start few refl range in
+    let J : CountJudged l up start n at (at + 1) (prelude.Ok (n, record { at = at + 1 })) = count-in up start few refl range in
     record { there = b.there; read = number-judged b.read (count_rules (view f l) (maybe up) start) refl (J.judged f h) J.below }
 
 -- ── the head ──
@@ -124,7 +119,7 @@ pub record Knew (f l l' : List ℕ) (at r : ℕ) (h : Top) : Type 0 where
   pub fresh : h.name.fresh ≡ false
   pub above : h.above.number ≡ 0
   pub up : maybe h.above.up ≡ (type_in (types_of l) h.name.typ).super
-  pub top : TopEntered f l l' at (topped.Got h (record { at = r }))
+  pub top : TopEntered f l l' at (prelude.Ok (h, record { at = r }))
 
 -- where the place is 0 nothing was done
 pub record HeadKnown (f l l' : List ℕ) (at r : ℕ) : Type 0 where
@@ -139,21 +134,21 @@ module _ {f l : List ℕ} (h : Holds f l) {at n t up start count next : ℕ} (na
   unfolding a_string?
   a-string = rw (le-leb 1 n k.low, le-leb n (length (strs_of f l)) (omega (arith, k.high, h.strs-count)))
 
-  name-is : NameRead (view f l) f at (named.Got x (record { at = at + 1 }))
+  name-is : NameRead (view f l) f at (prelude.Ok (x, record { at = at + 1 }))
   name-is =
-      let P : NamePlaced l n (some t) at (at + 1) (named.Got x (record { at = at + 1 })) = placed-known h.ok {o = At t} refl (sym k.first) refl k.called.below refl in
-      let K : Known f l n (At t) = record { is = k.called.is f h; below = k.called.below } in
+      let P : NamePlaced l n (some t) at (at + 1) (prelude.Ok (x, record { at = at + 1 })) = placed-known h.ok {o = Some t} refl (sym k.first) refl k.called.below refl in
+      let K : Known f l n (Some t) = record { is = k.called.is f h; below = k.called.below } in
       name-read (view f l) name.read refl (name-placed h a-string K P)
 
-  above-is : AboveRead (view f l) x f (at + 1) (above.Got (record { number = 0; up = up }) (record { at = at + 1 }))
+  above-is : AboveRead (view f l) x f (at + 1) (prelude.Ok (record { number = 0; up = up }, record { at = at + 1 }))
   above-is = above-old name-is.told refl refl ups
 
-  start_is : DueRead (given? (maybe up)) small 65536 f (at + 1) (Got start (record { at = next }))
+  start_is : DueRead (given? (maybe up)) small 65536 f (at + 1) (prelude.Ok (start, record { at = next }))
   start_is = rw here st.read
 
-  pub known_read : TopRead (view f l) f at (topped.Got (known_top n t up start count) (record { at = next + 1 }))
+  pub known_read : TopRead (view f l) f at (prelude.Ok (known_top n t up start count, record { at = next + 1 }))
   known_read =
-      let R : DueRead false restrictions 1 f (next + 1) (Got 0 (record { at = next + 1 })) = due-none refl (omega arith) refl in
+      let R : DueRead false restrictions 1 f (next + 1) (prelude.Ok (0, record { at = next + 1 })) = due-none refl (omega arith) refl in
       top-got name-is refl above-is refl start_is refl co.read refl R refl
 
   pub known-placed : Placed (view f l) (known_top n t up start count)
@@ -234,7 +229,7 @@ module _ {f l l' : List ℕ} {at r : ℕ} {h : Top} (k : Knew f l l' at r h) whe
       let old : new? (view f l) h.name.number ≡ false = sym k.top.left.placed.name.fresh ∙ k.fresh in
       ap (λ (g : Said). g.state.types) k.top.left.now.says ∙ rw old (append-nil (types_of l))
 
-  pub again : {t : Top} → LastTop f at l' t → TopEntered f l l' at (topped.Got t (record { at = r }))
+  pub again : {t : Top} → LastTop f at l' t → TopEntered f l l' at (prelude.Ok (t, record { at = r }))
   again {t} a =
       let e = k.top.left in
       let typ-is : t.name.typ ≡ h.name.typ = a.typ ∙ last-typ e a.last in
@@ -246,19 +241,19 @@ module _ {f l l' : List ℕ} {at r : ℕ} {h : Top} (k : Knew f l l' at r h) whe
       let up_is : t.above.up ≡ h.above.up = one_up _ _ (a.up ∙ rw (types-kept, typ-is) (sym k.up)) in
       let is : top_of t.name.number t.name.typ t.name.fresh t.above.number t.above.up t.start t.count ≡ top_of h.name.number h.name.typ h.name.fresh h.above.number h.above.up h.start h.count =
       rw (number_is, typ-is, fresh-is, above-is, up_is, start_is, count-is) refl in
-      subst (λ (x : Top). TopEntered f l l' at (topped.Got x (record { at = r }))) (sym is) k.top
+      subst (λ (x : Top). TopEntered f l l' at (prelude.Ok (x, record { at = r }))) (sym is) k.top
 
 -- what was known of the table before holds of it where nothing was done
 module _ {f l l' : List ℕ} {at r : ℕ} (k : HeadKnown f l l' at r) where
   pub known-before : r ≡ 0 → Holds f l → Sound (said f l) → Holds f l' × Sound (said f l')
   known-before is h s = rw (k.none is) (h, s)
 
-  pub known-again : r ≡ 0 → {a : Topped} {l'' : List ℕ} → TopEntered f l' l'' at a → TopEntered f l l'' at a
+  pub known-again : r ≡ 0 → {a : Outcome Top} {l'' : List ℕ} → TopEntered f l' l'' at a → TopEntered f l l'' at a
   known-again is {a} {l''} e = subst (λ (x : List ℕ). TopEntered f x l'' at a) (k.none is) e
 
   module _ (ne : r ≡ 0 → ⊥) where
     pub known-there : (Ok l' × (0 < ranges_in l')) × (at < length f)
     known-there = let (h, w) = k.some ne in ((w.top.left.now.holds.ok, some-range w.top.left), w.there)
 
-    pub known-topped : {t : Top} → LastTop f at l' t → TopEntered f l l' at (topped.Got t (record { at = r }))
+    pub known-topped : {t : Top} → LastTop f at l' t → TopEntered f l l' at (prelude.Ok (t, record { at = r }))
     known-topped a = let (h, w) = k.some ne in again w a

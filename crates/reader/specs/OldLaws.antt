@@ -1,5 +1,5 @@
 -- The ways out of reading known fields, on plain values: one field, and a turn of the loop over all. Assumes nothing.
-use Rattle.std.specs.Prelude.{◌≡◌, List, [], ℕ, ◌+◌, ◌-◌, ◌≤◌, ◌<◌, ◌^◌, length, get_or}
+use Rattle.std.specs.Prelude.{Ok, Err, ◌≡◌, List, [], ℕ, ◌+◌, ◌-◌, ◌≤◌, ◌<◌, ◌^◌, length, get_or}
 use Rattle.std.proofs.Math.Path.{refl, sym, ap}
 use Rattle.std.proofs.Common.{◌∙◌, arith, le_refl}
 use borrow.Author.Tests.{eq-eqb, ne_eqb}
@@ -7,9 +7,7 @@ use Rattle.paper.specs.Reader.{when◌then◌else◌, got, and_then, turned}
 use Rattle.paper.specs.Ledger.{State, Field, no_field, field_at, owns?}
 use Rattle.paper.specs.Rules.{values_due, old_due}
 use Rattle.paper.specs.File.{end_offset}
-use Rattle.numbers.specs.Cursors.{Read, was-got, was-refused}
-use Rattle.numbers.specs.declared.Number.{Number}
-use Rattle.numbers.specs.declared.Number.TheVariants.{Got, No}
+use Rattle.numbers.specs.Cursors.{Read, was-got, was-refused, Outcome}
 use Rattle.numbers.specs.declared.Cursor.{Cursor}
 use Rattle.numbers.specs.declared.Refusal.{Refusal}
 use Rattle.table.specs.View.{flds_of, view, Holds, Said, said, Now, fields_in, dues_in}
@@ -32,7 +30,7 @@ open-later {g} {t} {i} {j} o le =
 
 module _ {f l : List ℕ} (h : Holds f l) {t i : ℕ} (o : Open (said f l) t i) (lt : i < fields_in l) {d : Field} (is : d ≡ get_or (flds_of l) i no_field) where
   -- it is of another type
-  pub old-other : (added end : ℕ) {c : Cursor} → (d.owner ≡ t → ⊥) → Went f l t (i + 1) c.at (Got end c) (old_go added t i (going f l end) f c.at)
+  pub old-other : (added end : ℕ) {c : Cursor} → (d.owner ≡ t → ⊥) → Went f l t (i + 1) c.at (Ok (end, c)) (old_go added t i (going f l end) f c.at)
   unfolding old_go owns? field_at when◌then◌else◌
   old-other added end not-mine =
       record {
@@ -50,17 +48,17 @@ module _ {f l : List ℕ} (h : Holds f l) {t i : ℕ} (o : Open (said f l) t i) 
     pub old-has-room : dues_in l < 128
     old-has-room = omega (arith, h.ok.dues-count, old-room o i (le_refl i) (omega (arith, h.ok.flds-count)) owner-is)
 
-    module _ (added end : ℕ) {at : ℕ} {a : Number} (read : Read (end_offset end) (2 ^ 64) f at a) where
+    module _ (added end : ℕ) {at : ℕ} {a : Outcome ℕ} (read : Read (end_offset end) (2 ^ 64) f at a) where
       old-is : old_go added t i (going f l end) f at ≡ turned (go_old added (going f l end) i) (end_offset end f at)
       unfolding old_go owns? field_at when◌then◌else◌
       old-is = rw (← is, eq-eqb d.owner t mine)
 
-      pub old-no : {e : Refusal} → a ≡ No e → Went f l t (i + 1) at a (old_go added t i (going f l end) f at)
+      pub old-no : {e : Refusal} → a ≡ Err e → Went f l t (i + 1) at (Err e) (old_go added t i (going f l end) f at)
       old-no no-is =
           let R = was-refused read no-is in
-          rw no-is (record { holds = h; says = sym (old-is ∙ rw R.says); inside = R.inside; still_open = tt })
+          record { holds = h; says = sym (old-is ∙ rw R.says); inside = R.inside; still_open = tt }
 
-      module _ {e : ℕ} {c : Cursor} (got-is : a ≡ Got e c) {l' : List ℕ} {v : ℕ} (due-is : v ≡ values_due d.kind added) (p : Pushed 4 7344 4 (due_cells i v (e - end)) l l') where
+      module _ {e : ℕ} {c : Cursor} (got-is : a ≡ Ok (e, c)) {l' : List ℕ} {v : ℕ} (due-is : v ≡ values_due d.kind added) (p : Pushed 4 7344 4 (due_cells i v (e - end)) l l') where
         now : Now f l' (add_due (said f l) (record { field = i; values = v }) (e - end))
         now = pushed-due h i v (e - end) old-has-room p.push
 
@@ -74,7 +72,7 @@ module _ {f l : List ℕ} (h : Holds f l) {t i : ℕ} (o : Open (said f l) t i) 
             due-added {g = said f l} {g' = said f l'} o i (le_refl i) (omega (arith, h.ok.flds-count)) owner-is (record { field = i; values = v }, e - end) refl
             (ap (λ (s : Said). s.state) now.says) (ap (λ (s : Said). s.due) now.says) (ap (λ (s : Said). s.chunks) now.says)
 
-        pub old-got : Went f l' t (i + 1) at (Got e c) (old_go added t i (going f l end) f at)
+        pub old-got : Went f l' t (i + 1) at (Ok (e, c)) (old_go added t i (going f l end) f at)
         unfolding go_old
         old-got =
             let R = was-got read got-is in
@@ -88,7 +86,7 @@ module _ {f l : List ℕ} (h : Holds f l) {t i : ℕ} (o : Open (said f l) t i) 
 -- ── all of them ──
 
 -- no object is added
-pub olds-skip : {f l : List ℕ} → Holds f l → {t : ℕ} → Open (said f l) t 0 → {added : ℕ} → added ≡ 0 → (end : ℕ) {c : Cursor} → Went f l t (length (flds_of l)) c.at (Got end c) (olds_go added (olds_of added (view f l) t) (going f l end) f c.at)
+pub olds-skip : {f l : List ℕ} → Holds f l → {t : ℕ} → Open (said f l) t 0 → {added : ℕ} → added ≡ 0 → (end : ℕ) {c : Cursor} → Went f l t (length (flds_of l)) c.at (Ok (end, c)) (olds_go added (olds_of added (view f l) t) (going f l end) f c.at)
 olds-skip {f} {l} h {t} o {added} none end {c} =
     record {
       holds = h;
@@ -122,7 +120,7 @@ olds-begin {f} {l} h {t} o {added} some own end at =
     }
 
 module _ {f l₀ l : List ℕ} {t added end at₀ n i last at : ℕ} (g : OldsGoing f l₀ l t added end at₀ n i last at) where
-  pub olds-done : n ≤ i → Went f l t (length (flds_of l)) at₀ (Got last (record { at = at })) (olds_go added (olds_of added (view f l₀) t) (going f l₀ end) f at₀)
+  pub olds-done : n ≤ i → Went f l t (length (flds_of l)) at₀ (Ok (last, record { at = at })) (olds_go added (olds_of added (view f l₀) t) (going f l₀ end) f at₀)
   olds-done le =
       let last-is : i ≡ n = omega (arith, g.fewer) in
       record {
@@ -132,17 +130,17 @@ module _ {f l₀ l : List ℕ} {t added end at₀ n i last at : ℕ} (g : OldsGo
         still_open = open-later g.still_open (omega (arith, g.fewer, g.fields, g.holds.ok.flds-count));
       }
 
-  module _ (lt : i < n) {l' : List ℕ} {a : Number} (one : Went f l' t (i + 1) at a (old_go added t i (going f l last) f at)) where
+  module _ (lt : i < n) {l' : List ℕ} {a : Outcome ℕ} (one : Went f l' t (i + 1) at a (old_go added t i (going f l last) f at)) where
     turn : olds_go added (olds_of added (view f l₀) t) (going f l₀ end) f at₀ ≡ and_then (out_going f l' a) (λ g' e. olds_go added (own_from t (i + 1) g'.said.state.fields) g' f e)
     turn =
         g.says ∙ olds-step added f t i (going f l last) at (omega (arith, g.holds.ok.flds-count, g.fields)) ∙ rw (← one.says) refl
 
-    pub olds-no : {e : Refusal} → a ≡ No e → Went f l' t (length (flds_of l')) at₀ a (olds_go added (olds_of added (view f l₀) t) (going f l₀ end) f at₀)
+    pub olds-no : {e : Refusal} → a ≡ Err e → Went f l' t (length (flds_of l')) at₀ (Err e) (olds_go added (olds_of added (view f l₀) t) (going f l₀ end) f at₀)
     olds-no is =
         let one' = rw is at one in
-        rw is (record { holds = one'.holds; says = sym (turn ∙ rw is refl); inside = λ lo. one'.inside (g.inside lo); still_open = tt })
+        record { holds = one'.holds; says = sym (turn ∙ rw is refl); inside = λ lo. one'.inside (g.inside lo); still_open = tt }
 
-    pub olds-next : {e : ℕ} {c : Cursor} → a ≡ Got e c → length l' ≡ length l → OldsGoing f l₀ l' t added end at₀ n (i + 1) e c.at
+    pub olds-next : {e : ℕ} {c : Cursor} → a ≡ Ok (e, c) → length l' ≡ length l → OldsGoing f l₀ l' t added end at₀ n (i + 1) e c.at
     olds-next {e} {c} is long =
         let one' = rw is at one in
         let kept : view f l' ≡ view f l = old-keeps added f t i (going f l last) (going f l' e) at c.at one'.says in

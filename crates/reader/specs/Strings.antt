@@ -1,15 +1,13 @@
 -- The string block, as the code reads it. Assumes nothing.
-use Rattle.std.specs.Prelude.{ℕ, ◌+◌, ◌-◌, ◌*◌, ◌^◌, ◌≤◌, List, [], ◌∷◌, ◌≡◌, leb, length, take, drop}
+use Rattle.std.specs.Prelude.{Ok, Err, ℕ, ◌+◌, ◌-◌, ◌*◌, ◌^◌, ◌≤◌, List, [], ◌∷◌, ◌≡◌, leb, length, take, drop}
 use Rattle.paper.specs.Reader.{when◌then◌else◌, Reader, Out, got, no, times, bytes}
 use Rattle.paper.specs.Lists.{last_or}
 use Rattle.paper.specs.Rules.{with_strings}
 use Rattle.paper.specs.File.{string_end}
-use Rattle.numbers.specs.Cursors.{Read, place_of, out_step, step_place}
-use Rattle.numbers.specs.declared.Number.{Number}
-use Rattle.numbers.specs.declared.Number.TheVariants as number
-use Rattle.numbers.specs.declared.Step.{Step}
+use Rattle.numbers.specs.Cursors.{Read, place_of, out_step, step_place, Outcome, Step}
 use Rattle.table.specs.View.{Holds, Said, said}
 use Rattle.table.specs.Adds.{add_string}
+use Rattle.numbers.specs.Faults.{number_of}
 
 -- ── a step that reads into the table ──
 
@@ -52,11 +50,11 @@ pub record OneEnd (f l l' : List ℕ) (b prev at e p : ℕ) : Type 0 where
   pub on : p ≡ at + 4
   pub says : said f l' ≡ add_string (said f l) (piece f b prev e)
 
-abbrev pub LeftEnd : List ℕ → List ℕ → List ℕ → ℕ → ℕ → ℕ → Number → Type 0
-LeftEnd f l l' b prev at (number.Got e c) = OneEnd f l l' b prev at e c.at
-LeftEnd f l l' b prev at (number.No r) = Unit {0}
+abbrev pub LeftEnd : List ℕ → List ℕ → List ℕ → ℕ → ℕ → ℕ → Outcome ℕ → Type 0
+LeftEnd f l l' b prev at (Ok (e, c)) = OneEnd f l l' b prev at e c.at
+LeftEnd f l l' b prev at (Err r) = Unit {0}
 
-pub record EndRead (f l l' : List ℕ) (b prev at : ℕ) (r : Number) : Type 0 where
+pub record EndRead (f l l' : List ℕ) (b prev at : ℕ) (r : Outcome ℕ) : Type 0 where
   pub holds : Holds f l'
   pub read : Read (string_end prev) (256 ^ 4) f at r
   pub left : LeftEnd f l l' b prev at r
@@ -70,11 +68,11 @@ pub record Ended (f l l' : List ℕ) (b n at e p : ℕ) : Type 0 where
   pub on : p ≡ at + 4 * n
   pub says : said f l' ≡ add_strings (said f l) (pieces f b 0 list)
 
-abbrev pub LeftEnds : List ℕ → List ℕ → List ℕ → ℕ → ℕ → ℕ → Number → Type 0
-LeftEnds f l l' b n at (number.Got e c) = Ended f l l' b n at e c.at
-LeftEnds f l l' b n at (number.No r) = ends n 0 f at ≡ no r.number r.place
+abbrev pub LeftEnds : List ℕ → List ℕ → List ℕ → ℕ → ℕ → ℕ → Outcome ℕ → Type 0
+LeftEnds f l l' b n at (Ok (e, c)) = Ended f l l' b n at e c.at
+LeftEnds f l l' b n at (Err r) = ends n 0 f at ≡ no (number_of r.fault) r.place
 
-pub record EndsRead (f l l' : List ℕ) (b n at : ℕ) (r : Number) : Type 0 where
+pub record EndsRead (f l l' : List ℕ) (b n at : ℕ) (r : Outcome ℕ) : Type 0 where
   pub holds : Holds f l'
   pub inside : at ≤ length f → place_of r ≤ length f
   pub left : LeftEnds f l l' b n at r

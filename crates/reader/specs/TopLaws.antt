@@ -1,5 +1,5 @@
 -- The ways out of `read_head`, on plain values: each section adds what one more reading has learnt. Assumes nothing.
-use Rattle.std.specs.Prelude.{◌≡◌, refl, Bool, true, false, List, ℕ, ◌≤◌, ◌<◌, length}
+use Rattle.std.specs.Prelude.{Ok, Err, ◌≡◌, refl, Bool, true, false, List, ℕ, ◌≤◌, ◌<◌, length}
 use Rattle.std.proofs.Common.{sym, ap, ◌∙◌}
 use Rattle.std.proofs.Math.Option.{Option}
 use Rattle.paper.specs.Reader.{Reader, got, no, ◌>>=◌, give, only}
@@ -8,21 +8,15 @@ use Rattle.paper.specs.Lists.{given?, or}
 use Rattle.paper.specs.Ledger.{State}
 use Rattle.paper.specs.Rules.{new?, type_of, type_name_rules, super_name_rules, super_of, count_rules}
 use Rattle.paper.specs.File.{small, restrictions, head}
-use Rattle.numbers.specs.Cursors.{Read, was-got, its-refusal, refusal_of}
-use Rattle.numbers.specs.declared.Number.{Number}
-use Rattle.numbers.specs.declared.Number.TheVariants.{Got, No}
+use Rattle.numbers.specs.Cursors.{Read, was-got, Outcome, was-refused}
 use Rattle.numbers.specs.declared.Cursor.{Cursor}
 use Rattle.numbers.specs.declared.Refusal.{Refusal}
 use Rattle.table.specs.View.{maybe}
 use Rattle.reader.specs.declared.heads.Name.{Name}
-use Rattle.reader.specs.declared.heads.Named.{Named}
-use Rattle.reader.specs.declared.heads.Named.TheVariants as named
 use Rattle.reader.specs.declared.heads.Super.{Super}
-use Rattle.reader.specs.declared.heads.Above.{Above}
-use Rattle.reader.specs.declared.heads.Above.TheVariants as above
-use Rattle.reader.specs.declared.heads.Topped.TheVariants as topped
-use Rattle.reader.specs.Heads.{due, Resolved, NameRead, no_name, AboveRead, no_above, DueRead, TopRead}
+use Rattle.reader.specs.Heads.{due, Resolved, NameRead, AboveRead, DueRead, TopRead}
 use Rattle.reader.specs.CountLaws.{given-none}
+use Rattle.numbers.specs.Faults.{number_of}
 
 -- ── the definition, by what each of its readings gives ──
 
@@ -57,26 +51,22 @@ module _ (s : State) (f : List ℕ) (at : ℕ) where
 
 -- ── what the code's readings give ──
 
-stop : {s : State} {f : List ℕ} {at : ℕ} {u : Refusal} → head s f at ≡ no u.number u.place → (at ≤ length f → u.place ≤ length f) → TopRead s f at (topped.No u)
+stop : {s : State} {f : List ℕ} {at : ℕ} {u : Refusal} → head s f at ≡ no (number_of u.fault) u.place → (at ≤ length f → u.place ≤ length f) → TopRead s f at (Err u)
 stop h lo = record { says = sym h; inside = lo; told = tt }
-
--- the answer that is handed on is the refusal that was made of it
-no_number : {a : Number} {e u : Refusal} → a ≡ No e → u ≡ refusal_of a → a ≡ No u
-no_number is same = is ∙ ap No (sym (same ∙ ap refusal_of is))
 
 pub or-due : (b : Bool) (n : ℕ) → (b ≡ false → n ≡ 0) → or (due b n) 0 ≡ n
 unfolding or
 or-due true n h = refl
 or-due false n h = sym (h refl)
 
-module _ {s : State} {f : List ℕ} {at : ℕ} {a : Named} (na : NameRead s f at a) where
-  pub top-no-name : {e u : Refusal} → a ≡ named.No e → u ≡ no_name a → TopRead s f at (topped.No u)
-  top-no-name {u = u} is same =
-      let S : NameRead s f at (named.No u) = rw (is ∙ ap named.No (sym (same ∙ ap no_name is))) at na in
+module _ {s : State} {f : List ℕ} {at : ℕ} {a : Outcome Name} (na : NameRead s f at a) where
+  pub top-no-name : {e : Refusal} → a ≡ Err e → TopRead s f at (Err e)
+  top-no-name {e} is =
+      let S : NameRead s f at (Err e) = rw is at na in
       stop (head-no-name s f at (sym S.says)) S.inside
 
-  module _ {x : Name} {c₁ : Cursor} (isa : a ≡ named.Got x c₁) where
-    name-got : NameRead s f at (named.Got x c₁)
+  module _ {x : Name} {c₁ : Cursor} (isa : a ≡ Ok (x, c₁)) where
+    name-got : NameRead s f at (Ok (x, c₁))
     name-got = rw isa at na
 
     pub resolved : Resolved s x
@@ -88,14 +78,14 @@ module _ {s : State} {f : List ℕ} {at : ℕ} {a : Named} (na : NameRead s f at
     super-as : only x.fresh (number (super_name_rules s x.typ)) f c₁.at ≡ only (new? s x.number) (number (super_name_rules s (type_of s x.number))) f c₁.at
     super-as = as-new (number (super_name_rules s x.typ)) c₁.at ∙ rw resolved.typ refl
 
-    module _ {b : Above} (ab : AboveRead s x f c₁.at b) where
-      pub top-no-super : {e u : Refusal} → b ≡ above.No e → u ≡ no_above b → TopRead s f at (topped.No u)
-      top-no-super {u = u} is same =
-          let S : AboveRead s x f c₁.at (above.No u) = rw (is ∙ ap above.No (sym (same ∙ ap no_above is))) at ab in
+    module _ {b : Outcome Super} (ab : AboveRead s x f c₁.at b) where
+      pub top-no-super : {e : Refusal} → b ≡ Err e → TopRead s f at (Err e)
+      top-no-super {e} is =
+          let S : AboveRead s x f c₁.at (Err e) = rw is at ab in
           stop (head-no-super s f at (sym name-got.says) (sym super-as ∙ sym S.says)) (λ lo. S.inside (name-got.inside lo))
 
-      module _ {y : Super} {c₂ : Cursor} (isb : b ≡ above.Got y c₂) where
-        above-got : AboveRead s x f c₁.at (above.Got y c₂)
+      module _ {y : Super} {c₂ : Cursor} (isb : b ≡ Ok (y, c₂)) where
+        above-got : AboveRead s x f c₁.at (Ok (y, c₂))
         above-got = rw isb at ab
 
         in₂ : at ≤ length f → c₂.at ≤ length f
@@ -107,14 +97,14 @@ module _ {s : State} {f : List ℕ} {at : ℕ} {a : Named} (na : NameRead s f at
         start-as : only (given? (maybe y.up)) small f c₂.at ≡ only (given? (super_of s x.number (due x.fresh y.number))) small f c₂.at
         start-as = ap (λ (o : Option ℕ). only (given? o) small f c₂.at) above-got.told
 
-        module _ {d : Number} (st : DueRead (given? (maybe y.up)) small 65536 f c₂.at d) where
-          pub top-no-start : {e u : Refusal} → d ≡ No e → u ≡ refusal_of d → TopRead s f at (topped.No u)
-          top-no-start {u = u} is same =
-              let S : DueRead (given? (maybe y.up)) small 65536 f c₂.at (No u) = rw (no_number is same) at st in
+        module _ {d : Outcome ℕ} (st : DueRead (given? (maybe y.up)) small 65536 f c₂.at d) where
+          pub top-no-start : {e : Refusal} → d ≡ Err e → TopRead s f at (Err e)
+          top-no-start {e} is =
+              let S : DueRead (given? (maybe y.up)) small 65536 f c₂.at (Err e) = rw is at st in
               stop (head-no-start s f at (sym name-got.says) h₂ (sym start-as ∙ sym S.says)) (λ lo. S.inside (in₂ lo))
 
-          module _ {start : ℕ} {c₃ : Cursor} (isd : d ≡ Got start c₃) where
-            start-got : DueRead (given? (maybe y.up)) small 65536 f c₂.at (Got start c₃)
+          module _ {start : ℕ} {c₃ : Cursor} (isd : d ≡ Ok (start, c₃)) where
+            start-got : DueRead (given? (maybe y.up)) small 65536 f c₂.at (Ok (start, c₃))
             start-got = rw isd at st
 
             pub start-below : start < 65536
@@ -129,13 +119,13 @@ module _ {s : State} {f : List ℕ} {at : ℕ} {a : Named} (na : NameRead s f at
             count-as : number (count_rules s (maybe y.up) start) f c₃.at ≡ number (count_rules s (super_of s x.number (due x.fresh y.number)) (or (due (given? (maybe y.up)) start) 0)) f c₃.at
             count-as = rw (or-due (given? (maybe y.up)) start start-got.none, ← above-got.told) refl
 
-            module _ {e : Number} (co : Read (number (count_rules s (maybe y.up) start)) 65536 f c₃.at e) where
-              pub top-no-count : {r u : Refusal} → e ≡ No r → u ≡ refusal_of e → TopRead s f at (topped.No u)
-              top-no-count is same =
-                  let S = its-refusal co is same in
+            module _ {e : Outcome ℕ} (co : Read (number (count_rules s (maybe y.up) start)) 65536 f c₃.at e) where
+              pub top-no-count : {r : Refusal} → e ≡ Err r → TopRead s f at (Err r)
+              top-no-count is =
+                  let S = was-refused co is in
                   stop (head-no-count s f at (sym name-got.says) h₂ h₃ (sym count-as ∙ S.says)) (λ lo. S.inside (in₃ lo))
 
-              module _ {n : ℕ} {c₄ : Cursor} (ise : e ≡ Got n c₄) where
+              module _ {n : ℕ} {c₄ : Cursor} (ise : e ≡ Ok (n, c₄)) where
                 pub count-below : n < 65536
                 count-below = (was-got co ise).below
 
@@ -145,15 +135,15 @@ module _ {s : State} {f : List ℕ} {at : ℕ} {a : Named} (na : NameRead s f at
                 h₄ : number (count_rules s (super_of s x.number (due x.fresh y.number)) (or (due (given? (maybe y.up)) start) 0)) f c₃.at ≡ got n c₄.at
                 h₄ = sym count-as ∙ (was-got co ise).says
 
-                module _ {g : Number} (re : DueRead x.fresh restrictions 1 f c₄.at g) where
-                  pub top-no-none : {r u : Refusal} → g ≡ No r → u ≡ refusal_of g → TopRead s f at (topped.No u)
-                  top-no-none {u = u} is same =
-                      let S : DueRead x.fresh restrictions 1 f c₄.at (No u) = rw (no_number is same) at re in
+                module _ {g : Outcome ℕ} (re : DueRead x.fresh restrictions 1 f c₄.at g) where
+                  pub top-no-none : {r : Refusal} → g ≡ Err r → TopRead s f at (Err r)
+                  top-no-none {r} is =
+                      let S : DueRead x.fresh restrictions 1 f c₄.at (Err r) = rw is at re in
                       stop (head-no-none s f at (sym name-got.says) h₂ h₃ h₄ (sym (as-new restrictions c₄.at) ∙ sym S.says)) (λ lo. S.inside (in₄ lo))
 
-                  pub top-got : {k : ℕ} {c₅ : Cursor} → g ≡ Got k c₅ → TopRead s f at (topped.Got (record { name = x; above = y; start = start; count = n }) c₅)
+                  pub top-got : {k : ℕ} {c₅ : Cursor} → g ≡ Ok (k, c₅) → TopRead s f at (Ok (record { name = x; above = y; start = start; count = n }, c₅))
                   top-got {k} {c₅} is =
-                      let S : DueRead x.fresh restrictions 1 f c₄.at (Got k c₅) = rw is at re in
+                      let S : DueRead x.fresh restrictions 1 f c₄.at (Ok (k, c₅)) = rw is at re in
                       record {
                         says = sym (head-got s f at (sym name-got.says) h₂ h₃ h₄ (sym (as-new restrictions c₄.at) ∙ sym S.says));
                         inside = λ lo. S.inside (in₄ lo);

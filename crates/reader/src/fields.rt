@@ -12,64 +12,57 @@ ghost use Rattle.reader.specs.Ruled.{Judged};
 ghost use Rattle.reader.specs.Kinds.{named?};
 ghost use Rattle.reader.specs.Fields.{going, olds_of, old_go, olds_go, new_go, news_go, fields_go, FieldAdded, Went};
 
-use super::kinds::{Kind, KindRead, Named, read_kind, refused_kind};
+use super::kinds::{Kind, Named, read_kind};
 use super::known::adds_nothing;
 use super::ruled::no_restrictions;
-use numbers::{Cursor, Number, Refusal};
+use numbers::{Cursor, Fault, Outcome, Refusal};
 use paper::Ledger;
-use table::names::Found;
 use table::rows::FieldRow;
 
 // An end offset, which does not fall below the one before it.
-fn end_offset(file: &[u8], c: Cursor, before: u64) -> Number
+fn end_offset(file: &[u8], c: Cursor, before: u64) -> Outcome<u64>
     ensures { Read (end_offset before) (2 ^ 64) file.now c.at result }
 {
     let at = c.at;
-    let a = c.v64(file);
-    let Number::Got(e, next) = a else {
-        return a;
-    };
+    let (e, next) = c.v64(file)?;
     if e < before {
-        return Number::No(Refusal {
-            number: 4,
+        return Err(Refusal {
+            fault: Fault::Ends,
             place: at,
         });
     }
-    Number::Got(e, next)
+    Ok((e, next))
 }
 
 // The number n of an entry's fields, held to its rules: there is room for the new ones, and all that are known are given. What
 // passes the bound is refused for that first. The number began at `at`; behind it comes `next`.
-pub fn judged_field_count(work: &[u32], known: u32, n: u64, at: usize, next: Cursor) -> Number
+pub fn judged_field_count(work: &[u32], known: u32, n: u64, at: usize, next: Cursor) -> Outcome<u64>
     requires { Ok work.now }
     ensures { (f : List ℕ) → Holds f work.now → Judged (field_count_rules (view f work.now) known) n at next.at result }
 {
     let room = Ledger::FIELDS - (table::rows::fields(work) as u64);
     let most = (known as u64) + room;
     if most < n {
-        return Number::No(Refusal {
-            number: 3,
+        return Err(Refusal {
+            fault: Fault::Limit,
             place: at,
         });
     }
     if n < known as u64 {
-        return Number::No(Refusal {
-            number: 11,
+        return Err(Refusal {
+            fault: Fault::Fields,
             place: at,
         });
     }
-    Number::Got(n, next)
+    Ok((n, next))
 }
 
-fn field_count(file: &[u8], c: Cursor, work: &[u32], known: u32) -> Number
+fn field_count(file: &[u8], c: Cursor, work: &[u32], known: u32) -> Outcome<u64>
     requires { Holds file.now work.now }
     ensures { Read (number (field_count_rules (view file.now work.now) known)) (2 ^ 64) file.now c.at result }
 {
     let at = c.at;
-    let a = c.v64(file);
-    let Number::Got(n, next) = a else {
-        return a;
-    };
+    let (n, next) = c.v64(file)?;
     judged_field_count(work, known, n, at, next)
 }
 
@@ -93,7 +86,7 @@ fn old_field(
     i: u32,
     added: u32,
     end: u64,
-) -> Number
+) -> Outcome<u64>
     requires holds { Holds file.now work.old }
     requires fact { Open (said file.now work.old) t i }
     requires i_bound { i < fields_in work.old }
@@ -101,42 +94,38 @@ fn old_field(
 {
     let row = table::rows::field_at(work, i);
     if row.owner != t {
-        return Number::Got(end, c);
+        return Ok((end, c));
     }
-    let a = end_offset(file, c, end);
-    let Number::Got(e, next) = a else {
-        return a;
-    };
+    let (e, next) = end_offset(file, c, end)?;
     let values = values_due(row.kind, added);
     let size = e - end;
     table::pushes::push_due(work, i, values, size);
-    Number::Got(e, next)
+    Ok((e, next))
 }
 
 // The known fields of type t, in the order of their declaration. An entry that adds no object gives none of them.
-fn old_fields(file: &[u8], c: Cursor, work: &mut [u32], t: u32, added: u32, end: u64) -> Number
+fn old_fields(
+    file: &[u8],
+    c: Cursor,
+    work: &mut [u32],
+    t: u32,
+    added: u32,
+    end: u64,
+) -> Outcome<u64>
     requires holds { Holds file.now work.old }
     requires fact { Open (said file.now work.old) t 0 }
     ensures { Went file.now work.new t (length (flds_of work.new)) c.at result (olds_go added (olds_of added (view file.now work.old) t) (going file.now work.old end) file.now c.at) }
 {
     if added == 0 {
-        return Number::Got(end, c);
+        return Ok((end, c));
     }
     let own = table::names::stretch_of(work, t);
-    let n = own.to;
-    let mut at = c.at;
+    let mut next = c;
     let mut last = end;
-    let mut i = own.from;
-    while i < n {
-        let a = old_field(file, Cursor { at }, work, t, i, added, last);
-        let Number::Got(e, next) = a else {
-            return a;
-        };
-        at = next.at;
-        last = e;
-        i += 1;
+    for i in own.from..own.to {
+        (last, next) = old_field(file, next, work, t, i, added, last)?;
     }
-    Number::Got(last, Cursor { at })
+    Ok((last, next))
 }
 
 // The name of a new field of type t, by its string's number n, held to its rules: no other field of the type has it. The
@@ -148,42 +137,39 @@ pub fn judged_field_name(
     n: u64,
     at: usize,
     next: Cursor,
-) -> Number
+) -> Outcome<u64>
     requires { Holds names.now work.now }
     ensures { Judged (field_name_rules t (view names.now work.now)) n at next.at result }
 {
     if n == 0 {
-        return Number::No(Refusal {
-            number: 5,
+        return Err(Refusal {
+            fault: Fault::Name,
             place: at,
         });
     }
     if (table::rows::strings(work) as u64) < n {
-        return Number::No(Refusal {
-            number: 5,
+        return Err(Refusal {
+            fault: Fault::Name,
             place: at,
         });
     }
     let name = table::rows::string_at(work, (n - 1) as u32);
     let other = table::names::find_field(names, work, t, name);
     match other {
-        Found::At(_) => Number::No(Refusal {
-            number: 6,
+        Some(_) => Err(Refusal {
+            fault: Fault::Twice,
             place: at,
         }),
-        Found::Nothing => Number::Got(n, next),
+        None => Ok((n, next)),
     }
 }
 
-fn field_name(file: &[u8], c: Cursor, work: &[u32], t: u32) -> Number
+fn field_name(file: &[u8], c: Cursor, work: &[u32], t: u32) -> Outcome<u64>
     requires { Holds file.now work.now }
     ensures { Read (number (field_name_rules t (view file.now work.now))) (2 ^ 64) file.now c.at result }
 {
     let at = c.at;
-    let a = c.v64(file);
-    let Number::Got(n, next) = a else {
-        return a;
-    };
+    let (n, next) = c.v64(file)?;
     judged_field_name(file, work, t, n, at, next)
 }
 
@@ -231,31 +217,19 @@ fn new_field(
     objects: u32,
     end: u64,
     named: Named,
-) -> Number
+) -> Outcome<u64>
     requires holds { Holds file.now work.old }
     requires fact { Open (said file.now work.old) t (length (flds_of work.old)) }
     requires work_bound { fields_in work.old < most_fields }
     ensures { Went file.now work.new t (length (flds_of work.new)) c.at result (new_go (named? named) t objects (going file.now work.old end) file.now c.at) }
 {
-    let a = no_restrictions(file, c);
-    let Number::Got(_, c1) = a else {
-        return a;
-    };
-    let k = read_kind(file, c1, named);
-    let KindRead::Got(kind, c2) = k else {
-        return Number::No(refused_kind(k));
-    };
-    let b = field_name(file, c2, work, t);
-    let Number::Got(name, c3) = b else {
-        return b;
-    };
-    let d = end_offset(file, c3, end);
-    let Number::Got(e, next) = d else {
-        return d;
-    };
+    let (_, c1) = no_restrictions(file, c)?;
+    let (kind, c2) = read_kind(file, c1, named)?;
+    let (name, c3) = field_name(file, c2, work, t)?;
+    let (e, next) = end_offset(file, c3, end)?;
     let size = e - end;
     add_field(file, work, t, kind, name, objects, size);
-    Number::Got(e, next)
+    Ok((e, next))
 }
 
 // So many new fields of type t.
@@ -268,25 +242,18 @@ fn new_fields(
     end: u64,
     named: Named,
     count: u64,
-) -> Number
+) -> Outcome<u64>
     requires holds { Holds file.now work.old }
     requires fact { Open (said file.now work.old) t (length (flds_of work.old)) }
     requires count_bound { fields_in work.old + count ≤ most_fields }
     ensures { Went file.now work.new t (length (flds_of work.new)) c.at result (news_go (named? named) t objects count (going file.now work.old end) file.now c.at) }
 {
-    let mut at = c.at;
+    let mut next = c;
     let mut last = end;
-    let mut rest = count;
-    while 0 < rest {
-        let a = new_field(file, Cursor { at }, work, t, objects, last, named);
-        let Number::Got(e, next) = a else {
-            return a;
-        };
-        at = next.at;
-        last = e;
-        rest -= 1;
+    for _ in 0..count {
+        (last, next) = new_field(file, next, work, t, objects, last, named)?;
     }
-    Number::Got(last, Cursor { at })
+    Ok((last, next))
 }
 
 // How many known fields an entry of type t gives: with no object added all its fields are new.
@@ -310,21 +277,15 @@ pub fn all_fields(
     added: u32,
     end: u64,
     named: Named,
-) -> Number
+) -> Outcome<u64>
     requires holds { Holds file.now work.old }
     requires fact { Open (said file.now work.old) t 0 }
     ensures { Went file.now work.new t (length (flds_of work.new)) c.at result (fields_go (named? named) t added (going file.now work.old end) file.now c.at) }
 {
     let objects = table::ranges::objects_of(work, t);
     let known = known_fields(work, t, added);
-    let a = field_count(file, c, work, known);
-    let Number::Got(n, c1) = a else {
-        return a;
-    };
-    let b = old_fields(file, c1, work, t, added, end);
-    let Number::Got(last, c2) = b else {
-        return b;
-    };
+    let (n, c1) = field_count(file, c, work, known)?;
+    let (last, c2) = old_fields(file, c1, work, t, added, end)?;
     let count = n - (known as u64);
     new_fields(file, c2, work, t, objects, last, named, count)
 }
@@ -338,14 +299,14 @@ pub fn fields(
     added: u32,
     end: u64,
     named: Named,
-) -> Number
+) -> Outcome<u64>
     requires holds { Holds file.now work.old }
     requires fact { Open (said file.now work.old) t 0 }
     ensures { Went file.now work.new t (length (flds_of work.new)) c.at result (fields_go (named? named) t added (going file.now work.old end) file.now c.at) }
 {
     let at = c.at;
     if adds_nothing(file, at, added) {
-        return Number::Got(end, Cursor { at: at + 1 });
+        return Ok((end, Cursor { at: at + 1 }));
     }
     all_fields(file, c, work, t, added, end, named)
 }

@@ -13,12 +13,12 @@ ghost use Rattle.table.specs.View.{view, said, maybe, types_of, Ok, Holds, strin
 ghost use Rattle.table.specs.Answers.{range_in};
 ghost use Rattle.table.specs.Asks.{found};
 ghost use Rattle.reader.specs.Sound.{Sound};
-ghost use Rattle.reader.specs.Heads.{FoundBelow, Known, Resolved, NamePlaced, NameJudged, NameRead, no_name, SuperPlaced, SuperJudged, SuperRead, AboveRead, no_above, DueRead, CountJudged, TopRead, Placed, no_top, range_for, Declares, TypeEntered, Entered, TopEntered};
+ghost use Rattle.reader.specs.Heads.{FoundBelow, Known, Resolved, NamePlaced, NameJudged, NameRead, SuperPlaced, SuperJudged, SuperRead, AboveRead, DueRead, CountJudged, TopRead, Placed, range_for, Declares, TypeEntered, Entered, TopEntered};
 
 use super::ruled::no_restrictions;
-use numbers::{Cursor, Number, Refusal, refused};
+use numbers::{Cursor, Fault, Outcome, Refusal};
 use paper::Ledger;
-use table::names::{Found, find_type, string_sum};
+use table::names::{find_type, string_sum};
 use table::pushes::{note, push_range, push_type};
 use table::ranges::{around, clear_of_siblings, entered, objects_in_all, pool_before};
 use table::rows::{RangeRow, TypeRow, block, string_at, strings, types};
@@ -32,24 +32,12 @@ pub struct Name {
     pub fresh: bool,
 }
 
-#[derive(Clone, Copy)]
-pub enum Named {
-    Got(Name, Cursor),
-    No(Refusal),
-}
-
 // The super type of an entry's type: the number of its name's string, if that was read, and its place: 0 for none, u + 1
 // for type u.
 #[derive(Clone, Copy)]
 pub struct Super {
     pub number: u64,
     pub up: u32,
-}
-
-#[derive(Clone, Copy)]
-pub enum Above {
-    Got(Super, Cursor),
-    No(Refusal),
 }
 
 // What stands in an entry before its fields.
@@ -59,49 +47,6 @@ pub struct Top {
     pub above: Super,
     pub start: u32,
     pub count: u32,
-}
-
-#[derive(Clone, Copy)]
-pub enum Topped {
-    Got(Top, Cursor),
-    No(Refusal),
-}
-
-// The refusals of answers that are one. An answer that is none has number 0, which no rule has.
-fn refused_name(n: Named) -> Refusal
-    ensures { result ≡ no_name n }
-{
-    match n {
-        Named::Got(_, c) => Refusal {
-            number: 0,
-            place: c.at,
-        },
-        Named::No(r) => r,
-    }
-}
-
-fn refused_above(a: Above) -> Refusal
-    ensures { result ≡ no_above a }
-{
-    match a {
-        Above::Got(_, c) => Refusal {
-            number: 0,
-            place: c.at,
-        },
-        Above::No(r) => r,
-    }
-}
-
-pub fn refused_top(t: Topped) -> Refusal
-    ensures { result ≡ no_top t }
-{
-    match t {
-        Topped::Got(_, c) => Refusal {
-            number: 0,
-            place: c.at,
-        },
-        Topped::No(r) => r,
-    }
 }
 
 // Strings are numbered from 1.
@@ -116,7 +61,7 @@ fn is_string(work: &[u32], n: u64) -> bool
 }
 
 // The type that string n names.
-fn type_named(names: &[u8], work: &[u32], n: u64) -> Found
+fn type_named(names: &[u8], work: &[u32], n: u64) -> Option<u32>
     requires holds { Holds names.now work.now }
     requires n_nonzero { (0 < n) × (n ≤ strings_in work.now) }
     ensures { Known names.now work.now n result }
@@ -126,16 +71,16 @@ fn type_named(names: &[u8], work: &[u32], n: u64) -> Found
 
 // The place of the type that string n names, which was looked up. A new type must find room, and a known one must not
 // have an entry in this block already.
-fn placed_name(work: &[u32], n: u64, known: Found, at: usize, next: Cursor) -> Named
+fn placed_name(work: &[u32], n: u64, known: Option<u32>, at: usize, next: Cursor) -> Outcome<Name>
     requires ok { Ok work.now }
     requires found_below { FoundBelow (types_in work.now) known }
     ensures { NamePlaced work.now n (found known) at next.at result }
 {
     match known {
-        Found::At(t) => {
+        Some(t) => {
             if entered(work, block(work), t) {
-                return Named::No(Refusal {
-                    number: 6,
+                return Err(Refusal {
+                    fault: Fault::Twice,
                     place: at,
                 });
             }
@@ -144,13 +89,13 @@ fn placed_name(work: &[u32], n: u64, known: Found, at: usize, next: Cursor) -> N
                 typ: t,
                 fresh: false,
             };
-            Named::Got(name, next)
+            Ok((name, next))
         }
-        Found::Nothing => {
+        None => {
             let t = types(work);
             if Ledger::TYPES <= (t as u64) {
-                return Named::No(Refusal {
-                    number: 3,
+                return Err(Refusal {
+                    fault: Fault::Limit,
                     place: at,
                 });
             }
@@ -159,19 +104,19 @@ fn placed_name(work: &[u32], n: u64, known: Found, at: usize, next: Cursor) -> N
                 typ: t,
                 fresh: true,
             };
-            Named::Got(name, next)
+            Ok((name, next))
         }
     }
 }
 
 // The name of an entry's type, by its string's number n, held to its rules. That number began at `at`; behind it comes `next`.
-pub fn judged_name(names: &[u8], work: &[u32], n: u64, at: usize, next: Cursor) -> Named
+pub fn judged_name(names: &[u8], work: &[u32], n: u64, at: usize, next: Cursor) -> Outcome<Name>
     requires { Holds names.now work.now }
     ensures { NameJudged (view names.now work.now) n at next.at result }
 {
     if !is_string(work, n) {
-        return Named::No(Refusal {
-            number: 5,
+        return Err(Refusal {
+            fault: Fault::Name,
             place: at,
         });
     }
@@ -179,52 +124,63 @@ pub fn judged_name(names: &[u8], work: &[u32], n: u64, at: usize, next: Cursor) 
     placed_name(work, n, known, at, next)
 }
 
-fn type_name(file: &[u8], c: Cursor, work: &[u32]) -> Named
+fn type_name(file: &[u8], c: Cursor, work: &[u32]) -> Outcome<Name>
     requires { Holds file.now work.now }
     ensures { NameRead (view file.now work.now) file.now c.at result }
 {
     let at = c.at;
-    let a = c.v64(file);
-    let Number::Got(n, next) = a else {
-        return Named::No(refused(a));
-    };
+    let (n, next) = c.v64(file)?;
     judged_name(file, work, n, at, next)
 }
 
 // The super type that string n names, which was looked up, for the new type t. It must be known, and the chain of super
 // types above it must end without meeting t.
-fn placed_super(work: &[u32], t: u32, n: u64, known: Found, at: usize, next: Cursor) -> Above
+fn placed_super(
+    work: &[u32],
+    t: u32,
+    n: u64,
+    known: Option<u32>,
+    at: usize,
+    next: Cursor,
+) -> Outcome<Super>
     requires ok { Ok work.now }
     requires found_below { FoundBelow (types_in work.now) known }
     ensures { SuperPlaced (types_of work.now) t n (found known) at next.at result }
 {
-    let Found::At(u) = known else {
-        return Above::No(Refusal {
-            number: 7,
+    let Some(u) = known else {
+        return Err(Refusal {
+            fault: Fault::Super,
             place: at,
         });
     };
     let up = u + 1;
     if !chain_ends(work, t, up) {
-        return Above::No(Refusal {
-            number: 8,
+        return Err(Refusal {
+            fault: Fault::Loop,
             place: at,
         });
     }
-    Above::Got(Super { number: n, up }, next)
+    Ok((Super { number: n, up }, next))
 }
 
 // The super type of the new type t, by the number n of its name's string, held to its rules; 0 names none.
-pub fn judged_super(names: &[u8], work: &[u32], t: u32, n: u64, at: usize, next: Cursor) -> Above
+pub fn judged_super(
+    names: &[u8],
+    work: &[u32],
+    t: u32,
+    n: u64,
+    at: usize,
+    next: Cursor,
+) -> Outcome<Super>
     requires { Holds names.now work.now }
     ensures { SuperJudged (view names.now work.now) t n at next.at result }
 {
     if n == 0 {
-        return Above::Got(Super { number: 0, up: 0 }, next);
+        return Ok((Super { number: 0, up: 0 }, next));
     }
     if (strings(work) as u64) < n {
-        return Above::No(Refusal {
-            number: 5,
+        return Err(Refusal {
+            fault: Fault::Name,
             place: at,
         });
     }
@@ -233,20 +189,17 @@ pub fn judged_super(names: &[u8], work: &[u32], t: u32, n: u64, at: usize, next:
 }
 
 // The super type that the new type t names.
-fn named_super(file: &[u8], c: Cursor, work: &[u32], t: u32) -> Above
+fn named_super(file: &[u8], c: Cursor, work: &[u32], t: u32) -> Outcome<Super>
     requires { Holds file.now work.now }
     ensures { SuperRead (view file.now work.now) t file.now c.at result }
 {
     let at = c.at;
-    let a = c.v64(file);
-    let Number::Got(n, next) = a else {
-        return Above::No(refused(a));
-    };
+    let (n, next) = c.v64(file)?;
     judged_super(file, work, t, n, at, next)
 }
 
 // A known type has its super type already.
-fn super_name(file: &[u8], c: Cursor, work: &[u32], name: Name) -> Above
+fn super_name(file: &[u8], c: Cursor, work: &[u32], name: Name) -> Outcome<Super>
     requires holds { Holds file.now work.now }
     requires resolved { Resolved (view file.now work.now) name }
     ensures { AboveRead (view file.now work.now) name file.now c.at result }
@@ -255,15 +208,15 @@ fn super_name(file: &[u8], c: Cursor, work: &[u32], name: Name) -> Above
         return named_super(file, c, work, name.typ);
     }
     let up = super_of(work, name.typ);
-    Above::Got(Super { number: 0, up }, c)
+    Ok((Super { number: 0, up }, c))
 }
 
 // The local start, which only a type with a super type has.
-fn local_start(file: &[u8], c: Cursor, up: u32) -> Number
+fn local_start(file: &[u8], c: Cursor, up: u32) -> Outcome<u64>
     ensures { DueRead (given? (maybe up)) small 65536 file.now c.at result }
 {
     if up == 0 {
-        return Number::Got(0, c);
+        return Ok((0, c));
     }
     c.small(file)
 }
@@ -302,80 +255,69 @@ pub fn in_range(work: &[u32], up: u32, start: u32, n: u32) -> bool
 }
 
 // The count n of objects that an entry adds, held to its rules.
-pub fn judged_count(work: &[u32], up: u32, start: u32, n: u64, at: usize, next: Cursor) -> Number
+pub fn judged_count(
+    work: &[u32],
+    up: u32,
+    start: u32,
+    n: u64,
+    at: usize,
+    next: Cursor,
+) -> Outcome<u64>
     requires { Ok work.now }
     ensures { CountJudged work.now up start n at next.at result }
 {
     if !few_objects(work, up, n) {
-        return Number::No(Refusal {
-            number: 3,
+        return Err(Refusal {
+            fault: Fault::Limit,
             place: at,
         });
     }
     if !in_range(work, up, start, n as u32) {
-        return Number::No(Refusal {
-            number: 21,
+        return Err(Refusal {
+            fault: Fault::Range,
             place: at,
         });
     }
-    Number::Got(n, next)
+    Ok((n, next))
 }
 
 // The count of objects that an entry adds.
-fn object_count(file: &[u8], c: Cursor, work: &[u32], up: u32, start: u32) -> Number
+fn object_count(file: &[u8], c: Cursor, work: &[u32], up: u32, start: u32) -> Outcome<u64>
     requires { Holds file.now work.now }
     ensures { Read (number (count_rules (view file.now work.now) (maybe up) start)) 65536 file.now c.at result }
 {
     let at = c.at;
-    let a = c.v64(file);
-    let Number::Got(n, next) = a else {
-        return a;
-    };
+    let (n, next) = c.v64(file)?;
     judged_count(work, up, start, n, at, next)
 }
 
 // The number of restrictions, which only a new type has.
-fn type_restrictions(file: &[u8], c: Cursor, fresh: bool) -> Number
+fn type_restrictions(file: &[u8], c: Cursor, fresh: bool) -> Outcome<u64>
     ensures { DueRead fresh restrictions 1 file.now c.at result }
 {
     if !fresh {
-        return Number::Got(0, c);
+        return Ok((0, c));
     }
     no_restrictions(file, c)
 }
 
-pub fn read_head(file: &[u8], c: Cursor, work: &[u32]) -> Topped
+pub fn read_head(file: &[u8], c: Cursor, work: &[u32]) -> Outcome<Top>
     requires { Holds file.now work.now }
     ensures { TopRead (view file.now work.now) file.now c.at result }
 {
-    let a = type_name(file, c, work);
-    let Named::Got(name, after_name) = a else {
-        return Topped::No(refused_name(a));
-    };
-    let b = super_name(file, after_name, work, name);
-    let Above::Got(above, after_super) = b else {
-        return Topped::No(refused_above(b));
-    };
+    let (name, after_name) = type_name(file, c, work)?;
+    let (above, after_super) = super_name(file, after_name, work, name)?;
     let up = above.up;
-    let d = local_start(file, after_super, up);
-    let Number::Got(start, after_start) = d else {
-        return Topped::No(refused(d));
-    };
-    let e = object_count(file, after_start, work, up, start as u32);
-    let Number::Got(n, after_count) = e else {
-        return Topped::No(refused(e));
-    };
-    let g = type_restrictions(file, after_count, name.fresh);
-    let Number::Got(_, end) = g else {
-        return Topped::No(refused(g));
-    };
+    let (start, after_start) = local_start(file, after_super, up)?;
+    let (n, after_count) = object_count(file, after_start, work, up, start as u32)?;
+    let (_, end) = type_restrictions(file, after_count, name.fresh)?;
     let top = Top {
         name,
         above,
         start: start as u32,
         count: n as u32,
     };
-    Topped::Got(top, end)
+    Ok((top, end))
 }
 
 // The base type of type t's pool: t itself, or that of the super type up - 1.
@@ -447,15 +389,12 @@ pub fn enter_top(names: &[u8], work: &mut [u32], top: Top)
 }
 
 // Reads a head, and enters it. A head that is refused leaves the table as it was.
-pub fn enter_head(file: &[u8], c: Cursor, work: &mut [u32]) -> Topped
+pub fn enter_head(file: &[u8], c: Cursor, work: &mut [u32]) -> Outcome<Top>
     requires holds { Holds file.now work.old }
     requires sound { Sound (said file.now work.old) }
     ensures { TopEntered file.now work.old work.new c.at result }
 {
-    let a = read_head(file, c, work);
-    let Topped::Got(top, next) = a else {
-        return a;
-    };
+    let (top, next) = read_head(file, c, work)?;
     enter_top(file, work, top);
-    Topped::Got(top, next)
+    Ok((top, next))
 }

@@ -7,8 +7,8 @@ ghost use Rattle.reader.specs.Sound.{Sound};
 ghost use Rattle.reader.specs.Heads.{Placed, Entered, TopEntered};
 ghost use Rattle.reader.specs.KnownHeads.{OneByte, Called, Knows, behind, StartByte, CountByte, HeadKnown, LastTop};
 
-use super::heads::{Name, Super, Top, Topped, base_for, enter_head, few_objects, in_range};
-use numbers::Cursor;
+use super::heads::{Name, Super, Top, base_for, enter_head, few_objects, in_range};
+use numbers::{Cursor, Outcome};
 use table::pushes::push_range;
 use table::ranges::{none_from, pool_before};
 use table::rows::{RangeRow, block, range_at, ranges, string_at, strings, type_at, types};
@@ -225,7 +225,7 @@ fn last_top(file: &[u8], at: usize, work: &[u32]) -> Top
 }
 
 // Reads a head of any form, and enters it. A head that is refused leaves the table as it was.
-pub fn enter_any(file: &[u8], c: Cursor, work: &mut [u32]) -> Topped
+pub fn enter_any(file: &[u8], c: Cursor, work: &mut [u32]) -> Outcome<Top>
     requires holds { Holds file.now work.old }
     requires sound { Sound (said file.now work.old) }
     ensures { TopEntered file.now work.old work.new c.at result }
@@ -235,5 +235,5 @@ pub fn enter_any(file: &[u8], c: Cursor, work: &mut [u32]) -> Topped
         return enter_head(file, c, work);
     }
     let top = last_top(file, c.at, work);
-    Topped::Got(top, Cursor { at })
+    Ok((top, Cursor { at }))
 }

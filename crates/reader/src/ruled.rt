@@ -2,22 +2,19 @@
 ghost use Rattle.paper.specs.File.{restrictions};
 ghost use Rattle.numbers.specs.Cursors.{Read};
 
-use numbers::{Cursor, Number, Refusal};
+use numbers::{Cursor, Fault, Outcome, Refusal};
 
 // The number of restrictions: none is known.
-pub fn no_restrictions(file: &[u8], c: Cursor) -> Number
+pub fn no_restrictions(file: &[u8], c: Cursor) -> Outcome<u64>
     ensures { Read restrictions 1 file.now c.at result }
 {
     let at = c.at;
-    let a = c.v64(file);
-    let Number::Got(n, next) = a else {
-        return a;
-    };
+    let (n, next) = c.v64(file)?;
     if n != 0 {
-        return Number::No(Refusal {
-            number: 9,
+        return Err(Refusal {
+            fault: Fault::Restriction,
             place: at,
         });
     }
-    Number::Got(n, next)
+    Ok((n, next))
 }

@@ -7,7 +7,7 @@ ghost use Rattle.paper.specs.File.{string_block};
 ghost use Rattle.table.specs.View.{view, said, Holds, strings_in};
 ghost use Rattle.reader.specs.Strings.{capped, EndRead, EndsRead, Skip, Did, add_strings};
 
-use numbers::{Cursor, Number, Refusal, Step, refused};
+use numbers::{Cursor, Fault, Outcome, Refusal, Step};
 use paper::Ledger;
 use table::pushes::push_string;
 use table::rows::strings;
@@ -29,47 +29,37 @@ fn place_in(file: &[u8], base: usize, e: u64) -> u32
 }
 
 // The end of a string that begins where the one before it ends, at `prev`. Ends do not fall.
-fn read_end(file: &[u8], c: Cursor, prev: u64, base: usize, work: &mut [u32]) -> Number
+fn read_end(file: &[u8], c: Cursor, prev: u64, base: usize, work: &mut [u32]) -> Outcome<u64>
     requires holds { Holds file.now work.old }
     requires work_bound { strings_in work.old < most_strings }
     ensures { EndRead file.now work.old work.new base prev c.at result }
 {
     let at = c.at;
-    let a = c.be::<4>(file);
-    let Number::Got(e, next) = a else {
-        return a;
-    };
+    let (e, next) = c.be::<4>(file)?;
     if e < prev {
-        return Number::No(Refusal {
-            number: 4,
+        return Err(Refusal {
+            fault: Fault::Ends,
             place: at,
         });
     }
     let start = place_in(file, base, prev);
     let end = place_in(file, base, e);
     push_string(work, start, end);
-    Number::Got(e, next)
+    Ok((e, next))
 }
 
 // The ends of n strings, whose bytes begin at `base`: the last of them, 0 if there is none.
-fn read_ends(file: &[u8], c: Cursor, n: u64, base: usize, work: &mut [u32]) -> Number
+fn read_ends(file: &[u8], c: Cursor, n: u64, base: usize, work: &mut [u32]) -> Outcome<u64>
     requires holds { Holds file.now work.old }
     requires n_bound { strings_in work.old + n ≤ most_strings }
     ensures { EndsRead file.now work.old work.new base n c.at result }
 {
-    let mut at = c.at;
-    let mut rest = n;
+    let mut next = c;
     let mut prev: u64 = 0;
-    while 0 < rest {
-        let a = read_end(file, Cursor { at }, prev, base, work);
-        let Number::Got(e, next) = a else {
-            return a;
-        };
-        at = next.at;
-        prev = e;
-        rest -= 1;
+    for _ in 0..n {
+        (prev, next) = read_end(file, next, prev, base, work)?;
     }
-    Number::Got(prev, Cursor { at })
+    Ok((prev, next))
 }
 
 // A run of n bytes, which are all there.
@@ -78,18 +68,18 @@ fn skip(file: &[u8], c: Cursor, n: u64) -> Step
 {
     let at = c.at;
     if file.len() < at {
-        return Step::No(Refusal {
-            number: Refusal::SHORT,
+        return Err(Refusal {
+            fault: Fault::Short,
             place: at,
         });
     }
     if ((file.len() - at) as u64) < n {
-        return Step::No(Refusal {
-            number: Refusal::SHORT,
+        return Err(Refusal {
+            fault: Fault::Short,
             place: at,
         });
     }
-    Step::Got(Cursor {
+    Ok(Cursor {
         at: at + (n as usize),
     })
 }
@@ -101,22 +91,16 @@ pub fn read_strings(file: &[u8], c: Cursor, work: &mut [u32]) -> Step
     ensures { Did file.now work.new c.at result (turned (add_strings (said file.now work.old)) (string_block (view file.now work.old) file.now c.at)) }
 {
     let at = c.at;
-    let a = c.v64(file);
-    let Number::Got(n, next) = a else {
-        return Step::No(refused(a));
-    };
+    let (n, next) = c.v64(file)?;
     let room = Ledger::STRINGS - (strings(work) as u64);
     if room < n {
-        return Step::No(Refusal {
-            number: 3,
+        return Err(Refusal {
+            fault: Fault::Limit,
             place: at,
         });
     }
     let from = next.at;
     let base = from + 4 * (n as usize);
-    let b = read_ends(file, next, n, base, work);
-    let Number::Got(last, end) = b else {
-        return Step::No(refused(b));
-    };
+    let (last, end) = read_ends(file, next, n, base, work)?;
     skip(file, end, last)
 }

@@ -1,5 +1,6 @@
 -- A field of a type by its name, and its kind, looked up on a walk. Assumes nothing.
-use Rattle.std.specs.Prelude.{◌≡◌, refl, Bool, true, false, ℕ, suc, ◌+◌, ◌-◌, ◌≤◌, ◌<◌, eqb}
+use Rattle.std.specs.Prelude as prelude
+use Rattle.std.specs.Prelude.{Some, None, ◌≡◌, refl, Bool, true, false, ℕ, suc, ◌+◌, ◌-◌, ◌≤◌, ◌<◌, eqb}
 use Rattle.std.proofs.Math.Path.{sym, ap, subst}
 use Rattle.std.proofs.Common.{◌∙◌, arith, eqb-true}
 use mathlib.Core.List.{List, [], ◌∷◌, ◌++◌, map, map-append}
@@ -27,8 +28,6 @@ use Rattle.recall.specs.Kept.{bounds}
 use Rattle.recall.specs.Walks.{Going, Keeps, Lasting, go-start, go_on, go-done, go-as, go-last, into_block, Over, over-entry}
 use Rattle.recall.specs.FieldLaws.{Paired, name_of, entry_named, entry-unnamed, entry-own, entry-same, entry_place, entry-kind, own-stays}
 use Rattle.recall.specs.Among.{goes_by, Among, times-at}
-use Rattle.recall.specs.declared.fields.Found.{Found}
-use Rattle.recall.specs.declared.fields.Found.TheVariants as found
 
 -- ── what is answered ──
 
@@ -37,9 +36,9 @@ pub record OwnNamed (typ : ℕ) (name : List ℕ) (own : ℕ) (s : State) : Type
   pub there : own < length (fields_of s typ)
   pub is : field_named s typ name ≡ some (get_or (fields_of s typ) own 0)
 
-pub record FieldFound (s : State) (typ : ℕ) (name : List ℕ) (r : Found) : Type 0 where
-  pub nothing : r ≡ found.Nothing → field_named s typ name ≡ none
-  pub at : (own : ℕ) → r ≡ found.At own → OwnNamed typ name own s
+pub record FieldFound (s : State) (typ : ℕ) (name : List ℕ) (r : prelude.Option ℕ) : Type 0 where
+  pub nothing : r ≡ None → field_named s typ name ≡ none
+  pub at : (own : ℕ) → r ≡ Some own → OwnNamed typ name own s
 
 -- the kind of the own-th field of the type, if there is one
 pub record KindTold (typ own : ℕ) (r : KindRow) (s : State) : Type 0 where
@@ -50,7 +49,7 @@ pub record Lacking (typ : ℕ) (name : List ℕ) (s : State) : Type 0 where
   pub none_yet : field_named s typ name ≡ none
 
 -- what one step adds
-pub record FoundIn (f : List ℕ) (t : Trail) (typ : ℕ) (name : List ℕ) (r : Found) : Type 0 where
+pub record FoundIn (f : List ℕ) (t : Trail) (typ : ℕ) (name : List ℕ) (r : prelude.Option ℕ) : Type 0 where
   pub keeps : Keeps f t (λ g. Lacking typ name g.state) (λ g. FieldFound g.state typ name r)
 
 -- a row that stands whatever the file is: that of a kind which is listed
@@ -62,7 +61,7 @@ pub record KindIn (f : List ℕ) (t : Trail) (typ own : ℕ) (before r : KindRow
   pub keeps : Keeps f t (λ g. KindTold typ own before g.state) (λ g. KindTold typ own r g.state)
 
 -- what a walk of so many steps answers
-pub record FieldSought (f : List ℕ) (k typ : ℕ) (name : List ℕ) (r : Found) : Type 0 where
+pub record FieldSought (f : List ℕ) (k typ : ℕ) (name : List ℕ) (r : prelude.Option ℕ) : Type 0 where
   pub told : (g : Stage) → Reached f k g → FieldFound g.state typ name r
 
 pub record KindSought (f : List ℕ) (k typ own : ℕ) (r : KindRow) : Type 0 where
@@ -70,13 +69,13 @@ pub record KindSought (f : List ℕ) (k typ own : ℕ) (r : KindRow) : Type 0 wh
   pub kept : RowKept r
   pub told : (g : Stage) → Reached f k g → own < length (fields_of g.state typ) → kind_in r ≡ (field_at g.state (get_or (fields_of g.state typ) own 0)).kind
 
-not_found : {A : Type 0} {own : ℕ} → found.Nothing ≡ found.At own → A
+not_found : {A : Type 0} {own : ℕ} → ◌≡◌ {A = prelude.Option ℕ} None (Some own) → A
 not_found h = let z : ◌≡◌ {A = ℕ} 0 1 = cc h in absurd (omega arith)
 
-none_found : {s : State} {typ : ℕ} {name : List ℕ} → field_named s typ name ≡ none → FieldFound s typ name found.Nothing
+none_found : {s : State} {typ : ℕ} {name : List ℕ} → field_named s typ name ≡ none → FieldFound s typ name None
 none_found h = record { nothing = λ e. h; at = λ own e. not_found e }
 
-one_found : {s : State} {typ : ℕ} {name : List ℕ} {own : ℕ} → OwnNamed typ name own s → FieldFound s typ name (found.At own)
+one_found : {s : State} {typ : ℕ} {name : List ℕ} {own : ℕ} → OwnNamed typ name own s → FieldFound s typ name (Some own)
 one_found {s} {typ} {name} {own} O = record { nothing = λ e. not_found (sym e); at = λ k e. let z : own ≡ k = cc e in subst (λ (n : ℕ). OwnNamed typ name n s) z O }
 
 -- ── a step puts its fields behind those that are there ──
@@ -112,7 +111,7 @@ paired A = sym (bounds (reached-at A)).field_names
 
 -- ── into a block ──
 
-still-lacks : {typ : ℕ} {name : List ℕ} (g : Stage) (strings : List (List ℕ)) → Lacking typ name g.state → FieldFound (with_strings (numbered g) strings) typ name found.Nothing
+still-lacks : {typ : ℕ} {name : List ℕ} (g : Stage) (strings : List (List ℕ)) → Lacking typ name g.state → FieldFound (with_strings (numbered g) strings) typ name None
 unfolding with_strings numbered field_named
 still-lacks g strings L = none_found L.none_yet
 
@@ -121,9 +120,9 @@ unfolding with_strings numbered fields_of field_at
 same_kind g strings T = record { is = T.is }
 
 module _ {f : List ℕ} {t : Trail} (z : t.left ≡ 0) (typ : ℕ) where
-  pub block-lacks : (name : List ℕ) → FoundIn f t typ name found.Nothing
+  pub block-lacks : (name : List ℕ) → FoundIn f t typ name None
   block-lacks name =
-      record { keeps = record { told = λ k g A h q r L. let O = into_block A z h q r in subst (λ (x : Stage). FieldFound x.state typ name found.Nothing) (sym O.is) (still-lacks g O.strings L) } }
+      record { keeps = record { told = λ k g A h q r L. let O = into_block A z h q r in subst (λ (x : Stage). FieldFound x.state typ name None) (sym O.is) (still-lacks g O.strings L) } }
 
   pub block-kind : (own : ℕ) (b : KindRow) → KindIn f t typ own b b
   block-kind own b =
@@ -190,14 +189,14 @@ unfolding after_head
 head-strings s h = refl
 
 module _ {f : List ℕ} {t : Trail} (nz : t.left ≡ 0 → ⊥) {e : Fields} (F : FieldsPast f t e) (typ : ℕ) where
-  pub entry-lacks : (e.top.typ ≡ typ → ⊥) → (name : List ℕ) → FoundIn f t typ name found.Nothing
+  pub entry-lacks : (e.top.typ ≡ typ → ⊥) → (name : List ℕ) → FoundIn f t typ name None
   entry-lacks ne name =
       record {
         keeps = record {
           told = λ k g A h q r L.
               let M = met F A (over-entry A nz h q r) in
               let E : Entry = record { head = M.top; news = map what M.news } in
-              subst (λ (x : State). FieldFound x typ name found.Nothing) (sym M.is)
+              subst (λ (x : State). FieldFound x typ name None) (sym M.is)
               (none_found (entry-unnamed g.state E (λ z. ne (M.typ ∙ z)) name (paired A) L.none_yet));
         };
       }
@@ -213,7 +212,7 @@ module _ {f : List ℕ} {t : Trail} (nz : t.left ≡ 0 → ⊥) {e : Fields} (F 
         entry_named s (record { head = M.top; news = map what M.news }) (sym M.typ ∙ is) name P L.none_yet
         ∙ ap (λ (k : ℕ). place (λ g. same name (name_of s g)) k (map what M.news)) z ∙ place-from (λ g. same name (name_of s g)) what (length s.fields) 0 M.news
 
-    pub entry-finds : i < e.more → FoundIn f t typ name (found.At (e.have + i))
+    pub entry-finds : i < e.more → FoundIn f t typ name (Some (e.have + i))
     unfolding moved
     entry-finds lt =
         record {
@@ -227,12 +226,12 @@ module _ {f : List ℕ} {t : Trail} (nz : t.left ≡ 0 → ⊥) {e : Fields} (F 
                 let at : place (goes_by s name) 0 M.news ≡ some i = or_some (place (goes_by s name) 0 M.news) (sought A M) lt in
                 let stands : get_or (fields_of (after_entry s E) typ) (e.have + i) 0 ≡ length s.fields + i = ap (λ (k : ℕ). get_or (fields_of (after_entry s E) typ) (k + i) 0) have ∙ entry_place s E own i (omega (arith, M.more)) in
                 let named : field_named (after_entry s E) typ name ≡ some (length s.fields + i) = here M (paired A) L ∙ ap (moved (length s.fields)) at in
-                subst (λ (x : State). FieldFound x typ name (found.At (e.have + i))) (sym M.is)
+                subst (λ (x : State). FieldFound x typ name (Some (e.have + i))) (sym M.is)
                 (one_found (record { there = omega (arith, entry-own s E own, M.more, have); is = named ∙ ap some (sym stands) }));
           };
         }
 
-    pub entry-misses : e.more ≤ i → FoundIn f t typ name found.Nothing
+    pub entry-misses : e.more ≤ i → FoundIn f t typ name None
     unfolding moved
     entry-misses le =
         record {
@@ -244,7 +243,7 @@ module _ {f : List ℕ} {t : Trail} (nz : t.left ≡ 0 → ⊥) {e : Fields} (F 
                 let many = length-map M.news what in
                 let low : (j : ℕ) → place (goes_by s name) 0 M.news ≡ some j → j < e.more = λ j is. omega (arith, place-lt (goes_by s name) 0 j M.news is, M.more) in
                 let at : place (goes_by s name) 0 M.news ≡ none = or-none (place (goes_by s name) 0 M.news) low (sought A M) le in
-                subst (λ (x : State). FieldFound x typ name found.Nothing) (sym M.is)
+                subst (λ (x : State). FieldFound x typ name None) (sym M.is)
                 (none_found (here M (paired A) L ∙ ap (moved (length s.fields)) at));
           };
         }
@@ -316,41 +315,41 @@ module _ {f : List ℕ} {t : Trail} (nz : t.left ≡ 0 → ⊥) {e : Fields} (F 
 
 -- the type has no field of this name so far
 abbrev pub Finding : List ℕ → ℕ → ℕ → List ℕ → ℕ → Trail → Type 0
-Finding f k typ name rest t = Going f k rest t (λ g. Lacking typ name g.state)
+Finding f k typ name i t = Going f k i t (λ g. Lacking typ name g.state)
 
 lacks-start : (typ : ℕ) (name : List ℕ) → Lacking typ name begin.state
 unfolding begin nothing field_named place_named
 lacks-start typ name = record { none_yet = refl }
 
-pub find-start : (f : List ℕ) (k typ : ℕ) (name : List ℕ) {t : Trail} → Begins t → Finding f k typ name k t
+pub find-start : (f : List ℕ) (k typ : ℕ) (name : List ℕ) {t : Trail} → Begins t → Finding f k typ name 0 t
 find-start f k typ name B = go-start B (lacks-start typ name)
 
-module _ {f : List ℕ} {k typ : ℕ} {name : List ℕ} {rest : ℕ} {t : Trail} (G : Finding f k typ name rest t) where
-  pub find-on : 0 < rest → {r : Found} → FoundIn f t typ name r → r ≡ found.Nothing → {u : Trail} → StepPast f t u → Finding f k typ name (rest - 1) u
-  find-on due F is S = go-as (go_on G due F.keeps S) (λ g X. record { none_yet = X.nothing is })
+module _ {f : List ℕ} {k typ : ℕ} {name : List ℕ} {i : ℕ} {t : Trail} (G : Finding f k typ name i t) where
+  pub find-on : i < k → {r : prelude.Option ℕ} → FoundIn f t typ name r → r ≡ None → {u : Trail} → StepPast f t u → Finding f k typ name (i + 1) u
+  find-on lt F is S = go-as (go_on G lt F.keeps S) (λ g X. record { none_yet = X.nothing is })
 
   -- no later step takes it away
-  pub find-out : 0 < rest → {r : Found} → FoundIn f t typ name r → {own : ℕ} → r ≡ found.At own → FieldSought f k typ name (found.At own)
-  find-out due F {own} is =
+  pub find-out : i < k → {r : prelude.Option ℕ} → FoundIn f t typ name r → {own : ℕ} → r ≡ Some own → FieldSought f k typ name (Some own)
+  find-out lt F {own} is =
       let K : Keeps f t (λ g. Lacking typ name g.state) (λ g. OwnNamed typ name own g.state) = record { told = λ j g A h q r L. (F.keeps.told j g A h q r L).at own is } in
-      record { told = λ g R. one_found ((go-last G due K (own-lasts f typ name own)).told g R) }
+      record { told = λ g R. one_found ((go-last G lt K (own-lasts f typ name own)).told g R) }
 
-  pub find-end : rest ≤ 0 → FieldSought f k typ name found.Nothing
+  pub find-end : k ≤ i → FieldSought f k typ name None
   find-end le = record { told = λ g R. none_found ((go-done G le).told g R).none_yet }
 
 abbrev pub Kinding : List ℕ → ℕ → ℕ → ℕ → ℕ → Trail → KindRow → Type 0
-Kinding f k typ own rest t b = Going f k rest t (λ g. KindTold typ own b g.state)
+Kinding f k typ own i t b = Going f k i t (λ g. KindTold typ own b g.state)
 
 no_kind : (typ own : ℕ) (b : KindRow) → KindTold typ own b begin.state
 unfolding begin nothing fields_of places
 no_kind typ own b = record { is = λ lt. absurd (omega arith) }
 
-pub kind-start : (f : List ℕ) (k typ own : ℕ) (b : KindRow) {t : Trail} → Begins t → Kinding f k typ own k t b
+pub kind-start : (f : List ℕ) (k typ own : ℕ) (b : KindRow) {t : Trail} → Begins t → Kinding f k typ own 0 t b
 kind-start f k typ own b B = go-start B (no_kind typ own b)
 
-module _ {f : List ℕ} {k typ own rest : ℕ} {t : Trail} {b : KindRow} (G : Kinding f k typ own rest t b) where
-  pub kind-on : 0 < rest → {r : KindRow} → KindIn f t typ own b r → {u : Trail} → StepPast f t u → Kinding f k typ own (rest - 1) u r
-  kind-on due K S = go_on G due K.keeps S
+module _ {f : List ℕ} {k typ own i : ℕ} {t : Trail} {b : KindRow} (G : Kinding f k typ own i t b) where
+  pub kind-on : i < k → {r : KindRow} → KindIn f t typ own b r → {u : Trail} → StepPast f t u → Kinding f k typ own (i + 1) u r
+  kind-on lt K S = go_on G lt K.keeps S
 
-  pub kind-end : rest ≤ 0 → RowStands b → KindSought f k typ own b
+  pub kind-end : k ≤ i → RowStands b → KindSought f k typ own b
   kind-end le row = record { row = row.0; kept = row.1; told = λ g R. ((go-done G le).told g R).is }

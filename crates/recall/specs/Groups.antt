@@ -1,5 +1,5 @@
 -- The ranges of the types that a map's kinds name, gathered on one walk. Assumes nothing.
-use Rattle.std.specs.Prelude.{◌≡◌, Bool, ◌⊎◌, ℕ, zero, suc, ◌+◌, ◌-◌, ◌*◌, ◌≤◌, ◌<◌, length, take, drop, set}
+use Rattle.std.specs.Prelude.{◌≡◌, Bool, ◌⊎◌, ℕ, zero, suc, ◌+◌, ◌-◌, ◌*◌, ◌≤◌, ◌<◌, length, take, drop, set, replicate}
 use Rattle.std.proofs.Math.Path.{refl, ap}
 use Rattle.std.proofs.Common.{sym, ap₂, ◌∙◌, subst, inl, inr}
 use Rattle.std.proofs.Math.Bool.{true, false}
@@ -153,29 +153,8 @@ module _ {kinds starts places : List ℕ} {t k : ℕ} (P : Planning kinds starts
 pub record Emptied (first last : List ℕ) : Type 0 where
   pub same : (j : ℕ) → j < length first → get_or first j 0 ≡ get_or last j 0
 
-pub record Emptying (first₀ last₀ first last : List ℕ) (i : ℕ) : Type 0 where
-  pub first-long : length first ≡ length first₀
-  pub last-long : length last ≡ length last₀
-  pub same : (j : ℕ) → j < i → get_or first j 0 ≡ get_or last j 0
-
-pub empty-start : (first last : List ℕ) → Emptying first last first last 0
-empty-start first last = record { first-long = refl; last-long = refl; same = λ j lt. absurd (omega arith) }
-
-module _ {first₀ last₀ first last : List ℕ} {i : ℕ} (E : Emptying first₀ last₀ first last i) where
-  pub empty-on : (x : ℕ) → i < length first → i < length last → Emptying first₀ last₀ (set first i x) (set last i x) (i + 1)
-  empty-on x a b =
-      record {
-        first-long = length-set first i x ∙ E.first-long;
-        last-long = length-set last i x ∙ E.last-long;
-        same = λ j lt. go j lt (ℕᴺ_discrete j i);
-      }
-    where
-      go : (j : ℕ) → j < i + 1 → Dec (j ≡ i) → get_or (set first i x) j 0 ≡ get_or (set last i x) j 0
-      go j lt (yes e) = rw e (get_or-set_same first i x 0 a ∙ sym (get_or-set_same last i x 0 b))
-      go j lt (no ne) = get_or-set_other first i j x 0 ne ∙ E.same j (omega arith) ∙ sym (get_or-set_other last i j x 0 ne)
-
-  pub empty-done : length first ≤ i → Emptied first last
-  empty-done le = record { same = λ j lt. E.same j (omega arith) }
+pub emptied : (n m x : ℕ) {first last : List ℕ} → n ≡ m → first ≡ replicate n x → last ≡ replicate m x → Emptied first last
+emptied n m x e a b = record { same = λ j lt. ap (λ (l : List ℕ). get_or l j 0) (a ∙ ap (λ (k : ℕ). replicate k x) e ∙ sym b) }
 
 -- ── the walk by this plan ──
 

@@ -150,14 +150,14 @@ pub record MetAll (f : List ℕ) (k : ℕ) (places₀ first₀ last₀ places fi
   pub ends : (u : ℕ) → get_or places₀ u 0 ≤ length first₀ → get_or places u 0 ≤ length first₀
   pub told : (g : Stage) → Reached f k g → MetTold f places₀ first₀ last₀ places first last r.t r.sums g
 
-pub record Meets (f : List ℕ) (k : ℕ) (places₀ first₀ last₀ : List ℕ) (rest : ℕ) (t : Trail) (p : Tally) (places first last : List ℕ) : Type 0 where
+pub record Meets (f : List ℕ) (k : ℕ) (places₀ first₀ last₀ : List ℕ) (i : ℕ) (t : Trail) (p : Tally) (places first last : List ℕ) : Type 0 where
   pub places-long : length places ≡ length places₀
   pub first-long : length first ≡ length first₀
   pub last-long : length last ≡ length last₀
   pub ends : (u : ℕ) → get_or places₀ u 0 ≤ length first₀ → get_or places u 0 ≤ length first₀
-  pub going : Going f k rest t (Meeting places₀ first₀ last₀ p places first last)
+  pub going : Going f k i t (Meeting places₀ first₀ last₀ p places first last)
 
-pub meets-start : (f : List ℕ) (k : ℕ) (places first last : List ℕ) {t : Trail} {p : Tally} → Begins t → NoTally p → Meets f k places first last k t p places first last
+pub meets-start : (f : List ℕ) (k : ℕ) (places first last : List ℕ) {t : Trail} {p : Tally} → Begins t → NoTally p → Meets f k places first last 0 t p places first last
 unfolding begin nothing
 meets-start f k places first last B N =
     record {
@@ -168,24 +168,24 @@ meets-start f k places first last B N =
       going = go-start B (record { summed = N.is; lists = λ P. gathering-start places first last });
     }
 
-module _ {f : List ℕ} {k : ℕ} {places₀ first₀ last₀ : List ℕ} {rest : ℕ} {t : Trail} {p : Tally} {places first last : List ℕ} (M : Meets f k places₀ first₀ last₀ rest t p places first last) where
-  pub meets_on : 0 < rest → {r : Tally} {places' first' last' : List ℕ} → MetOn f t p places first last r places' first' last' → {t' : Trail} → StepPast f t t' → Meets f k places₀ first₀ last₀ (rest - 1) t' r places' first' last'
-  meets_on due O S =
+module _ {f : List ℕ} {k : ℕ} {places₀ first₀ last₀ : List ℕ} {i : ℕ} {t : Trail} {p : Tally} {places first last : List ℕ} (M : Meets f k places₀ first₀ last₀ i t p places first last) where
+  pub meets_on : i < k → {r : Tally} {places' first' last' : List ℕ} → MetOn f t p places first last r places' first' last' → {t' : Trail} → StepPast f t t' → Meets f k places₀ first₀ last₀ (i + 1) t' r places' first' last'
+  meets_on lt O S =
       record {
         places-long = O.places-long ∙ M.places-long;
         first-long = O.first-long ∙ M.first-long;
         last-long = O.last-long ∙ M.last-long;
         ends = λ u le. omega (arith, O.ends u (omega (arith, M.ends u le, M.first-long)), M.first-long);
-        going = go_on M.going due (O.keeps places₀ first₀ last₀) S;
+        going = go_on M.going lt (O.keeps places₀ first₀ last₀) S;
       }
 
-  pub meets-done : rest ≤ 0 → MetAll f k places₀ first₀ last₀ places first last (record { t = t; sums = p.sums })
+  pub meets-done : k ≤ i → MetAll f k places₀ first₀ last₀ places first last (record { t = t; sums = p.sums })
   meets-done le =
       record {
         ends = M.ends;
         told = λ g R.
             let H = M.going.left g R in
-            let (x, _) = steps-none rest H.here f t.at g R.at le H.left in
+            let (x, _) = steps-none (k - i) H.here f t.at g R.at (omega arith) H.left in
             subst (MetTold f places₀ first₀ last₀ places first last t p.sums) x
             (record { tells = H.stands.tells; sums-are = H.holds.summed.sums-are; lists = H.holds.lists });
       }

@@ -1,7 +1,7 @@
 -- The objects of the base types that strings name, on a walk. Assumes nothing.
 use Rattle.std.specs.Prelude.{◌≡◌, List, length, get_or, set}
 use Rattle.std.proofs.Math.Path.{refl}
-use Rattle.std.proofs.Common.{ap, ◌∙◌, add-one, arith, length-set}
+use Rattle.std.proofs.Common.{ap, ◌∙◌, add-one, arith, length-set, subst}
 use Prim.Native.Nat.{ℕ, zero, suc, ◌+◌, ◌≤◌, ◌<◌}
 use Rattle.paper.specs.Reader.{when◌then◌else◌}
 use Rattle.paper.specs.Lists.{same, place, or, given?}
@@ -111,9 +111,10 @@ module _ {f : List ℕ} {k : ℕ} {t : Trail} {sums : List ℕ} {n : ℕ} {list 
             pooling-on (G.pooling g R) (omega (arith, G.long)) (is ∙ ap (λ (j : ℕ). pool_of g.state (type_named g.state (text g.state j))) (add-one i));
       }
 
-  pub pools-done : n ≤ i → PoolsTold f k list i
+  pub pools-done : n ≤ i → PoolsTold f k list n
   pools-done le =
+      let z : i ≡ n = omega (arith, G.upto) in
       record {
-        few = G.few;
-        told = λ g R. (G.pooling g R, omega (arith, G.upto, G.all_of, (G.ended g R).knows.strings));
+        few = omega (arith, G.few);
+        told = λ g R. (subst (Pooling g.state list) z (G.pooling g R), omega (arith, G.all_of, (G.ended g R).knows.strings));
       }

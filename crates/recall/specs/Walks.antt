@@ -1,7 +1,7 @@
 -- A lookup on a walk: what is left to walk from here leads to the same stage, and the answer so far is true of the stage here.
 -- Assumes nothing.
 use Rattle.std.specs.Prelude.{◌≡◌, List, ℕ, zero, suc, ◌+◌, ◌-◌, ◌≤◌, ◌<◌}
-use Rattle.std.proofs.Common.{sym, ap, ◌∙◌, subst}
+use Rattle.std.proofs.Common.{arith, sym, ap, ◌∙◌, subst}
 use Rattle.paper.specs.Reader.{got}
 use Rattle.paper.specs.Lists.{last_or}
 use Rattle.paper.specs.Ledger.{Head, Entry}
@@ -13,7 +13,7 @@ use Rattle.trail.specs.declared.trail.Top.{Top}
 use Rattle.trail.specs.Told.{give-got}
 use Rattle.trail.specs.Heads.{TopTold, HeadPast}
 use Rattle.trail.specs.Entries.{EntryParts, entry-parts}
-use Rattle.trail.specs.Stages.{Stage, begin, onward, steps, StepPast, Begins, Opened, At, at-start, at-step, opens-parts, enters-parts, onward-block, onward-entry, steps_first, steps-none, steps-more}
+use Rattle.trail.specs.Stages.{Stage, begin, onward, steps, StepPast, Begins, Opened, At, at-start, at-step, opens-parts, enters-parts, onward-block, onward-entry, steps-left, steps-none, steps-more}
 use Rattle.recall.specs.Reached.{Reached}
 
 -- ── the loop ──
@@ -26,8 +26,9 @@ pub record Here (f : List ℕ) (rest : ℕ) (t : Trail) (P : Stage → Type 0) (
   pub left : steps rest here f t.at ≡ got g at
   pub holds : P here
 
-pub record Going (f : List ℕ) (k rest : ℕ) (t : Trail) (P : Stage → Type 0) : Type 0 where
-  pub left : (g : Stage) (R : Reached f k g) → Here f rest t P g R.at
+-- behind i of k steps
+pub record Going (f : List ℕ) (k i : ℕ) (t : Trail) (P : Stage → Type 0) : Type 0 where
+  pub left : (g : Stage) (R : Reached f k g) → Here f (k - i) t P g R.at
 
 -- where the trail's step leads, Q holds if P did before it: what the code of one step promises
 pub record Keeps (f : List ℕ) (t : Trail) (P Q : Stage → Type 0) : Type 0 where
@@ -37,41 +38,42 @@ pub record Keeps (f : List ℕ) (t : Trail) (P Q : Stage → Type 0) : Type 0 wh
 pub record Reaches (f : List ℕ) (k : ℕ) (P : Stage → Type 0) : Type 0 where
   pub told : (g : Stage) → Reached f k g → P g
 
-pub go-start : {f : List ℕ} {k : ℕ} {t : Trail} {P : Stage → Type 0} → Begins t → P begin → Going f k k t P
+pub go-start : {f : List ℕ} {k : ℕ} {t : Trail} {P : Stage → Type 0} → Begins t → P begin → Going f k 0 t P
 go-start {f} {k} B p =
+    let z : k - 0 ≡ k = omega arith in
     record {
       left = λ g R.
           let A = at-start B R.short in
-          record { here = begin; done = 0; stands = A; left = ap (steps k begin f) (B.told f R.short).place ∙ R.reads; holds = p };
+          record { here = begin; done = 0; stands = A; left = rw z (ap (steps k begin f) (B.told f R.short).place ∙ R.reads); holds = p };
     }
 
-module _ {f : List ℕ} {k rest : ℕ} {t : Trail} {P : Stage → Type 0} (G : Going f k rest t P) where
-  pub go_on : 0 < rest → {Q : Stage → Type 0} → Keeps f t P Q → {r : Trail} → StepPast f t r → Going f k (rest - 1) r Q
-  go_on due K {r} S =
+module _ {f : List ℕ} {k i : ℕ} {t : Trail} {P : Stage → Type 0} (G : Going f k i t P) where
+  pub go_on : i < k → {Q : Stage → Type 0} → Keeps f t P Q → {r : Trail} → StepPast f t r → Going f k (i + 1) r Q
+  go_on lt K {r} S =
       record {
         left = λ g R.
             let H = G.left g R in
-            let (m, p, one, more) = steps_first rest H.here f t.at g R.at due H.left in
+            let (m, p, one, more) = steps-left lt H.here f t.at g R.at H.left in
             record {
               here = m;
               done = H.done + 1;
               stands = at-step H.stands S one;
-              left = ap (steps (rest - 1) m f) (S.told H.here t.at H.stands.tells m p one).place ∙ more;
+              left = ap (steps (k - (i + 1)) m f) (S.told H.here t.at H.stands.tells m p one).place ∙ more;
               holds = K.told H.done H.here H.stands m p one H.holds;
             };
       }
 
-  pub go-done : rest ≤ 0 → Reaches f k P
+  pub go-done : k ≤ i → Reaches f k P
   go-done le =
       record {
         told = λ g R.
             let H = G.left g R in
-            let (x, _) = steps-none rest H.here f t.at g R.at le H.left in
+            let (x, _) = steps-none (k - i) H.here f t.at g R.at (omega arith) H.left in
             subst P x H.holds;
       }
 
   -- the same said in other words
-  pub go-as : {Q : Stage → Type 0} → ((g : Stage) → P g → Q g) → Going f k rest t Q
+  pub go-as : {Q : Stage → Type 0} → ((g : Stage) → P g → Q g) → Going f k i t Q
   go-as w = record { left = λ g R. let H = G.left g R in record { here = H.here; done = H.done; stands = H.stands; left = H.left; holds = w H.here H.holds } }
 
 -- ── out of the loop, with what no later step takes away ──
@@ -86,22 +88,22 @@ lasts {f} L (suc n) k g at r h q w p =
     let A = bind_inv (onward g) (steps n) f at h q w in
     lasts L n (suc k) A.value A.next (steps-more k begin f 0 r A.first) h q A.rest (L.told k g at r A.value A.next A.first p)
 
-pub go-out : {f : List ℕ} {k rest : ℕ} {t : Trail} {P : Stage → Type 0} → Going f k rest t P → Lasting f P → Reaches f k P
-go-out {rest = rest} {t = t} G L =
+pub go-out : {f : List ℕ} {k i : ℕ} {t : Trail} {P : Stage → Type 0} → Going f k i t P → Lasting f P → Reaches f k P
+go-out {k = k} {i = i} {t = t} G L =
     record {
       told = λ g R.
           let H = G.left g R in
-          lasts L rest H.done H.here t.at H.stands.reached g R.at H.left H.holds;
+          lasts L (k - i) H.done H.here t.at H.stands.reached g R.at H.left H.holds;
     }
 
 -- out of the loop behind one more step, which is not walked: there is one, since the loop goes on
-pub go-last : {f : List ℕ} {k rest : ℕ} {t : Trail} {P : Stage → Type 0} → Going f k rest t P → 0 < rest → {Q : Stage → Type 0} → Keeps f t P Q → Lasting f Q → Reaches f k Q
-go-last {f} {k} {rest} {t} G due {Q} K L =
+pub go-last : {f : List ℕ} {k i : ℕ} {t : Trail} {P : Stage → Type 0} → Going f k i t P → i < k → {Q : Stage → Type 0} → Keeps f t P Q → Lasting f Q → Reaches f k Q
+go-last {f} {k} {i} {t} G lt {Q} K L =
     record {
       told = λ g R.
           let H = G.left g R in
-          let (m, p, one, more) = steps_first rest H.here f t.at g R.at due H.left in
-          lasts L (rest - 1) (suc H.done) m p (steps-more H.done begin f 0 H.stands.reached one) g R.at more (K.told H.done H.here H.stands m p one H.holds);
+          let (m, p, one, more) = steps-left lt H.here f t.at g R.at H.left in
+          lasts L (k - (i + 1)) (suc H.done) m p (steps-more H.done begin f 0 H.stands.reached one) g R.at more (K.told H.done H.here H.stands m p one H.holds);
     }
 
 -- ── what a step reads ──

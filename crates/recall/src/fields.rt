@@ -24,59 +24,47 @@ pub fn among(file: &[u8], t: Trail, at: usize, n: u64, name: &[u8]) -> u64
     let starts = t.starts;
     let blocks = t.blocks;
     let mut here = at;
-    let mut i: u64 = 0;
-    while i < n {
+    for i in 0..n {
         let g = new_at(file, here);
         if is_string(file, starts, blocks, g.name, name) {
             return i;
         }
         here = g.at;
-        i += 1;
     }
     n
 }
 
-// A field of a type by its place among the type's fields.
-#[derive(Clone, Copy)]
-pub enum Found {
-    At(u64),
-    Nothing,
-}
-
-// What the next step adds, if the type had no field of this name before it.
-fn found_in(file: &[u8], t: Trail, typ: u32, name: &[u8]) -> Found
+// What the next step adds, if the type had no field of this name before it: its place among the type's fields.
+fn found_in(file: &[u8], t: Trail, typ: u32, name: &[u8]) -> Option<u64>
     ensures { FoundIn file.now t typ name.now result }
 {
     if t.left == 0 {
-        return Found::Nothing;
+        return None;
     }
     let e = past_olds(file, t);
     let top = e.top;
     if top.typ != typ {
-        return Found::Nothing;
+        return None;
     }
     let i = among(file, t, e.at, e.more, name);
     if i < e.more {
-        return Found::At(e.have + i);
+        return Some(e.have + i);
     }
-    Found::Nothing
+    None
 }
 
-// The field of a type that has this name. Fields never move, so the walk ends at the first.
-pub fn find_field(file: &[u8], steps: u64, typ: u32, name: &[u8]) -> Found
+// The field of a type that has this name, by its place among the type's fields. Fields never move, so the walk ends at the first.
+pub fn find_field(file: &[u8], steps: u64, typ: u32, name: &[u8]) -> Option<u64>
     ensures { FieldSought file.now steps typ name.now result }
 {
     let mut t = start();
-    let mut rest = steps;
-    while 0 < rest {
-        let a = found_in(file, t, typ, name);
-        if let Found::At(own) = a {
-            return Found::At(own);
+    for _ in 0..steps {
+        if let Some(own) = found_in(file, t, typ, name) {
+            return Some(own);
         }
         t = step(file, t);
-        rest -= 1;
     }
-    Found::Nothing
+    None
 }
 
 // The kind of the type's own-th field behind the next step, where `before` is the one before it.
@@ -112,11 +100,9 @@ pub fn kind_of(file: &[u8], steps: u64, typ: u32, own: u64) -> Kind
         last: 5,
     };
     let mut t = start();
-    let mut rest = steps;
-    while 0 < rest {
+    for _ in 0..steps {
         kind = kind_in(file, t, typ, own, kind);
         t = step(file, t);
-        rest -= 1;
     }
     kind
 }

@@ -68,11 +68,9 @@ pub fn entered(file: &[u8], steps: u64, block: u32, typ: u32) -> Entries
         entered: false,
         all: 0,
     };
-    let mut rest = steps;
-    while 0 < rest {
+    for _ in 0..steps {
         seen = entered_on(file, t, block, typ, seen);
         t = step(file, t);
-        rest -= 1;
     }
     seen
 }
@@ -150,11 +148,9 @@ pub fn inside(file: &[u8], steps: u64, block: u32, up: u32, first: u64, n: u64) 
         around: false,
         clear: true,
     };
-    let mut rest = steps;
-    while 0 < rest {
+    for _ in 0..steps {
         seen = inside_on(file, t, block, up, first, n, seen);
         t = step(file, t);
-        rest -= 1;
     }
     seen
 }
@@ -178,11 +174,9 @@ pub fn objects_of(file: &[u8], steps: u64, typ: u32) -> u64
 {
     let mut t = start();
     let mut sum: u64 = 0;
-    let mut rest = steps;
-    while 0 < rest {
+    for _ in 0..steps {
         sum = share(file, t, typ, sum);
         t = step(file, t);
-        rest -= 1;
     }
     sum
 }

@@ -142,11 +142,9 @@ fn meet(file: &[u8], steps: u64, places: &mut [usize], first: &mut [u32], last: 
 {
     let mut p = no_tally();
     let mut t = start();
-    let mut rest = steps;
-    while 0 < rest {
+    for _ in 0..steps {
         p = meet_one(file, t, p, places, first, last);
         t = step(file, t);
-        rest -= 1;
     }
     let sums = p.sums;
     Met { t, sums }
@@ -180,14 +178,11 @@ fn plan(kinds: &[u64], starts: &mut [u32], places: &mut [usize])
     ensures { PlanMade kinds.now starts.new places.new }
 {
     let mut k: u32 = 0;
-    let mut t: usize = 0;
-    while t < 32 {
-        let j = t;
-        t += 1;
-        starts[j] = k;
-        places[j] = 18446744073709551615;
-        if asked(kinds, j as u64 + 32) {
-            places[j] = k as usize;
+    for t in 0..32 {
+        starts[t] = k;
+        places[t] = 18446744073709551615;
+        if asked(kinds, t as u64 + 32) {
+            places[t] = k as usize;
             k += 32;
         }
     }
@@ -199,12 +194,8 @@ fn empty(first: &mut [u32], last: &mut [u32])
     requires { length first.old ≡ length last.old }
     ensures { Emptied first.new last.new }
 {
-    let mut i: usize = 0;
-    while i < first.len() {
-        first[i] = 4294967295;
-        last[i] = 4294967295;
-        i += 1;
-    }
+    first.fill(4294967295);
+    last.fill(4294967295);
 }
 
 // The ranges of all types that a map's kinds name: those of type t stand from starts[t] up to starts[t + 1].
@@ -258,13 +249,11 @@ pub fn pools(file: &[u8], steps: u64, list: &mut [u32]) -> usize
     let t = m.t;
     let sums = m.sums;
     let n = t.strings as usize;
-    let mut i: usize = 0;
-    while i < n {
+    for i in 0..n {
         if list.len() <= i {
             return i;
         }
         list[i] = pool_of(file, t, sums, i as u64 + 1);
-        i += 1;
     }
-    i
+    n
 }

@@ -27,6 +27,7 @@ use Rattle.walk.specs.Steps.{NotedKind}
 use Rattle.texts.specs.Told.{Told}
 use Rattle.texts.specs.Chunks.{ChunkTaken}
 use Rattle.texts.specs.MapLines.{MapsTaken}
+use Rattle.texts.specs.declared.Taken.{Taken}
 
 -- the answer is that of n values of the kind, in the state that the table l says of the text t
 abbrev pub KindTaken : ℕ → FieldRow → List ℕ → List ℕ → ℕ → List ℕ → ℕ → List ℕ → prelude.Option Taken → Type 0

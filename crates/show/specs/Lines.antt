@@ -90,7 +90,7 @@ module _ {e : ℕ} (K : Fixed e) {w : ℕ} (W : Width e w) {f : List ℕ} {from 
   pub fixed-nothing : {u : Refusal} → a ≡ Err u → {l : List ℕ} {at : ℕ} {m : List ℕ} {p : ℕ} → Shown (λ s. element s e) (λ x. t (element_word x)) f from l at m p
   fixed-nothing is {l} {at} {m} {p} = let o : Behind = record { next = record { at = 0 }; at = p } in (fixed-none is {l = l} {at = at} {m = m} {o = o}).text
 
-  module _ {n : ℕ} {c : Cursor} (is : a ≡ Ok (n , c)) where
+  module _ {n : ℕ} {c : Cursor} (is : a ≡ Ok (n, c)) where
     pub fixed-below : n < bound_of e
     fixed-below = (was-got as-bare is).below
 
@@ -135,7 +135,7 @@ module _ {f : List ℕ} {from : ℕ} {a : Outcome ℕ} (R : Read v64 (2 ^ 64) f 
   number-none is = shows-none (λ s x q h. not-got (sym (was-refused R is).says ∙ h))
 
   pub number-shows :
-      {n : ℕ} {c : Cursor} → a ≡ Ok (n , c) → {l m : List ℕ} {at r : ℕ} → Laid l at (w n) m r
+      {n : ℕ} {c : Cursor} → a ≡ Ok (n, c) → {l m : List ℕ} {at r : ℕ} → Laid l at (w n) m r
       → Shows (λ s. v64) w f from l at m (record { next = c; at = r })
   number-shows {n} {c} is L =
       record {
@@ -238,7 +238,7 @@ module _ {f : List ℕ} {from : ℕ} {a : Outcome ℕ} (R : Read v64 (2 ^ 64) f 
   pub two_none : {u : Refusal} → a ≡ Err u → {l : List ℕ} {at : ℕ} {k : List ℕ} {o : Behind} → Shows (λ s. element s 5) (λ x. line_of (element_word x)) f from l at k o
   two_none is = shows-none (λ s x q h. not-got (sym (was-refused R is).says ∙ (annotation-parts s x f from q h).one))
 
-  module _ {m : ℕ} {c : Cursor} (is : a ≡ Ok (m , c)) {b : Outcome ℕ} (S : Read v64 (2 ^ 64) f c.at b) where
+  module _ {m : ℕ} {c : Cursor} (is : a ≡ Ok (m, c)) {b : Outcome ℕ} (S : Read v64 (2 ^ 64) f c.at b) where
     first-is : (s : State) (x : Element) (q : ℕ) (h : element s 5 f from ≡ got x q) → got m c.at ≡ got (annotation-parts s x f from q h).first (annotation-parts s x f from q h).place
     first-is s x q h = sym (was-got R is).says ∙ (annotation-parts s x f from q h).one
 
@@ -251,7 +251,7 @@ module _ {f : List ℕ} {from : ℕ} {a : Outcome ℕ} (R : Read v64 (2 ^ 64) f 
     pub two-cut : {u : Refusal} → b ≡ Err u → {l : List ℕ} {at : ℕ} {k : List ℕ} {o : Behind} → Shows (λ s. element s 5) (λ x. line_of (element_word x)) f from l at k o
     two-cut is₂ = shows-none (λ s x q h. not-got (sym (was-refused S is₂).says ∙ second_is s x q h))
 
-    module _ {n : ℕ} {d : Cursor} (is₂ : b ≡ Ok (n , d)) where
+    module _ {n : ℕ} {d : Cursor} (is₂ : b ≡ Ok (n, d)) where
       there : (s : State) (x : Element) (q : ℕ) (h : element s 5 f from ≡ got x q) → got n d.at ≡ got (annotation-parts s x f from q h).second q
       there s x q h = sym (was-got S is₂).says ∙ second_is s x q h
 
@@ -326,7 +326,7 @@ module _ (e : ℕ) {f : List ℕ} {from : ℕ} {a : Outcome ℕ} (R : Read small
   unfolding list ◌>>=◌
   list-none {u} is = shows-none (λ s es q h. not-got (rw (was-refused R is).says at h))
 
-  pub list-shows : {n : ℕ} {c : Cursor} → a ≡ Ok (n , c) → Shows (λ s. repeat n (element s e)) value_line f c.at l at m o → Shows (list e) value_line f from l at m o
+  pub list-shows : {n : ℕ} {c : Cursor} → a ≡ Ok (n, c) → Shows (λ s. repeat n (element s e)) value_line f c.at l at m o → Shows (list e) value_line f from l at m o
   unfolding list ◌>>=◌
   list-shows is = shows-as (λ s. rw (was-got R is).says)
 

@@ -146,7 +146,7 @@ module _ (ks : List ℕ) {f : List ℕ} {from : ℕ} {l : List ℕ} {at : ℕ} w
         not-got (sym (was-refused R is).says ∙ P.size-read))
 
     pub map-shows :
-        {n : ℕ} {c : Cursor} {m k m₂ : List ℕ} {p r : ℕ} {o : Behind} → a ≡ Ok (n , c) → Laid l at (tab ∷ []) m p → Laid m p (decimal n) k r
+        {n : ℕ} {c : Cursor} {m k m₂ : List ℕ} {p r : ℕ} {o : Behind} → a ≡ Ok (n, c) → Laid l at (tab ∷ []) m p → Laid m p (decimal n) k r
         → Shows (λ s. repeat n (key_in ks s)) (flat (tabs element_word)) f c.at k r m₂ o → Shows (map_in ks) (tabs element_word) f from l at m₂ o
     map-shows {n} {c} {m} {k} {m₂} {p} {r} {o} is one word S =
         record {

@@ -23,7 +23,10 @@ use lay::{behind, put, put_bytes};
 use numbers::{Cursor, Outcome};
 use values::columns::{Value, value_of};
 use values::maps::map_kinds;
-use words::write::{bits_of, put_decimal, put_hex, put_integer, put_signed, room, store_decimal, store_hex, store_integer};
+use words::write::{
+    bits_of, put_decimal, put_hex, put_integer, put_signed, room, store_decimal, store_hex,
+    store_integer,
+};
 
 // Behind what was read, and behind what was laid.
 #[derive(Clone, Copy)]

@@ -2,7 +2,7 @@
 use Rattle.std.proofs.Math.Path.{◌≡◌, ap}
 use Rattle.std.proofs.Common.{sym, ◌∙◌, arith, pow-suc, lt_of_not-le, length-append, length-take, take_all, le-leb, lt-ltb, le-ltb}
 use mathlib.Core.List.{List, [], ◌∷◌, ◌++◌}
-use Rattle.std.specs.Prelude.{ℕ, zero, suc, ◌+◌, ◌/◌, ◌^◌, ◌≤◌, ◌<◌, leb, take}
+use Rattle.std.specs.Prelude.{ℕ, zero, suc, ◌+◌, ◌/◌, ◌^◌, ◌≤◌, ◌<◌, leb, take, Result, Ok, Err}
 use Rattle.std.proofs.Math.Decide.{dec_le}
 use Rattle.std.proofs.Math.ListN.{length}
 use Rattle.std.proofs.lemmas.Bool.{lt-leb}
@@ -13,8 +13,7 @@ use Rattle.paper.specs.Calls.{Answer, done, refused, Left, over_front, left_in, 
 use Rattle.lay.specs.Laid.{most, Laid, laid_then, laid_as}
 use Rattle.values.specs.Filling.{sets-front}
 use Rattle.calls.specs.Told.{answer_of, after, Wrote}
-use Rattle.calls.specs.declared.replies.Reply.{Reply}
-use Rattle.calls.specs.declared.replies.Reply.TheVariants.{Done, Refused}
+use Rattle.calls.specs.declared.replies.Refused.{Refused}
 
 -- `refused`, a tab, the number and a newline
 unfoldable pub refusal_line : ℕ → List ℕ
@@ -39,7 +38,7 @@ pub one-front : {text out o p : List ℕ} {r q : ℕ} → AtFront text out o r �
 one-front a b = (a.bytes ∙ sym b.bytes, a.count ∙ sym b.count)
 
 -- whichever call replied so and left the output so: the text of its answer is now at the front of what was lent to it
-pub record Told (a : Reply) (left out' : List ℕ) (r : ℕ) : Type 0 where
+pub record Told (a : Result ℕ Refused) (left out' : List ℕ) (r : ℕ) : Type 0 where
   pub tells : (x : Answer (List ℕ)) (out : List ℕ) → length out ≡ most_output → Wrote x out a left → AtFront (told x) out out' r
 
 -- ── one byte more than is taken is enough to know that there are too many ──
@@ -88,8 +87,8 @@ refusal-first {out} {m} {r} n room small L =
 
 -- ── a reply, told ──
 
-module _ {a : Reply} {left out' : List ℕ} {n r : ℕ} where
-  pub told-done : a ≡ Done n → r ≡ n → out' ≡ left → Told a left out' r
+module _ {a : Result ℕ Refused} {left out' : List ℕ} {n r : ℕ} where
+  pub told-done : a ≡ Ok n → r ≡ n → out' ≡ left → Told a left out' r
   unfolding answer_of how_many left_in told
   told-done is same stands = record { tells = λ x out room W. go x out (rw is at W.says) W.left }
     where
@@ -97,7 +96,7 @@ module _ {a : Reply} {left out' : List ℕ} {n r : ℕ} where
       go (done text) out e h = record { bytes = stands ∙ h; count = cc }
       go (refused k) out e h = let z : ◌≡◌ {A = ℕ} 0 1 = cc in absurd (omega arith)
 
-  pub told-refused : a ≡ Refused n → n < 2 ^ 64 → (k : ℕ) → k ≡ n → Laid left 0 (refusal_line k) out' r → Told a left out' r
+  pub told-refused : a ≡ Err (record { number = n }) → n < 2 ^ 64 → (k : ℕ) → k ≡ n → Laid left 0 (refusal_line k) out' r → Told a left out' r
   unfolding answer_of how_many left_in told
   told-refused is small k same L = record { tells = λ x out room W. go x out room (rw is at W.says) W.left }
     where
@@ -115,7 +114,7 @@ module _ (call : List ℕ → Answer (List ℕ)) (f out : List ℕ) {m : List �
   written-long h n is L = rw (lt-leb (length f) most_input h, ← is) (refusal-first n room (omega arith) L)
 
   pub written-told :
-      length f ≤ most_input → (work : List ℕ) (a : Reply) {w o : List ℕ} → after a w o ≡ writes (call f) work out → Told a o m r → AtFront (written_by call f) out m r
+      length f ≤ most_input → (work : List ℕ) (a : Result ℕ Refused) {w o : List ℕ} → after a w o ≡ writes (call f) work out → Told a o m r → AtFront (written_by call f) out m r
   unfolding written_by when◌then◌else◌ writes
   written-told short work a L T =
       rw

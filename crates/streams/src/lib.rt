@@ -8,57 +8,36 @@ ghost use Rattle.streams.specs.Answers.{refusal_line, Told};
 ghost use Rattle.streams.specs.Reads.{Within};
 
 use calls::replies::Reply;
+use std::io;
 use std::io::{Input, Read};
 use words::write::put_decimal;
 
-// How many bytes came from standard input, or that it could not be read.
-#[derive(Clone, Copy)]
-pub enum Came {
-    Bytes(usize),
-    Failed,
-}
-
-// One read. It brings no byte only where the input has ended.
-fn read_some(input: &mut impl Read, part: &mut [u8]) -> Came
-    ensures { Within result part.old }
-{
-    match input.read(part) {
-        Ok(n) => Came::Bytes(n),
-        Err(_) => Came::Failed,
-    }
-}
-
-// Reads on until the input has ended or `buf` is full: a pipe hands over what it has, which may be less than was asked for.
-fn read_all(input: &mut impl Read, buf: &mut [u8]) -> Came
+// Reads on until the input has ended or `buf` is full: a pipe hands over what it has, which may be less than was asked for. A read
+// brings no byte only where the input has ended. How many bytes each brings is its own affair, so no `for` counts the reads.
+fn read_all(input: &mut impl Read, buf: &mut [u8]) -> io::Result<usize>
     ensures { Within result buf.new }
 {
     let mut done: usize = 0;
     while done < buf.len() {
-        let a = read_some(input, &mut buf[done..]);
-        let Came::Bytes(n) = a else {
-            return Came::Failed;
-        };
+        let n = input.read(&mut buf[done..])?;
         if n == 0 {
-            return Came::Bytes(done);
+            return Ok(done);
         }
         done += n;
     }
-    Came::Bytes(done)
+    Ok(done)
 }
 
-// The input. Where a read fails there is none: half an input is not the input. That is said on standard error, for what a
-// program writes for an empty input is empty too, and its status is 0 either way.
-pub fn read_input(rt: &(impl Input + Eprint), buf: &mut [u8]) -> Came
+// The input: how many bytes of it came. Where a read fails there is none: half an input is not the input. That is said on standard
+// error, for what a program writes for an empty input is empty too, and its status is 0 either way.
+pub fn read_input(rt: &(impl Input + Eprint), buf: &mut [u8]) -> io::Result<usize>
     ensures { Within result buf.new }
 {
     let a = read_all(&mut rt.reader(), buf);
-    match a {
-        Came::Bytes(n) => Came::Bytes(n),
-        Came::Failed => {
-            let _ = rt.eprintln("standard input cannot be read");
-            Came::Failed
-        }
+    if a.is_err() {
+        let _ = rt.eprintln("standard input cannot be read");
     }
+    a
 }
 
 // The line of a refusal.
@@ -75,8 +54,8 @@ pub fn replied(a: Reply, out: &mut [u8]) -> usize
     ensures { Told a out.old out.new result }
 {
     match a {
-        Reply::Done(n) => n as usize,
-        Reply::Refused(n) => put_refused(out, n),
+        Ok(n) => n as usize,
+        Err(e) => put_refused(out, e.number),
     }
 }
 

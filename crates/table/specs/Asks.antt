@@ -2,12 +2,11 @@
 use Rattle.std.specs.Prelude as prelude
 use Rattle.std.specs.Prelude.{Some, None, ◌≡◌, ℕ, ◌-◌, ◌<◌, ◌≤◌, Bool, List, [], length, slice_index, slice_index_or}
 use Rattle.std.proofs.Math.Option.{Option, none, some}
-use Rattle.paper.specs.Ledger.{Typ, Range, of?, before?, base?, holds?}
-use Rattle.paper.specs.Rules.{entry_of?, around?}
+use Rattle.paper.specs.Ledger.{Range}
 use Rattle.paper.specs.Lists.{same, place}
 use Rattle.table.specs.View.{strs_of, names_of, said, Passed, Holds, Now}
-use Rattle.table.specs.declared.ranges.Ask.{Ask}
-use Rattle.table.specs.declared.ranges.Ask.TheVariants.{Of, Entry, Before, Around, Holding, Base}
+use Rattle.table.specs.Answers.{range_in}
+use Rattle.table.specs.declared.rows.RangeRow.{RangeRow}
 
 abbrev pub found : prelude.Option ℕ → Option ℕ
 found (Some i) = some i
@@ -24,11 +23,6 @@ pub record Recalled (f l : List ℕ) (i m : ℕ) (l' : List ℕ) : Type 0 where
   pub none_has : m < 33 → place (same (slice_index_or (strs_of f l) i [])) 0 (names_of f l) ≡ none
   pub one_has : 33 ≤ m → place (same (slice_index_or (strs_of f l) i [])) 0 (names_of f l) ≡ some (m - 33)
 
--- the ranges that a question is about
-abbrev pub asks : List Typ → Ask → Range → Bool
-asks ts (Of t) = of? t
-asks ts (Entry b t) = entry_of? b t
-asks ts (Before b t) = before? b t
-asks ts (Around b u start n) = around? b u start n
-asks ts (Holding t n) = holds? t n
-asks ts Base = base? ts
+-- whatever is answered of a range is what the test p says of it
+abbrev pub Tests : (RangeRow → Bool → Type 0) → (Range → Bool) → Type 0
+Tests answers p = (r : RangeRow) (b : Bool) → answers r b → b ≡ p (range_in r)

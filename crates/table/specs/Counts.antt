@@ -1,14 +1,15 @@
 -- How many rows there are: what other counts make of what the table says. Assumes nothing.
-use Rattle.std.specs.Prelude.{◌≡◌, ℕ, zero, suc, ◌+◌, ◌*◌, ◌<◌, ◌≤◌, ◌≢◌, List, [], ◌∷◌, length, take, replicate, slice_index, slice_index_or, slice_set, refl}
-use Rattle.std.proofs.Common.{⊎_elim, sym, ◌∙◌, subst, le_refl, not-suc-le-zero, le_of_suc-le-suc, eq-or-lt_of_le, arith, length-set, get_or-set_same, get_or-set_other, take_all}
+use Rattle.std.specs.Prelude.{◌≡◌, ℕ, zero, suc, ◌+◌, ◌-◌, ◌*◌, ◌<◌, ◌≤◌, List, [], ◌∷◌, length, take, drop, ◌++◌, replicate, slice_index, slice_index_or, refl}
+use Rattle.std.proofs.Common.{⊎_elim, sym, ◌∙◌, subst, le_refl, not-suc-le-zero, le_of_suc-le-suc, eq-or-lt_of_le, arith, take_all}
 use Rattle.std.proofs.Math.Path.{ap}
 use Rattle.std.proofs.lemmas.List.Edits.{sets}
 use Rattle.std.proofs.Math.Seq.{length-sets}
-use Rattle.std.proofs.lemmas.List.{take-append-le}
+use Rattle.std.proofs.lemmas.List.{take-append-le, length-replicate, length-append, length-drop, length-take, length-take-le, get_or-replicate, get_or-append_right, get_or_append_left}
+use borrow.Rule.Slice.PartMut.{put_mid}
 use Rattle.paper.specs.Ledger.{Typ, Field, Range, nothing}
 use Rattle.paper.specs.Rules.{closed}
 use Rattle.table.specs.Segs.{tab, cells, seg, Each}
-use Rattle.table.specs.RowLaws.{same_or_not, length-tab, tab-cong, cells-cong, cells-sets, sets-other, seg-none, each-kept}
+use Rattle.table.specs.RowLaws.{length-tab, tab-cong, cells-cong, cells-sets, sets-other, seg-none, each-kept}
 use Rattle.table.specs.Layout.{width, most, starts, head-le}
 use Rattle.table.specs.View.{text_of, string_of, typ_of, fld_of, range_of, due_of, spot_of, strs_of, names_of, types_of, titles_of, flds_of, log_of, dues_of, chunks_of, said, tally, Telling, Owning, Ok, Within, Holds, Said, Now, Apart, Recalls, Noting}
 use Rattle.table.specs.Told.{Told, Owned}
@@ -284,17 +285,29 @@ pub record Zeroed (i : ℕ) (l : List ℕ) : Type 0 where
   pub upto : i ≤ 16384
   pub zeros : (j : ℕ) → 16048 ≤ j → j < i → slice_index l j ≡ 0
 
-pub zeroed_start : {l : List ℕ} → length l ≡ 16384 → Zeroed 16048 l
-zeroed_start long = record { long = long; from = omega arith; upto = omega arith; zeros = λ j a b. absurd (omega arith) }
+-- what the cells below a are, then so many numbers r, then what the cells were
+module _ (a k : ℕ) (l r : List ℕ) (fits : a + k ≤ length l) (is : r ≡ replicate k 0) where
+  filled_long : length (put_mid a k l r) ≡ length l
+  filled_long = rw is (simp (length-append, length-replicate, length-drop, length-take) (omega arith))
 
-pub zeroed-on : {i : ℕ} {l : List ℕ} → Zeroed i l → i < 16384 → Zeroed (i + 1) (slice_set l i 0)
-zeroed-on {i} {l} Z lt =
+  filled_zeros : (j : ℕ) → a ≤ j → j < a + k → slice_index (put_mid a k l r) j ≡ 0
+  filled_zeros j h lt =
+      let within : a ≤ length l = omega arith in
+      let front : length (take a l) ≡ a = length-take-le a l within in
+      let part : length {A = ℕ} (replicate k 0) ≡ k = length-replicate k 0 in
+      let lt' : j - a < k = omega arith in
+      let below : j - a < length {A = ℕ} (replicate k 0) = rw part lt' in
+      rw is (get_or-append_right (take a l) (replicate k 0 ++ drop k (drop a l)) a j 0 front h ∙ get_or_append_left (replicate k 0) (drop k (drop a l)) 0 (j - a) below ∙ get_or-replicate k (j - a) 0 0 lt')
+
+-- the cells of all tallies
+pub length-mid : (l : List ℕ) → length l ≡ 16384 → length (take 336 (drop 16048 l)) ≡ 336
+length-mid l long = length-take-le 336 (drop 16048 l) (omega (arith, length-drop 16048 l))
+
+pub zeroed : (l : List ℕ) {r : List ℕ} → length l ≡ 16384 → r ≡ replicate 336 0 → Zeroed 16384 (put_mid 16048 336 l r)
+zeroed l {r} long is =
     record {
-      long = length-set l i 0 ∙ Z.long;
-      from = omega (arith, Z.from);
+      long = filled_long 16048 336 l r (omega arith) is ∙ long;
+      from = omega arith;
       upto = omega arith;
-      zeros = λ j a b. ⊎_elim
-          (λ (e : j ≡ i). rw e (get_or-set_same l i 0 0 (omega (arith, Z.long))))
-          (λ (ne : j ≢ i). get_or-set_other l i j 0 0 ne ∙ Z.zeros j a (omega arith))
-          (same_or_not j i);
+      zeros = λ j a b. filled_zeros 16048 336 l r (omega arith) is j a (omega arith);
     }

@@ -1,5 +1,5 @@
 -- Turns of loops over a list: a search, a test of all, a sum, a place, a count. Assumes nothing.
-use Rattle.std.specs.Prelude.{◌≡◌, ℕ, suc, ◌+◌, ◌<◌, ◌≤◌, Bool, true, false, List, [], ◌∷◌, length, drop, slice_index_or}
+use Rattle.std.specs.Prelude.{◌≡◌, ℕ, suc, ◌+◌, ◌<◌, ◌≤◌, Bool, not, ◌||◌, ◌&&◌, true, false, List, [], ◌∷◌, length, drop, slice_index_or}
 use Rattle.std.proofs.Math.Path.{refl, ap}
 use Rattle.std.proofs.Common.{sym, ap₂, ◌∙◌, add-one, arith, drop_of_length-le, drop-cons}
 use Rattle.std.proofs.Math.Option.{Option, none, some}
@@ -65,13 +65,23 @@ module _ {A : Type 0} (p : A → Bool) (xs : List A) (i : ℕ) where
       unfolding places when◌then◌else◌
       places-on e = ap (λ (ys : List A). length (places p i ys)) next ∙ rw (sym says ∙ e, add-one) refl
 
-    one_more : (b : Bool) (n : A → ℕ) (ys : List A) → p x ≡ b → total p n (x ∷ ys) ≡ total p n (x ∷ []) + total p n ys
-    unfolding total when◌then◌else◌
-    one_more true n ys e = rw e (omega arith)
-    one_more false n ys e = rw e (omega arith)
+      pub total_here : (n : A → ℕ) → b ≡ true → total p n (drop i xs) ≡ n x + total p n (drop (i + 1) xs)
+      unfolding total when◌then◌else◌
+      total_here n e = ap (total p n) next ∙ rw (sym says ∙ e) refl
 
-    pub total-on : (n : A → ℕ) → total p n (drop i xs) ≡ total p n (x ∷ []) + total p n (drop (i + 1) xs)
-    total-on n = ap (total p n) next ∙ one_more (p x) n (drop (i + 1) xs) refl
+      pub total-on : (n : A → ℕ) → b ≡ false → total p n (drop i xs) ≡ total p n (drop (i + 1) xs)
+      unfolding total when◌then◌else◌
+      total-on n e = ap (total p n) next ∙ rw (sym says ∙ e) refl
+
+-- all pass where there is none that does not
+pub all-but : {A : Type 0} (p : A → Bool) (xs : List A) → not (any (λ x. not (p x)) xs) ≡ all p xs
+unfolding any all
+all-but p [] = refl
+all-but p (x ∷ xs) = rest (p x) (all-but p xs)
+  where
+    rest : (b : Bool) → not (any (λ y. not (p y)) xs) ≡ all p xs → not (not b || any (λ y. not (p y)) xs) ≡ (b && all p xs)
+    rest true others = others
+    rest false others = refl
 
 -- rows with their names
 module _ {A B : Type 0} (p : A → B → Bool) (xs : List A) (names : List B) (i : ℕ) where

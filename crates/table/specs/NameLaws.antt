@@ -1,12 +1,13 @@
--- A name held against a part of the bytes, from the front. Assumes nothing.
-use Rattle.std.specs.Prelude.{◌≡◌, ℕ, zero, suc, ◌+◌, ◌-◌, ◌*◌, ◌%◌, ◌<◌, ◌≤◌, Bool, true, false, ◌&&◌, List, [], ◌∷◌, length, get_or, take, drop, ◌==◌, ◌≢◌, slice_index, slice_index_or, slice_range, refl}
-use Rattle.std.proofs.Common.{sym, ◌∙◌, subst, ⊎_elim, add-one, add-zero, mul-le-mul_left, not-suc-le-zero, le_of_suc-le-suc, drop_of_length-le, length-take-le, drop-cons, eq-eqb, ne_eqb, eqb-true}
+-- A name held against a part of the bytes. Assumes nothing.
+use Rattle.std.specs.Prelude.{◌≡◌, ℕ, zero, suc, ◌+◌, ◌-◌, ◌*◌, ◌%◌, ◌<◌, ◌≤◌, Bool, true, false, ◌&&◌, List, [], ◌∷◌, length, get_or, take, drop, ◌==◌, ◌≢◌, nat_eq, slice_index, slice_index_or, slice_range, refl}
+use Rattle.std.proofs.Common.{sym, ◌∙◌, subst, ⊎_elim, add-one, mul-le-mul_left, not-suc-le-zero, le_of_suc-le-suc, drop_of_length-le, length-take-le, drop-cons, eqb-true}
 use Rattle.std.proofs.Math.Path.{ap, ap₂}
 use Rattle.std.proofs.Math.Option.{none, some}
 use Rattle.std.proofs.lemmas.Bool.{false≢true}
-use Rattle.std.proofs.Math.Bool.{and-false, and-true}
+use Rattle.std.proofs.Math.Bool.{and-false}
 use native.Mathlib.Omega.{arith}
-use Rattle.std.proofs.Math.Seq.{slice, slice-cons, length-slice, take-nil}
+use Rattle.std.proofs.Math.Seq.{slice, length-slice, take-nil}
+use Rattle.std.specs.Cmp.Lexicographic.{pointwise}
 use Rattle.paper.specs.Lists.{same, place}
 use Rattle.table.specs.RowLaws.{lt-or-ge}
 use Rattle.table.specs.View.{strs_of, names_of, summed, sum_of, Passed, Holds}
@@ -34,36 +35,13 @@ module _ (n f : List ℕ) (s e : ℕ) (in_f : e ≤ length f) where
   pub name-length : (length n ≢ e - s) → same n (slice s e f) ≡ false
   name-length ne = lengths_differ n (slice s e f) (λ q. ne (q ∙ length-slice s e f in_f))
 
-  pub name-start : same n (slice s e f) ≡ same (drop 0 n) (slice (s + 0) e f)
-  name-start = rw add-zero refl
-
-  -- byte i of the name
-  module _ (i : ℕ) (lt : i < length n) (lt' : s + i < e) where
-    name-differs : (slice_index n i ≢ slice_index f (s + i)) → same (drop i n) (slice (s + i) e f) ≡ false
-    unfolding same
-    name-differs ne = ap₂ same (drop-cons n i 0 lt) (slice-cons (s + i) e f 0 lt' in_f) ∙ simp (ne_eqb _ _ ne)
-
-    name-on : get_or n i 0 ≡ slice_index f (s + i) → same (drop i n) (slice (s + i) e f) ≡ same (drop (i + 1) n) (slice (s + (i + 1)) e f)
-    unfolding same
-    name-on q =
-        let on : suc (s + i) ≡ s + (i + 1) = omega arith in
-        ap₂ same (drop-cons n i 0 lt) (slice-cons (s + i) e f 0 lt' in_f)
-        ∙ simp (eq-eqb _ _ q) (ap₂ (λ (a b : ℕ). same (drop a n) (slice b e f)) (sym (add-one i)) on)
-
-  name-end : (i : ℕ) → length n ≤ i → e ≤ s + i → same (drop i n) (slice (s + i) e f) ≡ true
-  unfolding same
-  name-end i h k = ap₂ same (drop_of_length-le n h) (over f e in_f (s + i) k)
-
--- b says whether all bytes before the i-th are the same
-module _ (n f : List ℕ) (s e : ℕ) (in_f : e ≤ length f) (i : ℕ) (b : Bool) (so_far : same n (slice s e f) ≡ (b && same (drop i n) (slice (s + i) e f))) where
-  pub differs-on : i < length n → s + i < e → (slice_index n i ≢ slice_index f (s + i)) → {b' : Bool} → b' ≡ false → same n (slice s e f) ≡ (b' && same (drop (i + 1) n) (slice (s + (i + 1)) e f))
-  differs-on lt lt' ne is = so_far ∙ ap (λ (x : Bool). b && x) (name-differs n f s e in_f i lt lt' ne) ∙ and-false b ∙ rw is refl
-
-  pub alike-on : i < length n → s + i < e → slice_index n i ≡ slice_index f (s + i) → {b' : Bool} → b' ≡ b → same n (slice s e f) ≡ (b' && same (drop (i + 1) n) (slice (s + (i + 1)) e f))
-  alike-on lt lt' q is = so_far ∙ ap (λ (x : Bool). b && x) (name-on n f s e in_f i lt lt' q) ∙ rw is refl
-
-  pub alike_end : length n ≤ i → e ≤ s + i → b ≡ same n (slice s e f)
-  alike_end h k = sym (so_far ∙ ap (λ (x : Bool). b && x) (name-end n f s e in_f i h k) ∙ and-true b)
+-- what `==` says of two slices
+pub same-pairs : (xs ys : List ℕ) → pointwise nat_eq xs ys ≡ same xs ys
+unfolding same
+same-pairs [] [] = refl
+same-pairs [] (y ∷ ys) = refl
+same-pairs (x ∷ xs) [] = refl
+same-pairs (x ∷ xs) (y ∷ ys) = ap (λ (b : Bool). nat_eq x y && b) (same-pairs xs ys)
 
 -- ── sums ──
 

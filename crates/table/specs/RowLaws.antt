@@ -1,7 +1,7 @@
 -- The laws of rows, once for every segment: what a push makes of its own segment, and that it leaves every other. Assumes nothing.
 use Rattle.std.specs.Prelude.{◌≡◌, ℕ, zero, suc, ◌+◌, ◌*◌, ◌<◌, ◌≤◌, ◌≢◌, ◌⊎◌, List, [], ◌∷◌, ◌++◌, length, get_or, slice_index, slice_index_or, slice_set}
 use Rattle.std.proofs.Math.Path.{refl, ap, ap₂}
-use Rattle.std.proofs.Common.{sym, ◌∙◌, subst, inl, inr, zero-le, suc-le-suc, add-zero, le_refl, le_of_lt, le_of_eq, not-suc-le-zero, le_of_suc-le-suc, eq-or-lt_of_le, arith, length-set, get_or-set_same, get_or-set_other}
+use Rattle.std.proofs.Common.{sym, ◌∙◌, subst, inl, inr, zero-le, suc-le-suc, le_refl, le_of_lt, le_of_eq, not-suc-le-zero, le_of_suc-le-suc, eq-or-lt_of_le, arith, length-set, get_or-set_same, get_or-set_other}
 use Rattle.std.proofs.Math.Logic.{⊎_elim}
 use Rattle.std.proofs.Math.Nat.{le_step, mul-le-mul_left}
 use Rattle.std.proofs.Math.Numerals.{add-one}
@@ -69,14 +69,6 @@ stored_at (v ∷ vs) l at zero j is lt fits =
     rw e (sets-other vs (slice_set l at v) (suc at) at (λ p. omega arith) ∙ get_or-set_same l at v 0 (omega arith))
 stored_at (v ∷ vs) l at (suc k) j is lt fits =
     stored_at vs (slice_set l at v) (suc at) k j (omega arith) (le_of_suc-le-suc lt) (rw length-set (omega arith))
-
--- two runs of stores, one behind the other, are one
-pub sets-append : (us vs l : List ℕ) (at : ℕ) → sets (sets l at us) (at + length us) vs ≡ sets l at (us ++ vs)
-sets-append [] vs l at = rw add-zero refl
-sets-append (u ∷ us) vs l at = ap (λ (k : ℕ). sets (sets (slice_set l at u) (suc at) us) k vs) (omega arith) ∙ sets-append us vs (slice_set l at u) (suc at)
-
-pub sets-two : (us vs l : List ℕ) (at : ℕ) {m k : List ℕ} → m ≡ sets l at us → k ≡ sets m (at + length us) vs → k ≡ sets l at (us ++ vs)
-sets-two us vs l at p q = q ∙ ap (λ (t : List ℕ). sets t (at + length us) vs) p ∙ sets-append us vs l at
 
 module _ (c base w : ℕ) (l l' : List ℕ) (same : (j : ℕ) → base ≤ j → j < base + w * slice_index l c → slice_index l' j ≡ slice_index l j) where
   rows-kept : {A : Type 0} (of : List ℕ → A) → tab (slice_index l c) (λ i. of (cells l' (base + w * i) w)) ≡ seg of c base w l

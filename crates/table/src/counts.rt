@@ -3,7 +3,7 @@ ghost use Rattle.std.specs.Prelude.{◌≡◌, ◌<◌, length, slice_index};
 ghost use Rattle.table.specs.View.{Ok};
 ghost use Rattle.table.specs.Counts.{noughts, Begun, Next, Cut, counts_in, Recounted, NotAbove, Zeroed};
 
-use super::cells::put8;
+use super::cells::put;
 use super::rows::Counts;
 
 pub fn counts(work: &[u32]) -> Counts
@@ -27,10 +27,13 @@ fn set_counts(work: &mut [u32], n: Counts, block: u32, told: u32, noted: u32)
     ensures work_after { (slice_index work.new 7 ≡ told) × (slice_index work.new 8 ≡ noted) }
 {
     let none_due = 0;
-    put8(
-        work, 0, n.strings, n.types, n.fields, n.ranges, none_due, n.chunks, block, told,
+    put(
+        work,
+        0,
+        [
+            n.strings, n.types, n.fields, n.ranges, none_due, n.chunks, block, told, noted,
+        ],
     );
-    work[8] = noted;
 }
 
 // No tallies, whatever stood there.
@@ -38,11 +41,7 @@ fn clear_tallies(work: &mut [u32])
     requires { length work.old ≡ 16384 }
     ensures { Zeroed 16384 work.new }
 {
-    let mut i = 16048;
-    while i < 16384 {
-        work[i] = 0;
-        i += 1;
-    }
+    work[16048..16384].fill(0);
 }
 
 // A table that knows nothing, whatever stood in the cells.
@@ -90,9 +89,5 @@ pub fn clear(work: &mut [u32])
     requires { length work.old ≡ 16384 }
     ensures { work.new ≡ noughts }
 {
-    let mut i = 0;
-    while i < work.len() {
-        work[i] = 0;
-        i += 1;
-    }
+    work.fill(0);
 }

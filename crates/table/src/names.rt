@@ -21,6 +21,16 @@ fn length_of(start: u32, end: u32) -> usize
     (end - start) as usize
 }
 
+// A part of the source, which is empty where it ends before it starts.
+fn part(src: &[u8], start: u32, end: u32) -> &[u8]
+    requires { end ≤ length src.now }
+    ensures { result.now ≡ slice start end src.now }
+{
+    let to = end as usize;
+    let from = to - length_of(start, end);
+    &src[from..to]
+}
+
 // A byte, times its place in 256.
 fn weighed(b: u8, i: usize) -> u16
     ensures { result ≡ b * (1 + i % 256) }
@@ -34,33 +44,18 @@ pub fn name_sum(name: &[u8]) -> u32
     ensures { result ≡ sum_of name.now }
 {
     let mut sum = 0;
-    let mut i = 0;
-    while i < name.len() {
-        sum = wrapping_add_u16(sum, weighed(name[i], i));
-        i += 1;
+    for (i, b) in name.iter().enumerate() {
+        sum = wrapping_add_u16(sum, weighed(*b, i));
     }
     sum as u32
 }
 
-// The part of the source has the name's bytes: it is as long, and no byte differs. All are looked at, many at a time: where the
-// sums are equal the names mostly are.
+// The part of the source has the name's bytes: it is as long, and no byte differs. `==` looks at many at a time.
 fn is_name(src: &[u8], start: u32, end: u32, name: &[u8]) -> bool
     requires { end ≤ length src.now }
     ensures { result ≡ same name.now (slice start end src.now) }
 {
-    if name.len() != length_of(start, end) {
-        return false;
-    }
-    let from = start as usize;
-    let mut alike = true;
-    let mut i = 0;
-    while i < name.len() {
-        if name[i] != src[from + i] {
-            alike = false;
-        }
-        i += 1;
-    }
-    alike
+    name == part(src, start, end)
 }
 
 // The part of the source, with this sum, has the bytes of the name with that sum. Equal names have equal sums.
@@ -81,13 +76,11 @@ fn find_from(src: &[u8], work: &[u32], name: &[u8], k: u32) -> Option<u32>
 {
     let n = types(work);
     let sum = name_sum(name);
-    let mut i = k;
-    while i < n {
+    for i in k..n {
         let row = type_at(work, i);
         if has_name(src, row.start, row.end, row.sum, name, sum) {
             return Some(i);
         }
-        i += 1;
     }
     None
 }
@@ -107,15 +100,13 @@ fn first_long(work: &[u32], k: u32, n: usize) -> u32
     ensures { Shorter work.now n k result }
 {
     let all = types(work);
-    let mut i = k;
-    while i < all {
+    for i in k..all {
         let row = type_at(work, i);
         if length_of(row.start, row.end) == n {
             return i;
         }
-        i += 1;
     }
-    i
+    all
 }
 
 // The type whose name has the bytes of a part of the source, where the first k types have others. They are read only where
@@ -125,14 +116,11 @@ fn find_part(src: &[u8], work: &[u32], name: Span, k: u32) -> Option<u32>
     requires end_in_bounds { (name.end ≤ length src.now) × Passed (names_of src.now work.now) (slice name.start name.end src.now) k }
     ensures { found result ≡ place (same (slice name.start name.end src.now)) 0 (names_of src.now work.now) }
 {
-    let long = length_of(name.start, name.end);
-    let i = first_long(work, k, long);
+    let i = first_long(work, k, length_of(name.start, name.end));
     if types(work) <= i {
         return None;
     }
-    let to = name.end as usize;
-    let from = to - long;
-    find_from(src, work, &src[from..to], i)
+    find_from(src, work, part(src, name.start, name.end), i)
 }
 
 // The type that string i names, counted from 0. What is noted of it is not looked for again.
@@ -188,13 +176,11 @@ pub fn find_field_called(src: &[u8], work: &[u32], t: u32, name: &[u8]) -> Optio
 {
     let n = fields(work);
     let sum = name_sum(name);
-    let mut i = 0;
-    while i < n {
+    for i in 0..n {
         let row = field_at(work, i);
         if is_called(src, row, t, name, sum) {
             return Some(i);
         }
-        i += 1;
     }
     None
 }
@@ -205,9 +191,7 @@ pub fn find_field(src: &[u8], work: &[u32], t: u32, name: Span) -> Option<u32>
     requires end_in_bounds { name.end ≤ length src.now }
     ensures { found result ≡ place_named (called? t (slice name.start name.end src.now)) 0 (flds_of work.now) (titles_of src.now work.now) }
 {
-    let to = name.end as usize;
-    let from = to - length_of(name.start, name.end);
-    find_field_called(src, work, t, &src[from..to])
+    find_field_called(src, work, t, part(src, name.start, name.end))
 }
 
 // Where the fields of type t stand: it has none before these, and none behind.
@@ -232,15 +216,12 @@ pub fn fields_of(work: &[u32], t: u32) -> u32
     ensures { result ≡ length (places (owns? t) 0 (flds_of work.now)) }
 {
     let own = stretch_of(work, t);
-    let n = own.to;
     let mut k = 0;
-    let mut i = own.from;
-    while i < n {
+    for i in own.from..own.to {
         let row = field_at(work, i);
         if row.owner == t {
             k += 1;
         }
-        i += 1;
     }
     k
 }
@@ -252,7 +233,5 @@ pub fn string_sum(src: &[u8], work: &[u32], n: u64) -> u32
     ensures { result ≡ sum_of (slice_index_or (strs_of src.now work.now) (n - 1) []) }
 {
     let name = string_at(work, (n - 1) as u32);
-    let to = name.end as usize;
-    let from = to - length_of(name.start, name.end);
-    name_sum(&src[from..to])
+    name_sum(part(src, name.start, name.end))
 }

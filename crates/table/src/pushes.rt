@@ -9,7 +9,7 @@ ghost use Rattle.table.specs.Pushes.{Pushed, FieldTallied, Regular, share, Above
 ghost use Rattle.table.specs.Sizes.{DueSized};
 ghost use Rattle.table.specs.Notes.{NoteTaken};
 
-use super::cells::{put2, put3, put4, put5, put8};
+use super::cells::put;
 use super::rows::{FieldRow, RangeRow, TypeRow};
 use super::types::super_of;
 
@@ -19,7 +19,7 @@ pub fn push_string(work: &mut [u32], start: u32, end: u32)
     ensures { Pushed 0 16 2 (start ∷ end ∷ []) work.old work.new }
 {
     let n = work[0];
-    put2(work, 16 + 2 * (n as usize), start, end);
+    put(work, 16 + 2 * (n as usize), [start, end]);
     work[0] = n + 1;
 }
 
@@ -39,14 +39,10 @@ pub fn push_type(work: &mut [u32], t: TypeRow)
     ensures { Pushed 1 2064 5 (type_cells t) work.old work.new }
 {
     let n = work[1];
-    put5(
+    put(
         work,
         2064 + 5 * (n as usize),
-        t.start,
-        t.end,
-        t.sup,
-        t.base,
-        t.sum,
+        [t.start, t.end, t.sup, t.base, t.sum],
     );
     work[1] = n + 1;
 }
@@ -60,10 +56,14 @@ fn put_field(work: &mut [u32], at: usize, d: FieldRow)
     let a_high = (d.a / 4294967296) as u32;
     let e_low = (d.e % 4294967296) as u32;
     let e_high = (d.e / 4294967296) as u32;
-    put8(
-        work, at, d.start, d.end, d.owner, d.kind, a_low, a_high, e_low, e_high,
+    put(
+        work,
+        at,
+        [
+            d.start, d.end, d.owner, d.kind, a_low, a_high, e_low, e_high, d.sum, 0, 0, 0, 0, 0, 0,
+            0,
+        ],
     );
-    put8(work, at + 8, d.sum, 0, 0, 0, 0, 0, 0, 0);
 }
 
 // Among the tallies of type t, that the n-th field is its own: the fields of t stand from the first such on and up to the last.
@@ -149,7 +149,7 @@ fn tally_above(work: &mut [u32], up: u32, b: u32, end: u32)
     let at = 16048 + 8 * ((up - 1) as usize) + 5;
     let c = work[at];
     if c <= b {
-        put2(work, at, b + 1, end);
+        put(work, at, [b + 1, end]);
         return;
     }
     if c != b + 1 {
@@ -175,7 +175,7 @@ fn tally_range(work: &mut [u32], r: RangeRow, up: u32, n: u32)
     let at = 16048 + 8 * (r.typ as usize) + 1;
     let sum = work[at];
     let all = work[16304] + share_of(up, r.count);
-    put4(work, at, sum + r.count, r.block + 1, sum, n);
+    put(work, at, [sum + r.count, r.block + 1, sum, n]);
     work[16304] = all;
     tally_above(work, up, r.block, r.start + r.count);
 }
@@ -192,7 +192,7 @@ pub fn push_range(work: &mut [u32], r: RangeRow)
     let link = work[16048 + 8 * (r.typ as usize) + 4] % 4096;
     let whose = r.typ + 32 * r.block + 1048576 * link;
     let extent = r.start + 65536 * r.count;
-    put3(work, 4272 + 3 * (n as usize), whose, extent, r.first);
+    put(work, 4272 + 3 * (n as usize), [whose, extent, r.first]);
     work[3] = n + 1;
     tally_range(work, r, up, n);
 }
@@ -205,7 +205,7 @@ pub fn push_due(work: &mut [u32], field: u32, values: u32, size: u64)
     let n = work[4];
     let low = (size % 4294967296) as u32;
     let high = (size / 4294967296) as u32;
-    put4(work, 7344 + 4 * (n as usize), field, values, low, high);
+    put(work, 7344 + 4 * (n as usize), [field, values, low, high]);
     work[4] = n + 1;
 }
 
@@ -217,7 +217,7 @@ pub fn size_due(work: &mut [u32], i: u32, size: u64)
 {
     let low = (size % 4294967296) as u32;
     let high = (size / 4294967296) as u32;
-    put2(work, 7344 + 4 * (i as usize) + 2, low, high);
+    put(work, 7344 + 4 * (i as usize) + 2, [low, high]);
 }
 
 pub fn push_chunk(work: &mut [u32], field: u32, start: u32, end: u32)
@@ -228,6 +228,6 @@ pub fn push_chunk(work: &mut [u32], field: u32, start: u32, end: u32)
 {
     let n = work[5];
     let whose = field + 128 * start;
-    put2(work, 7856 + 2 * (n as usize), whose, end);
+    put(work, 7856 + 2 * (n as usize), [whose, end]);
     work[5] = n + 1;
 }

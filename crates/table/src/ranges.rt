@@ -1,31 +1,15 @@
-// Questions to the ranges: one walk for "is there one", one for "how many objects", and `Ask` says of which ranges.
-ghost use Rattle.std.specs.Prelude.{◌≡◌, ℕ, ◌-◌, ◌<◌, ◌≤◌, true, ◌&&◌, [], ◌∷◌, nat_le, slice_index};
+// Questions to the ranges: one walk for "is there one", one for "how many objects", of the ranges that pass a test.
+ghost use Rattle.std.specs.Prelude.{◌≡◌, ℕ, ◌-◌, ◌<◌, ◌≤◌, true, ◌&&◌, Bool, nat_le, slice_index};
 ghost use Rattle.paper.specs.Lists.{any, all, total};
-ghost use Rattle.paper.specs.Ledger.{of?, size, before?, base?, holds?};
+ghost use Rattle.paper.specs.Ledger.{Range, of?, size, before?, base?, holds?};
 ghost use Rattle.paper.specs.Rules.{entry_of?, around?, clear?};
 ghost use Rattle.table.specs.View.{types_of, log_of, tally, Ok};
 ghost use Rattle.table.specs.Told.{up_to?};
 ghost use Rattle.table.specs.Answers.{range_in};
-ghost use Rattle.table.specs.Asks.{asks};
+ghost use Rattle.table.specs.Asks.{Tests};
 
 use super::rows::{RangeRow, range_at, ranges};
 use super::types::super_of;
-
-#[derive(Clone, Copy)]
-pub enum Ask {
-    // of type t
-    Of(u32),
-    // that block b adds to type t
-    Entry(u32, u32),
-    // of type t, that a block before b added
-    Before(u32, u32),
-    // that block b adds to type u, around n objects from a start
-    Around(u32, u32, u32, u32),
-    // of type t, in which object n of the base pool lies
-    Holding(u32, u64),
-    // of a base type
-    Base,
-}
 
 fn is_entry(r: RangeRow, b: u32, t: u32) -> bool
     ensures { result ≡ entry_of? b t (range_in r) }
@@ -67,61 +51,33 @@ fn is_holding(r: RangeRow, t: u32, n: u64) -> bool
     n <= last
 }
 
-fn asked(work: &[u32], r: RangeRow, q: Ask) -> bool
-    requires { Ok work.now }
-    ensures { result ≡ asks (types_of work.now) q (range_in r) }
+// There is a range that passes the test.
+fn any_range<F: Fn(RangeRow) -> bool>(work: &[u32], passes: F) -> bool
+    requires ok { Ok work.now }
+    requires callable { F.IsAlwaysCallable passes }
+    ensures { (p : Range → Bool) → Tests (F.post passes) p → result ≡ any p (log_of work.now) }
 {
-    match q {
-        Ask::Of(t) => r.typ == t,
-        Ask::Entry(b, t) => is_entry(r, b, t),
-        Ask::Before(b, t) => is_before(r, b, t),
-        Ask::Around(b, u, start, n) => is_around(r, b, u, start, n),
-        Ask::Holding(t, n) => is_holding(r, t, n),
-        Ask::Base => super_of(work, r.typ) == 0,
-    }
-}
-
-fn any_range(work: &[u32], q: Ask) -> bool
-    requires { Ok work.now }
-    ensures { result ≡ any (asks (types_of work.now) q) (log_of work.now) }
-{
-    let n = ranges(work);
-    let mut i = 0;
-    while i < n {
-        let r = range_at(work, i);
-        if asked(work, r, q) {
+    for i in 0..ranges(work) {
+        if passes(range_at(work, i)) {
             return true;
         }
-        i += 1;
     }
     false
 }
 
-// What a range adds to a sum.
-fn share(work: &[u32], r: RangeRow, q: Ask) -> u32
-    requires { Ok work.now }
-    ensures value { result ≡ total (asks (types_of work.now) q) size (range_in r ∷ []) }
-    ensures upper_bound { result ≤ r.count }
-{
-    if asked(work, r, q) {
-        return r.count;
-    }
-    0
-}
-
-fn sum_of(work: &[u32], q: Ask) -> u32
-    requires { Ok work.now }
-    ensures value { result ≡ total (asks (types_of work.now) q) size (log_of work.now) }
+// The objects of the ranges that pass the test.
+fn sum_of<F: Fn(RangeRow) -> bool>(work: &[u32], passes: F) -> u32
+    requires ok { Ok work.now }
+    requires callable { F.IsAlwaysCallable passes }
+    ensures value { (p : Range → Bool) → Tests (F.post passes) p → result ≡ total p size (log_of work.now) }
     ensures upper_bound { result ≤ 67107840 }
 {
-    let n = ranges(work);
-    let mut i = 0;
     let mut sum = 0;
-    while i < n {
+    for i in 0..ranges(work) {
         let r = range_at(work, i);
-        let x = share(work, r, q);
-        sum += x;
-        i += 1;
+        if passes(r) {
+            sum += r.count;
+        }
     }
     sum
 }
@@ -216,7 +172,7 @@ pub fn entered(work: &[u32], b: u32, t: u32) -> bool
     if none_from(work, b, t) {
         return false;
     }
-    any_range(work, Ask::Entry(b, t))
+    any_range(work, |r| is_entry(r, b, t))
 }
 
 // A range of type u and block b lies around n objects from start.
@@ -227,7 +183,7 @@ pub fn around(work: &[u32], b: u32, u: u32, start: u32, n: u32) -> bool
     if last_around(work, b, u, start, n) {
         return true;
     }
-    any_range(work, Ask::Around(b, u, start, n))
+    any_range(work, |r| is_around(r, b, u, start, n))
 }
 
 // Object n of a base pool is of type t or below it.
@@ -235,7 +191,7 @@ pub fn holds(work: &[u32], t: u32, n: u64) -> bool
     requires { Ok work.now }
     ensures { result ≡ any (holds? t n) (log_of work.now) }
 {
-    any_range(work, Ask::Holding(t, n))
+    any_range(work, |r| is_holding(r, t, n))
 }
 
 // The objects of type t and of all below it.
@@ -250,7 +206,7 @@ pub fn objects_of(work: &[u32], t: u32) -> u32
             return sum;
         }
     }
-    sum_of(work, Ask::Of(t))
+    sum_of(work, |r| r.typ == t)
 }
 
 // The objects of type t that the blocks before b have added, by the tallies alone; the largest number there is where they do not
@@ -282,7 +238,7 @@ pub fn pool_before(work: &[u32], b: u32, t: u32) -> u32
     if known <= 67107840 {
         return known;
     }
-    sum_of(work, Ask::Before(b, t))
+    sum_of(work, |r| is_before(r, b, t))
 }
 
 // The objects that block b adds to type t: the count of its range, of which there is at most one.
@@ -294,7 +250,7 @@ pub fn count_in(work: &[u32], b: u32, t: u32) -> u32
     if none_from(work, b, t) {
         return 0;
     }
-    sum_of(work, Ask::Entry(b, t))
+    sum_of(work, |r| is_entry(r, b, t))
 }
 
 // The objects of all base pools.
@@ -309,7 +265,7 @@ pub fn objects_in_all(work: &[u32]) -> u32
             return sum;
         }
     }
-    sum_of(work, Ask::Base)
+    sum_of(work, |r| super_of(work, r.typ) == 0)
 }
 
 fn is_clear(work: &[u32], r: RangeRow, b: u32, up: u32, start: u32) -> bool
@@ -333,16 +289,7 @@ fn walk_clear(work: &[u32], b: u32, up: u32, start: u32) -> bool
     requires up_nonzero { 0 < up }
     ensures { result ≡ all (clear? b (types_of work.now) (up - 1) start) (log_of work.now) }
 {
-    let n = ranges(work);
-    let mut i = 0;
-    while i < n {
-        let r = range_at(work, i);
-        if !is_clear(work, r, b, up, start) {
-            return false;
-        }
-        i += 1;
-    }
-    true
+    !any_range(work, |r| !is_clear(work, r, b, up, start))
 }
 
 // Each range that block b adds to a type right below type up - 1 ends at or before start.

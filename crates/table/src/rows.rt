@@ -76,6 +76,7 @@ pub struct Counts {
     pub chunks: u32,
 }
 
+// One function over them all would take from its callers which cell is meant, and only this crate knows a cell's number.
 pub fn strings(work: &[u32]) -> u32
     requires { Ok work.now }
     ensures { result ≡ slice_index work.now 0 }

@@ -22,6 +22,7 @@ use Rattle.texts.specs.Told.{Told}
 use Rattle.texts.specs.Chunks.{told-all}
 use Rattle.texts.specs.Maps.{put_map, held_to, Held, held-as, AllHeld, word_held, map-held}
 use Rattle.texts.specs.MapWays.{kept_in, word_in, map_in, line_in}
+use Rattle.texts.specs.declared.Taken.{Taken}
 
 -- the answer is that of n maps of these kinds, for every state that has these numbers
 pub record MapsTaken (n strings : ℕ) (pools starts first last kinds t : List ℕ) (from : ℕ) (l : List ℕ) (at : ℕ) (m : List ℕ) (o : prelude.Option Taken) : Type 0 where

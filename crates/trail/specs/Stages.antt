@@ -361,51 +361,56 @@ pub record Behind? (f : List ℕ) (rest : ℕ) (g : Stage) (at : ℕ) (t : Trail
   pub tells : Tells f here t.at t
   pub left : steps rest here f t.at ≡ got g at
 
-pub record Walking (f : List ℕ) (k rest : ℕ) (t : Trail) : Type 0 where
-  pub left : length f ≤ 1048576 → (g : Stage) (at : ℕ) → steps k begin f 0 ≡ got g at → Behind? f rest g at t
+pub record Walking (f : List ℕ) (k i : ℕ) (t : Trail) : Type 0 where
+  pub left : length f ≤ 1048576 → (g : Stage) (at : ℕ) → steps k begin f 0 ≡ got g at → Behind? f (k - i) g at t
 
-pub walk_start : (f : List ℕ) (k : ℕ) {t : Trail} → Begins t → Walking f k k t
+pub walk_start : (f : List ℕ) (k : ℕ) {t : Trail} → Begins t → Walking f k 0 t
 walk_start f k B =
+    let z : k - 0 ≡ k = omega arith in
     record {
       left = λ size g at h.
           let T = B.told f size in
-          record { here = begin; tells = tells-there T; left = ap (steps k begin f) T.place ∙ h };
+          record { here = begin; tells = tells-there T; left = rw z (ap (steps k begin f) T.place ∙ h) };
     }
 
-pub steps_first : (k : ℕ) (g : Stage) (f : List ℕ) (at : ℕ) (h : Stage) (q : ℕ) → 0 < k → steps k g f at ≡ got h q → (m : Stage) × (p : ℕ) × (onward g f at ≡ got m p) × (steps (k - 1) m f p ≡ got h q)
+pub steps_first : (k : ℕ) (g : Stage) (f : List ℕ) (at : ℕ) (h : Stage) (q : ℕ) → steps (suc k) g f at ≡ got h q → (m : Stage) × (p : ℕ) × (onward g f at ≡ got m p) × (steps k m f p ≡ got h q)
 unfolding steps
-steps_first zero g f at h q lt r = absurd (omega arith)
-steps_first (suc k) g f at h q lt r =
-    let A = bind_inv (onward g) _ f at h q r in
-    let z : suc k - 1 ≡ k = omega arith in
-    (A.value, A.next, A.first, ap (λ (n : ℕ). steps n A.value f A.next) z ∙ A.rest)
+steps_first k g f at h q r =
+    let A = bind_inv (onward g) (steps k) f at h q r in
+    (A.value, A.next, A.first, A.rest)
+
+-- of n - i steps the first, and those behind it
+pub steps-left : {n i : ℕ} → i < n → (g : Stage) (f : List ℕ) (at : ℕ) (h : Stage) (q : ℕ) → steps (n - i) g f at ≡ got h q → (m : Stage) × (p : ℕ) × (onward g f at ≡ got m p) × (steps (n - (i + 1)) m f p ≡ got h q)
+steps-left {n} {i} lt g f at h q r =
+    let z : n - i ≡ suc (n - (i + 1)) = omega arith in
+    steps_first (n - (i + 1)) g f at h q (rw z at r)
 
 pub steps-none : (k : ℕ) (g : Stage) (f : List ℕ) (at : ℕ) (h : Stage) (q : ℕ) → k ≤ 0 → steps k g f at ≡ got h q → (g ≡ h) × (at ≡ q)
 unfolding steps
 steps-none zero g f at h q le r = give-got g f at h q r
 steps-none (suc k) g f at h q le r = absurd (omega arith)
 
-module _ {f : List ℕ} {k rest : ℕ} {t : Trail} (g : Walking f k rest t) where
-  pub walk-on : 0 < rest → {r : Trail} → StepPast f t r → Walking f k (rest - 1) r
-  walk-on due {r} S =
+module _ {f : List ℕ} {k i : ℕ} {t : Trail} (g : Walking f k i t) where
+  pub walk-on : i < k → {r : Trail} → StepPast f t r → Walking f k (i + 1) r
+  walk-on lt {r} S =
       record {
         left = λ size h at w.
             let B = g.left size h at w in
-            let (m, p, one, more) = steps_first rest B.here f t.at h at due B.left in
+            let (m, p, one, more) = steps-left lt B.here f t.at h at B.left in
             let T = S.told B.here t.at B.tells m p one in
             record {
               here = m;
               tells = tells-there T;
-              left = ap (steps (rest - 1) m f) T.place ∙ more;
+              left = ap (steps (k - (i + 1)) m f) T.place ∙ more;
             };
       }
 
-  pub walk-done : rest ≤ 0 → Walked f k t
+  pub walk-done : k ≤ i → Walked f k t
   walk-done le =
       record {
         told = λ size h at w.
             let B = g.left size h at w in
-            let (x, y) = steps-none rest B.here f t.at h at le B.left in
+            let (x, y) = steps-none (k - i) B.here f t.at h at (omega arith) B.left in
             let T = B.tells in
             subst (λ (z : Stage). Tells f z at t) x (record { knows = T.knows; place = y; pairs = T.pairs; left = T.left; end = T.end });
       }

@@ -1,5 +1,5 @@
 -- Strings by their numbers, where the pairs begin at known places. Assumes nothing.
-use Rattle.std.specs.Prelude.{◌≡◌, Bool, true, false, ◌&&◌, leb, get_or, take, drop}
+use Rattle.std.specs.Prelude.{Err, Ok, ◌≡◌, Bool, true, false, ◌&&◌, leb, get_or, take, drop}
 use Rattle.std.proofs.Math.Path.{refl}
 use Rattle.std.proofs.Common.{sym, ap, ap₂, ◌∙◌, subst, add-one, length-append, length-take, drop_of_length-le, drop-cons, get_or-append-add, get_or-take, take_all, leb-true}
 use mathlib.Core.List.{List, [], ◌∷◌, ◌++◌, append_assoc, append-nil}
@@ -16,12 +16,9 @@ use Rattle.paper.specs.Keeps.{hold?}
 use Rattle.paper.specs.File.{string_end, string_block}
 use Rattle.laws.specs.Laws.{not-got, bind_inv}
 use Rattle.laws.specs.Bools.{and_split}
-use Rattle.numbers.specs.Cursors.{Read, was-got, was-refused}
+use Rattle.numbers.specs.Cursors.{Outcome, Read, was-got, was-refused}
 use Rattle.numbers.specs.declared.Cursor.{Cursor}
 use Rattle.numbers.specs.declared.Refusal.{Refusal}
-use Rattle.numbers.specs.declared.Number.{Number}
-use Rattle.numbers.specs.declared.Number.TheVariants.{Got, No}
-use Rattle.table.specs.NameLaws.{lengths_differ, name-start, differs-on, alike-on, alike_end}
 use Rattle.reader.specs.Strings.{ends, piece, pieces, Rising}
 use Rattle.reader.specs.StringLaws.{four-on, block-got}
 use Rattle.reader.specs.Runs.{times-many}
@@ -31,11 +28,11 @@ use Rattle.trail.specs.Told.{Told, told_none, number-got, FirstOf, times-first, 
 
 -- ── numbers of four bytes ──
 
-module _ {f : List ℕ} {at b : ℕ} {a : Number} (R : Read (fixed 4) b f at a) where
-  pub four-none : {u : Refusal} {h : Behind} → a ≡ No u → Told (fixed 4) (λ n. n) f at h
+module _ {f : List ℕ} {at b : ℕ} {a : Outcome ℕ} (R : Read (fixed 4) b f at a) where
+  pub four-none : {u : Refusal} {h : Behind} → a ≡ Err u → Told (fixed 4) (λ n. n) f at h
   four-none is = told_none (λ v q h. not-got (sym (was-refused R is).says ∙ h))
 
-  pub four-one : {x : ℕ} {c : Cursor} → a ≡ Got x c → Told (fixed 4) (λ n. n) f at (record { value = x; at = c.at })
+  pub four-one : {x : ℕ} {c : Cursor} → a ≡ Ok (x, c) → Told (fixed 4) (λ n. n) f at (record { value = x; at = c.at })
   four-one is = record { value = λ v q h. cc (sym (was-got R is).says ∙ h); place = λ v q h. cc (sym (was-got R is).says ∙ h) }
 
 -- ── parts of the file ──
@@ -358,27 +355,3 @@ module _ {f starts : List ℕ} {blocks n i k : ℕ} (g : Seeking f starts blocks
 -- the names' laws are stated for a part of the source, and all of b is one
 whole : (b : List ℕ) → slice 0 (length b) b ≡ b
 whole b = take_all (length b) b (omega arith)
-
--- whether the bytes before the i-th are the same
-pub record SoFar (a b : List ℕ) (i : ℕ) (alike : Bool) : Type 0 where
-  pub is : same a (slice 0 (length b) b) ≡ (alike && same (drop i a) (slice (0 + i) (length b) b))
-
-module _ (a b : List ℕ) where
-  pub bytes-long : (length a ≡ length b → ⊥) → false ≡ same a b
-  bytes-long ne = sym (lengths_differ a b ne)
-
-  pub bytes-start : SoFar a b 0 true
-  bytes-start = record { is = name-start a b 0 (length b) (omega arith) }
-
-  module _ {i : ℕ} {alike : Bool} (S : SoFar a b i alike) where
-    from_start : 0 + i ≡ i
-    from_start = omega arith
-
-    pub bytes-differ : i < length a → i < length b → (get_or a i 0 ≡ get_or b i 0 → ⊥) → {r : Bool} → r ≡ false → SoFar a b (i + 1) r
-    bytes-differ lt lt' ne z = record { is = differs-on a b 0 (length b) (omega arith) i alike S.is lt (omega arith) (λ e. ne (e ∙ ap (λ (k : ℕ). get_or b k 0) from_start)) z }
-
-    pub bytes-alike : i < length a → i < length b → get_or a i 0 ≡ get_or b i 0 → {r : Bool} → r ≡ alike → SoFar a b (i + 1) r
-    bytes-alike lt lt' e z = record { is = alike-on a b 0 (length b) (omega arith) i alike S.is lt (omega arith) (e ∙ ap (λ (k : ℕ). get_or b k 0) (sym from_start)) z }
-
-    pub bytes-end : length a ≤ i → length b ≤ i → alike ≡ same a b
-    bytes-end h k = alike_end a b 0 (length b) (omega arith) i alike S.is h (omega arith) ∙ ap (same a) (whole b)

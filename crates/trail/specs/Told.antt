@@ -1,10 +1,10 @@
 -- What was read once is passed over: for a reading that succeeds, the place behind it and a number of what it read.
 -- Assumes nothing.
-use Rattle.std.specs.Prelude.{◌≡◌, refl, true, false, replicate}
+use Rattle.std.specs.Prelude.{Err, Ok, ◌≡◌, refl, true, false, replicate}
 use Rattle.std.proofs.Math.Path.{sym, ap}
 use Rattle.std.proofs.Common.{◌∙◌}
 use mathlib.Core.List.{List, [], ◌∷◌}
-use Prim.Native.Nat.{ℕ, zero, suc, ◌-◌, ◌≤◌, ◌<◌}
+use Prim.Native.Nat.{ℕ, zero, suc, ◌+◌, ◌-◌, ◌≤◌, ◌<◌}
 use native.Mathlib.Omega.{arith}
 use Rattle.paper.specs.Reader.{Reader, Out, got, no, turned, and_then, hold, must, Rule, ◌or_no◌, give, each, times}
 use Rattle.paper.specs.Numbers.{v64, number}
@@ -14,15 +14,11 @@ use Rattle.paper.specs.Rules.{any_type, field_name_rules, end_rules, noted}
 use Rattle.paper.specs.File.{Upto, restrictions, kind, end_offset, new_field, upto_new}
 use Rattle.paper.specs.Keeps.{hold?}
 use Rattle.laws.specs.Laws.{not-got, bind_inv, each-inv}
-use Rattle.numbers.specs.Cursors.{Read, was-got, was-refused}
+use Rattle.numbers.specs.Cursors.{Outcome, Read, was-got, was-refused}
 use Rattle.numbers.specs.declared.Cursor.{Cursor}
 use Rattle.numbers.specs.declared.Refusal.{Refusal}
-use Rattle.numbers.specs.declared.Number.{Number}
-use Rattle.numbers.specs.declared.Number.TheVariants.{Got, No}
 use Rattle.reader.specs.Kinds.{named_by, kind_in, out_kind, KindReads}
 use Rattle.reader.specs.declared.kinds.Kind.{Kind as KindRow}
-use Rattle.reader.specs.declared.kinds.KindRead.{KindRead}
-use Rattle.reader.specs.declared.kinds.KindRead.TheVariants as kinds
 use Rattle.laws.specs.Says.{Bytes}
 use Rattle.trail.specs.declared.past.Behind.{Behind}
 use Rattle.trail.specs.declared.past.NewField.{NewField}
@@ -50,11 +46,11 @@ told_none never = record { value = λ v q h. absurd (never v q h); place = λ v 
 
 -- ── a number ──
 
-module _ {f : List ℕ} {at : ℕ} {a : Number} (R : Read v64 18446744073709551616 f at a) where
-  pub past-none : {u : Refusal} {b : Behind} → a ≡ No u → Told v64 same f at b
+module _ {f : List ℕ} {at : ℕ} {a : Outcome ℕ} (R : Read v64 18446744073709551616 f at a) where
+  pub past-none : {u : Refusal} {b : Behind} → a ≡ Err u → Told v64 same f at b
   past-none is = told_none (λ v q h. not-got (sym (was-refused R is).says ∙ h))
 
-  pub past_one : {x : ℕ} {c : Cursor} → a ≡ Got x c → Told v64 same f at (record { value = x; at = c.at })
+  pub past_one : {x : ℕ} {c : Cursor} → a ≡ Ok (x, c) → Told v64 same f at (record { value = x; at = c.at })
   past_one is = record { value = λ v q h. cc (sym (was-got R is).says ∙ h); place = λ v q h. cc (sym (was-got R is).says ∙ h) }
 
 hold-got : {A : Type 0} (rs : List Rule) (p : ℕ) (a : A) (m : ℕ) (v : A) (e : ℕ) → hold rs p (got a m) ≡ got v e → (a ≡ v) × (m ≡ e) × (hold? rs ≡ true)
@@ -119,20 +115,24 @@ module _ {S A : Type 0} (read : S → Reader A) (after : S → A → S) (end : S
     pub reads : times rest read after state f b.at ≡ got more q
     pub ends : end (fold after s l) ≡ end (fold after state more)
 
-  pub record Going (n : ℕ) (f : List ℕ) (at last rest : ℕ) (b : Behind) : Type 0 where
-    pub left : (s : S) → end s ≡ last → (l : List A) (q : ℕ) → times n read after s f at ≡ got l q → Left s l q f rest b
+  -- i of n were passed over
+  pub record Going (n : ℕ) (f : List ℕ) (at last i : ℕ) (b : Behind) : Type 0 where
+    pub left : (s : S) → end s ≡ last → (l : List A) (q : ℕ) → times n read after s f at ≡ got l q → Left s l q f (n - i) b
 
-  pub going_start : (n : ℕ) (f : List ℕ) (at last : ℕ) → Going n f at last n (record { value = last; at = at })
-  going_start n f at last = record { left = λ s e l q h. record { state = s; more = l; here = e; reads = h; ends = refl } }
+  pub going_start : (n : ℕ) (f : List ℕ) (at last : ℕ) → Going n f at last 0 (record { value = last; at = at })
+  going_start n f at last =
+      let z : n - 0 ≡ n = omega arith in
+      record { left = λ s e l q h. record { state = s; more = l; here = e; reads = rw z h; ends = refl } }
 
-  module _ {n : ℕ} {f : List ℕ} {at last rest : ℕ} {b : Behind} (g : Going n f at last rest b) where
-    pub going_on : 0 < rest → {b₂ : Behind} → ((s : S) → end s ≡ b.value → Told (read s) (λ a. end (after s a)) f b.at b₂) → Going n f at last (rest - 1) b₂
+  module _ {n : ℕ} {f : List ℕ} {at last i : ℕ} {b : Behind} (g : Going n f at last i b) where
+    pub going_on : i < n → {b₂ : Behind} → ((s : S) → end s ≡ b.value → Told (read s) (λ a. end (after s a)) f b.at b₂) → Going n f at last (i + 1) b₂
     unfolding fold
-    going_on due {b₂} one =
+    going_on lt {b₂} one =
+        let less : n - i ≡ suc (n - (i + 1)) = omega arith in
         record {
           left = λ s e l q h.
               let B = g.left s e l q h in
-              let F = times-first read after B.state f b.at B.more q rest due B.reads in
+              let F = one_more read after B.state f b.at B.more q (n - (i + 1)) (rw less at B.reads) in
               let T = one B.state B.here in
               let z = T.place F.value F.next F.first in
               record {
@@ -144,17 +144,17 @@ module _ {S A : Type 0} (read : S → Reader A) (after : S → A → S) (end : S
               };
         }
 
-    pub going_done : rest ≤ 0 → (s : S) → end s ≡ last → Told (times n read after s) (last_end after end s) f at b
+    pub going_done : n ≤ i → (s : S) → end s ≡ last → Told (times n read after s) (last_end after end s) f at b
     unfolding fold
     going_done le s e =
         record {
           value = λ l q h.
               let B = g.left s e l q h in
-              let N = times_none read after B.state f b.at B.more q rest le B.reads in
+              let N = times_none read after B.state f b.at B.more q (n - i) (omega arith) B.reads in
               sym B.here ∙ sym (B.ends ∙ ap (λ (x : List A). end (fold after B.state x)) N.0);
           place = λ l q h.
               let B = g.left s e l q h in
-              (times_none read after B.state f b.at B.more q rest le B.reads).1;
+              (times_none read after B.state f b.at B.more q (n - i) (omega arith) B.reads).1;
         }
 
 -- ── a new field ──
@@ -209,17 +209,17 @@ pub record NewTold (f : List ℕ) (at : ℕ) (r : NewField) : Type 0 where
   pub kept : RowKept r.kind
   pub told : (t : ℕ) (u : Upto) (g : New × ℕ) (q : ℕ) → new_field any_type t u f at ≡ got g q → NewIs g q r
 
-module _ {f : List ℕ} {at : ℕ} {b₁ : Behind} (P : Told v64 same f at b₁) {k : KindRead} (K : KindReads (named_by false 0) f b₁.at k) where
+module _ {f : List ℕ} {at : ℕ} {b₁ : Behind} (P : Told v64 same f at b₁) {k : Outcome KindRow} (K : KindReads (named_by false 0) f b₁.at k) where
   here : {t : ℕ} {u : Upto} {g : New × ℕ} {q : ℕ} (N : NewParts t u f at g q) → out_kind k ≡ got (noted N.own) N.after-kind
   unfolding restrictions named_by
   here N =
       let z = (ruled P _).place N.none? N.after_none N.none_read in
       K.says ∙ ap (λ (p : ℕ). turned noted (kind any_type f p)) z ∙ ap (turned noted) N.kind-read
 
-  pub new-no-kind : {e : Refusal} → k ≡ kinds.No e → {r : NewField} → r.kind.first ≤ 32 → RowKept r.kind → NewTold f at r
+  pub new-no-kind : {e : Refusal} → k ≡ Err e → {r : NewField} → r.kind.first ≤ 32 → RowKept r.kind → NewTold f at r
   new-no-kind is row kept = record { row = row; kept = kept; told = λ t u g q h. not-got (ap out_kind (sym is) ∙ here (new-parts t u f at g q h)) }
 
-  module _ {row : KindRow} {c : Cursor} (is : k ≡ kinds.Got row c) {b₂ : Behind} (Q : Told v64 same f c.at b₂) {b₃ : Behind} (E : Told v64 same f b₂.at b₃) where
+  module _ {row : KindRow} {c : Cursor} (is : k ≡ Ok (row, c)) {b₂ : Behind} (Q : Told v64 same f c.at b₂) {b₃ : Behind} (E : Told v64 same f b₂.at b₃) where
     fits : row.first ≤ 32
     fits = rw is at K.told
 

@@ -7,8 +7,8 @@ ghost use Rattle.paper.specs.Rules.{any_type};
 ghost use Rattle.paper.specs.File.{Upto, end_offset, new_field, upto_new};
 ghost use Rattle.trail.specs.Told.{Told, NewTold, last_end, same, end_of, after};
 
-use numbers::{Cursor, Number};
-use reader::kinds::{Kind, KindRead, Named, read_kind};
+use numbers::Cursor;
+use reader::kinds::{Kind, Named, read_kind};
 
 // A number, and the place behind it.
 #[derive(Clone, Copy)]
@@ -22,7 +22,7 @@ pub fn past(file: &[u8], at: usize) -> Behind
 {
     let c = Cursor { at };
     let a = c.v64(file);
-    let Number::Got(value, next) = a else {
+    let Ok((value, next)) = a else {
         return Behind { value: 0, at };
     };
     Behind { value, at: next.at }
@@ -33,10 +33,8 @@ pub fn past_ends(file: &[u8], at: usize, n: u64, last: u64) -> Behind
     ensures { Told (times n end_offset after last) (last_end after same last) file.now at result }
 {
     let mut here = Behind { value: last, at };
-    let mut rest = n;
-    while 0 < rest {
+    for _ in 0..n {
         here = past(file, here.at);
-        rest -= 1;
     }
     here
 }
@@ -61,7 +59,7 @@ pub fn new_at(file: &[u8], at: usize) -> NewField
     };
     let c = Cursor { at: none.at };
     let k = read_kind(file, c, any);
-    let KindRead::Got(kind, next) = k else {
+    let Ok((kind, next)) = k else {
         return NewField {
             kind: Kind {
                 first: 5,
@@ -99,10 +97,8 @@ pub fn past_news(file: &[u8], at: usize, n: u64, last: u64) -> Behind
     ensures { (t : ℕ) (u : Upto) → u.end ≡ last → Told (times n (new_field any_type t) (upto_new t) u) (last_end (upto_new t) end_of u) file.now at result }
 {
     let mut here = Behind { value: last, at };
-    let mut rest = n;
-    while 0 < rest {
+    for _ in 0..n {
         here = past_new(file, here.at);
-        rest -= 1;
     }
     here
 }

@@ -6,7 +6,7 @@ ghost use Rattle.trail.specs.Told.{Told, same as it};
 ghost use Rattle.trail.specs.Texts.{PartOf, InBlock, Text};
 
 use crate::past::{Behind, past};
-use numbers::{Cursor, Number};
+use numbers::Cursor;
 
 // A part of the file.
 #[derive(Clone, Copy)]
@@ -20,7 +20,7 @@ pub fn four(file: &[u8], at: usize) -> Behind
 {
     let c = Cursor { at };
     let a = c.be::<4>(file);
-    let Number::Got(value, next) = a else {
+    let Ok((value, next)) = a else {
         return Behind { value: 0, at };
     };
     Behind { value, at: next.at }
@@ -76,8 +76,7 @@ pub fn string_at(file: &[u8], starts: [u32; 32], blocks: u32, n: u64) -> Span
         return Span { start: 0, end: 0 };
     }
     let mut k = n - 1;
-    let mut i: usize = 0;
-    while i < 32 {
+    for i in 0..32 {
         if blocks as usize <= i {
             return Span { start: 0, end: 0 };
         }
@@ -87,25 +86,13 @@ pub fn string_at(file: &[u8], starts: [u32; 32], blocks: u32, n: u64) -> Span
             return string_in(file, c.at, c.value, k);
         }
         k -= c.value;
-        i += 1;
     }
     Span { start: 0, end: 0 }
 }
 
-// The same bytes. All are looked at, many at a time: names of one length are mostly equal where they are compared.
+// The same bytes.
 pub fn same_bytes(a: &[u8], b: &[u8]) -> bool
     ensures { result ≡ same a.now b.now }
 {
-    if a.len() != b.len() {
-        return false;
-    }
-    let mut alike = true;
-    let mut i = 0;
-    while i < a.len() {
-        if a[i] != b[i] {
-            alike = false;
-        }
-        i += 1;
-    }
-    alike
+    a == b
 }

@@ -57,8 +57,7 @@ fn is_at(file: &[u8], name: Span, from: usize, to: usize) -> bool
 fn stands_at(froms: [u32; 32], tos: [u32; 32], n: u32, name: Span) -> u32
     ensures { StandsAt n froms tos name result }
 {
-    let mut i: u32 = 0;
-    while i < n {
+    for i in 0..n {
         let j = i as usize;
         if 32 <= j {
             return n;
@@ -68,7 +67,6 @@ fn stands_at(froms: [u32; 32], tos: [u32; 32], n: u32, name: Span) -> u32
                 return i;
             }
         }
-        i += 1;
     }
     n
 }
@@ -86,8 +84,7 @@ pub fn find(file: &[u8], t: Trail, name: Span) -> u32
     if there < n {
         return there;
     }
-    let mut i: u32 = 0;
-    while i < n {
+    for i in 0..n {
         let j = i as usize;
         if 32 <= j {
             return n;
@@ -97,7 +94,6 @@ pub fn find(file: &[u8], t: Trail, name: Span) -> u32
         if is_at(file, name, from, to) {
             return i;
         }
-        i += 1;
     }
     n
 }
@@ -403,10 +399,8 @@ pub fn walk(file: &[u8], steps: u64) -> Trail
     ensures { Walked file.now steps result }
 {
     let mut t = start();
-    let mut rest = steps;
-    while 0 < rest {
+    for _ in 0..steps {
         t = step(file, t);
-        rest -= 1;
     }
     t
 }

@@ -55,7 +55,7 @@ module _ {f l : List ℕ} {before : Counts} {at : ℕ} (L : LateReady f l before
         ∙ ap (λ (named : ℕ → Bool). refusal_of (front named (view f l₁) f at)) same-named
         ∙ ap (λ (u : Said). refusal_of (front (a_type? (view f l)) u.state f at)) (cut.says f L.holds).says
 
-    pub late-got : {x : ℕ} {c : Cursor} → a ≡ Ok (x , c) → LateDone f l before at (Err (record { fault = fault.Kind; place = c.at })) l₂
+    pub late-got : {x : ℕ} {c : Cursor} → a ≡ Ok (x, c) → LateDone f l before at (Err (record { fault = fault.Kind; place = c.at })) l₂
     late-got is = record { holds = passed.holds; says = rw is at late_is }
 
     pub late-no : {e : Refusal} → a ≡ Err e → LateDone f l before at (Err e) l₂

@@ -106,7 +106,7 @@ module _ {f l : List ℕ} {at : ℕ} (R : PairReady f l at) where
         go (got d m) q = let z : ◌≡◌ {A = ℕ} 0 1 = cc q in absurd (omega arith)
         go (no k p) q = let z : no (number_of e.fault) e.place ≡ turned (go_front (said f l)) (no k p) = q in cc z
 
-    module _ {size : ℕ} {c : Cursor} (is : a ≡ Ok (size , c)) where
+    module _ {size : ℕ} {c : Cursor} (is : a ≡ Ok (size, c)) where
       pub fronted : Fronted f l l₁ at size c.at
       unfolding front_go named_by
       fronted = let P = rw is at passed in go (front any_type (view f l) f at) refl P.says

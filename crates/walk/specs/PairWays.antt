@@ -19,7 +19,7 @@ use Rattle.numbers.specs.Cursors.{Outcome, Step}
 use Rattle.numbers.specs.declared.Fault.TheVariants as fault
 
 -- the front was read up to c, with a data region of so many bytes
-module _ {f l : List ℕ} {at : ℕ} (R : PairReady f l at) {l₁ : List ℕ} {a : Outcome ℕ} (passed : Passed f l₁ at a (front_go (named_by false 0) (said f l) f at)) {size : ℕ} {c : Cursor} (is : a ≡ Ok (size , c)) where
+module _ {f l : List ℕ} {at : ℕ} (R : PairReady f l at) {l₁ : List ℕ} {a : Outcome ℕ} (passed : Passed f l₁ at a (front_go (named_by false 0) (said f l) f at)) {size : ℕ} {c : Cursor} (is : a ≡ Ok (size, c)) where
   F : Fronted f l l₁ at size c.at
   F = fronted R passed is
 

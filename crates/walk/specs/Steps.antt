@@ -115,7 +115,7 @@ module _ {k a e : ℕ} (K : Kinds k a e) (is : k ≡ 20) where
         record { says = rw is (known.says f H say); inside = M.inside }
 
 -- constants are no bytes
-pub constant-valued : {n k a e : ℕ} {s : State} {f : List ℕ} (x : ℕ) → k ≤ 4 → Valued n k a e s f (Ok (x , (record { at = 0 })))
+pub constant-valued : {n k a e : ℕ} {s : State} {f : List ℕ} (x : ℕ) → k ≤ 4 → Valued n k a e s f (Ok (x, (record { at = 0 })))
 unfolding forget
 constant-valued {n} {k} {a} {e} {s} {f} x h = record { says = sym (constants-read n k a e s f h); inside = omega arith }
 
@@ -162,11 +162,11 @@ module _ (f l : List ℕ) (at : ℕ) (d : DueRow) (row : FieldRow) where
 -- ── the ways out of a part, as code meets them ──
 
 module _ (at size : ℕ) {a : Outcome ℕ} where
-  pub part-used : {x : ℕ} {c : Cursor} → a ≡ Ok (x , c) → c.at ≡ size → step_of (Ok (record { at = at + c.at })) ≡ filled at size (forget (out_of a))
+  pub part-used : {x : ℕ} {c : Cursor} → a ≡ Ok (x, c) → c.at ≡ size → step_of (Ok (record { at = at + c.at })) ≡ filled at size (forget (out_of a))
   unfolding when◌then◌else◌ forget
   part-used {x} {c} is h = rw is (rw (eq-eqb c.at size h) (ap (λ (e : ℕ). got tt (at + e)) h))
 
-  pub bytes_left : {x : ℕ} {c : Cursor} → a ≡ Ok (x , c) → (c.at ≡ size → ⊥) → step_of (Err (record { fault = fault.Chunk; place = at + c.at })) ≡ filled at size (forget (out_of a))
+  pub bytes_left : {x : ℕ} {c : Cursor} → a ≡ Ok (x, c) → (c.at ≡ size → ⊥) → step_of (Err (record { fault = fault.Chunk; place = at + c.at })) ≡ filled at size (forget (out_of a))
   unfolding when◌then◌else◌ forget
   bytes_left {x} {c} is h = rw is (rw (ne_eqb c.at size h))
 

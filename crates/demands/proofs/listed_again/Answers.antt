@@ -4,13 +4,13 @@ use Rattle.demands.specs.Trips.{build-room, built-listed, built-none}
 use Rattle.demands.proofs.listed_again.Goals as goal
 
 pub slice_bounds-listing-end : goal.slice_bounds-listing-end
-slice_bounds-listing-end c = build-room _ _ _ c.build-a.ensures c.in-Done.is
+slice_bounds-listing-end c = build-room _ _ _ c.build.ensures c.in_ok-n.was
 
-pub slice_bounds-listing-end-in-Done : goal.slice_bounds-listing-end-in-Done
-slice_bounds-listing-end-in-Done c = sym (length-take-le _ _ (build-room _ _ _ c.build-a.ensures c.in-Done.is))
+pub slice_bounds-listing-end-2 : goal.slice_bounds-listing-end-2
+slice_bounds-listing-end-2 c = sym (length-take-le _ _ (build-room _ _ _ c.build.ensures c.in_ok-n.was))
 
-pub returns-in-Done : goal.returns-in-Done
-returns-in-Done c = λ long. built-listed _ _ _ c.build-a.ensures c.in-Done.is (all-bytes c.args.text.now (λ i. omega (arith, c.type_inv.text i))) _ c.listing.ensures long
+pub returns : goal.returns
+returns c = λ long. built-listed _ _ _ c.build.ensures c.in_ok-n.was (all-bytes c.args.text.now (λ i. omega (arith, c.type_inv.text i))) _ c.listing.ensures long
 
-pub returns-in-Refused : goal.returns-in-Refused
-returns-in-Refused c = λ long. built-none _ _ _ c.build-a.ensures c.in-Refused.is _ _ _ long
+pub returns-in_err-n : goal.returns-in_err-n
+returns-in_err-n c = λ long. built-none _ _ _ c.build.ensures c.in_err-n.was _ _ _ long

@@ -1,8 +1,8 @@
 use Rattle.fronts.specs.Puts.{entry-put, entry-not}
 use Rattle.fronts.proofs.put_entry.Goals as goal
 
-pub returns-in_default : goal.returns-in_default
-returns-in_default c = entry-not (rw c.in_default.is at c.type_line.ensures)
+pub returns-in_err-line : goal.returns-in_err-line
+returns-in_err-line c = rw c.from_residual.ensures (entry-not c.in_err-line.ensures)
 
 pub returns : goal.returns
-returns c = entry-put (rw c.in-Got.is at c.type_line.ensures) c.put_head-behind_head.ensures c.put_v64-at.ensures c.put_fields.ensures
+returns c = entry-put c.in_ok-line.ensures c.put_head-behind_head.ensures c.put_v64-at.ensures c.put_fields.ensures

@@ -2,14 +2,14 @@ use Rattle.paper.specs.Listing.{ascii, line, old_line}
 use Rattle.fronts.specs.Puts.{old-put, line-put, no-put}
 use Rattle.fronts.proofs.put_field.Goals as goal
 
-pub returns-in-To : goal.returns-in-To
+pub returns-in-Some : goal.returns-in-Some
 unfolding ascii line old_line
-returns-in-To c = old-put _ _ c.next_end-ends.ensures _ (rw c.in-To.is at c.literal-old.ensures) c.put_v64-at.ensures
+returns-in-Some c = old-put _ _ c.next_end-ends.ensures _ c.in-Some.ensures c.put_v64-at.ensures
 
-pub returns-in_default-new_line : goal.returns-in_default-new_line
+pub returns-in_err-line : goal.returns-in_err-line
 unfolding ascii line old_line
-returns-in_default-new_line c = no-put (rw c.in_default.is at c.literal-old.ensures) (rw c.in_default-new_line.is at c.new_line.ensures)
+returns-in_err-line c = rw c.from_residual.ensures (no-put c.in_default.ensures c.in_err-line.ensures)
 
 pub returns : goal.returns
 unfolding ascii line old_line
-returns c = line-put _ _ c.next_end-ends.ensures _ (rw c.in_default.is at c.literal-old.ensures) (rw c.in-Got.is at c.new_line.ensures) c.put_line-at.ensures
+returns c = line-put _ _ c.next_end-ends.ensures _ c.in_default.ensures c.in_ok-line.ensures c.put_line-at.ensures

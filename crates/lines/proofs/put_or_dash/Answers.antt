@@ -1,9 +1,9 @@
 use Rattle.paper.specs.Listing.{or_dash}
 use Rattle.lines.proofs.put_or_dash.Goals as goal
 
-pub returns-in-Dash : goal.returns-in-Dash
+pub returns-in-None : goal.returns-in-None
 unfolding or_dash
-returns-in-Dash c = rw c.in-Dash.is c.put_bytes.ensures
+returns-in-None c = rw c.in-None.is c.put_bytes.ensures
 
 pub returns-in-Some : goal.returns-in-Some
 unfolding or_dash

@@ -8,4 +8,4 @@ pub returns-in-Got : goal.returns-in-Got
 returns-in-Got c = listing-accepted c.requires.1 c.in-Got.is c.write_text.ensures
 
 pub returns-in-No : goal.returns-in-No
-returns-in-No c = listing-refused c.requires.1 c.in-No.is
+returns-in-No c = rw c.from.ensures (listing-refused c.requires.1 c.in-No.is)

@@ -14,7 +14,7 @@ returns-in-0-to-4 c = laid_as c.put_constant.ensures (kind-constant _ _ _ (omega
 
 pub returns-in-17-to-19 : goal.returns-in-17-to-19
 unfolding put_kind
-returns-in-17-to-19 c = rw (kind-many c.args.k c.args.a c.args.e (omega arith) (omega arith)) c.put_two.ensures
+returns-in-17-to-19 c = rw (kind-many c.args.kind.first c.args.kind.bits c.args.kind.last (omega arith) (omega arith)) c.put_two.ensures
 
 pub returns-in_default : goal.returns-in_default
 unfolding put_kind

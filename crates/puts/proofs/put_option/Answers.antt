@@ -3,9 +3,9 @@ use Rattle.lay.specs.Laid.{most, laid_none}
 use Rattle.laws.specs.Put.{put_option}
 use Rattle.puts.proofs.put_option.Goals as goal
 
-pub returns-in-Dash : goal.returns-in-Dash
+pub returns-in-None : goal.returns-in-None
 unfolding most put_option
-returns-in-Dash c = rw c.in-Dash.is (laid_none (omega arith) (omega arith))
+returns-in-None c = rw c.in-None.is (laid_none (omega arith) (omega arith))
 
 pub returns-in-Some : goal.returns-in-Some
 unfolding put_option

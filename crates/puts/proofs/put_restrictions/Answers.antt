@@ -4,9 +4,9 @@ use Rattle.paper.specs.Lists.{given?}
 use Rattle.lay.specs.Laid.{most, laid_none}
 use Rattle.puts.proofs.put_restrictions.Goals as goal
 
-pub returns-in-Dash : goal.returns-in-Dash
+pub returns-in-None : goal.returns-in-None
 unfolding most given? when◌then◌else◌
-returns-in-Dash c = rw c.in-Dash.is (laid_none (omega arith) (omega arith))
+returns-in-None c = rw c.in-None.is (laid_none (omega arith) (omega arith))
 
 pub returns-in-Some : goal.returns-in-Some
 unfolding given? when◌then◌else◌

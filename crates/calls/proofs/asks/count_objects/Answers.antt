@@ -9,4 +9,4 @@ returns-in_default c = count_none _ _ (no-type _ _ _ _ c.find_type_called-a.ensu
 
 pub returns : goal.returns
 unfolding answer_of objects_of
-returns c = count-some _ _ (a-type _ _ _ _ c.find_type_called-a.ensures c.in-At.is) c.objects_of-count.ensures.value
+returns c = count-some _ _ (a-type _ _ _ _ c.find_type_called-a.ensures c.in-Some.is) c.objects_of-count.ensures.value

@@ -3,27 +3,18 @@ use Rattle.lay.specs.Laid.{most}
 use Rattle.fronts.specs.Maps.{kinds-begin, kinds-done, kinds-no-comma, kinds-no-number, kinds-next}
 use Rattle.fronts.proofs.maps.put_kinds.Goals as goal
 
-pub loop-rest-init : goal.loop-rest-init
+pub loop-init : goal.loop-init
 unfolding most
-loop-rest-init c = kinds-begin _ _ _ _ _ (omega arith) (omega arith)
-
-pub shape_of-out-in_default : goal.shape_of-out-in_default
-shape_of-out-in_default c = c.loop-rest.invariant.long
+loop-init c = kinds-begin _ _ _ _ (omega arith) (omega arith) (omega arith)
 
 pub returns-in_default : goal.returns-in_default
-returns-in_default c = kinds-no-comma c.loop-rest.invariant c.loop-rest-test.true (rw c.in_default.is at c.byte.ensures)
-
-pub shape_of-out-in_default-natural : goal.shape_of-out-in_default-natural
-shape_of-out-in_default-natural c = c.loop-rest.invariant.long
+returns-in_default c = kinds-no-comma c.loop.invariant (omega arith) c.in_default.ensures
 
 pub returns-in_default-natural : goal.returns-in_default-natural
-returns-in_default-natural c = kinds-no-number c.loop-rest.invariant c.loop-rest-test.true (rw c.in-To.is at c.byte.ensures) (rw c.in_default-natural.is at c.natural.ensures)
+returns-in_default-natural c = kinds-no-number c.loop.invariant (omega arith) c.in-Some.ensures c.in_default-natural.ensures
 
-pub loop-rest-preserved : goal.loop-rest-preserved
-loop-rest-preserved c = kinds-next c.loop-rest.invariant c.loop-rest-test.true (rw c.in-To.is at c.byte.ensures) (rw c.in-Got.is at c.natural.ensures) c.put_v64-to.auto.out c.put_v64-to.ensures
-
-pub shape_of-out : goal.shape_of-out
-shape_of-out c = c.loop-rest.invariant.long
+pub loop-preserved : goal.loop-preserved
+loop-preserved c = kinds-next c.loop.invariant (omega arith) c.in-Some.ensures c.in-Some-natural.ensures c.put_v64-to.auto.out c.put_v64-to.ensures
 
 pub returns : goal.returns
-returns c = kinds-done c.loop-rest.invariant c.loop-rest-test.false
+returns c = kinds-done c.loop.invariant (omega arith)

@@ -1,25 +1,19 @@
 -- `judge::entries::entries_text` meets its contract. Assumes nothing.
-use Rattle.std.proofs.Common.{◌∙◌}
+use Rattle.std.proofs.Common.{arith}
 use Rattle.judge.specs.EntriesLaws.{entries-begin, entries-bad, entries_next, entries-done}
 use Rattle.judge.proofs.entries.entries_text.Goals as goal
 
-pub loop-rest-init : goal.loop-rest-init
-loop-rest-init c = entries-begin c.requires.holds c.requires.sound _ _
+pub loop-init : goal.loop-init
+loop-init c = entries-begin c.requires.holds c.requires.sound _ (omega arith)
 
-pub entry_text-a-requires : goal.entry_text-a-requires
-entry_text-a-requires c = record { holds = c.loop-rest.invariant.holds; sound = c.loop-rest.invariant.sound }
+pub entry_text-requires : goal.entry_text-requires
+entry_text-requires c = record { holds = c.loop.invariant.holds; sound = c.loop.invariant.sound }
 
-pub shape_of-work-in_default : goal.shape_of-work-in_default
-shape_of-work-in_default c = c.entry_text-a.auto.work ∙ c.loop-rest.invariant.long
+pub returns-in_err-at : goal.returns-in_err-at
+returns-in_err-at c = rw c.from_residual.ensures (entries-bad c.loop.invariant (omega arith) c.entry_text.ensures c.in_err-at.was)
 
-pub returns-in_default : goal.returns-in_default
-returns-in_default c = entries-bad c.loop-rest.invariant c.loop-rest-test.true c.entry_text-a.ensures c.in_default.is
-
-pub loop-rest-preserved : goal.loop-rest-preserved
-loop-rest-preserved c = entries_next c.loop-rest.invariant c.loop-rest-test.true c.entry_text-a.ensures c.in-To.is c.entry_text-a.auto.work
-
-pub shape_of-work : goal.shape_of-work
-shape_of-work c = c.loop-rest.invariant.long
+pub loop-preserved : goal.loop-preserved
+loop-preserved c = entries_next c.loop.invariant (omega arith) c.entry_text.ensures (omega arith) c.in_ok-at.was c.entry_text.auto.work
 
 pub returns : goal.returns
-returns c = entries-done c.loop-rest.invariant c.loop-rest-test.false
+returns c = entries-done c.loop.invariant (omega arith)

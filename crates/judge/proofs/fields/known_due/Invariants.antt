@@ -1,10 +1,6 @@
 -- `judge::fields::known_due` meets its contract. Assumes nothing.
-use Rattle.std.proofs.Common.{◌-◌}
 use Rattle.judge.specs.FieldsKnown.{DuesGoing}
 use Rattle.judge.proofs.fields.known_due.Given as goal
 
 abbrev pub invariant-loop-i : goal.invariant-loop-i
-invariant-loop-i l = DuesGoing l.initial.work l.work l.t l.added l.n l.i
-
-abbrev pub decreases-loop-i : goal.decreases-loop-i
-decreases-loop-i l = l.n - l.i
+invariant-loop-i l = DuesGoing l.initial.work l.work l.t l.added l.i-end l.i

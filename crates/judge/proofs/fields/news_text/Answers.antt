@@ -1,25 +1,19 @@
 -- `judge::fields::news_text` meets its contract. Assumes nothing.
-use Rattle.std.proofs.Common.{◌∙◌, arith}
+use Rattle.std.proofs.Common.{arith}
 use Rattle.judge.specs.FieldsNew.{news-begin, news-bad, news-next, news-done}
 use Rattle.judge.proofs.fields.news_text.Goals as goal
 
-pub loop-rest-init : goal.loop-rest-init
-loop-rest-init c = news-begin c.requires.holds c.requires.fact c.requires.count_bound _ _
+pub loop-init : goal.loop-init
+loop-init c = news-begin c.requires.holds c.requires.fact (omega arith) c.requires.count_bound _ _
 
-pub new_text-a-requires : goal.new_text-a-requires
-new_text-a-requires c = record { holds = c.loop-rest.invariant.holds; fact = c.loop-rest.invariant.still_open; work_bound = omega arith }
+pub new_text-requires : goal.new_text-requires
+new_text-requires c = record { holds = c.loop.invariant.holds; fact = c.loop.invariant.still_open; work_bound = omega (arith, c.loop.invariant.room) }
 
-pub shape_of-work-in_default : goal.shape_of-work-in_default
-shape_of-work-in_default c = c.new_text-a.auto.work ∙ c.loop-rest.invariant.long
+pub returns-in_err-at : goal.returns-in_err-at
+returns-in_err-at c = rw c.from_residual.ensures (news-bad c.loop.invariant (omega arith) c.new_text.ensures c.in_err-at.was)
 
-pub returns-in_default : goal.returns-in_default
-returns-in_default c = news-bad c.loop-rest.invariant c.loop-rest-test.true c.new_text-a.ensures c.in_default.is
-
-pub loop-rest-preserved : goal.loop-rest-preserved
-loop-rest-preserved c = news-next c.loop-rest.invariant c.loop-rest-test.true c.new_text-a.ensures c.in-To.is c.new_text-a.auto.work
-
-pub shape_of-work : goal.shape_of-work
-shape_of-work c = c.loop-rest.invariant.long
+pub loop-preserved : goal.loop-preserved
+loop-preserved c = news-next c.loop.invariant (omega arith) c.new_text.ensures (omega arith) c.in_ok-at.was c.new_text.auto.work
 
 pub returns : goal.returns
-returns c = news-done c.loop-rest.invariant c.loop-rest-test.false
+returns c = news-done c.loop.invariant (omega arith)

@@ -1,8 +1,9 @@
+use Rattle.numbers.specs.Cursors.{handed}
 use Rattle.listing.specs.Fields.{kind-cut, kind-behind}
 use Rattle.listing.proofs.fields.new_kind.Goals as goal
 
-pub returns-in_default : goal.returns-in_default
-returns-in_default c = kind-cut c.no_restrictions-a.ensures c.in_default.is c.refused.ensures
+pub returns-in_err-next : goal.returns-in_err-next
+returns-in_err-next c = rw (handed c.from_residual.ensures.1) (kind-cut c.no_restrictions.ensures c.in_err-next.was)
 
 pub returns : goal.returns
-returns c = kind-behind c.no_restrictions-a.ensures c.in-Got.is c.read_kind.ensures
+returns c = kind-behind c.no_restrictions.ensures c.in_ok-next.was c.read_kind.ensures

@@ -10,10 +10,10 @@ pub loop-i-init : goal.loop-i-init
 loop-i-init c = refl
 
 pub returns-then-not-row_unnamed : goal.returns-then-not-row_unnamed
-returns-then-not-row_unnamed c = sym (c.loop-i.invariant ∙ all_here unnamed_field? (flds_of c.args.work.now) c.loop-i.i no_field (omega (arith, c.requires.flds-count, c.fields-n.ensures)) c.field_at.ensures.result_value c.row_unnamed.ensures (not-true _ c.if-not-row_unnamed.true-raw))
+returns-then-not-row_unnamed c = sym (c.loop-i.invariant ∙ all_here unnamed_field? (flds_of c.args.work.now) c.loop-i.i no_field (omega (arith, c.requires.flds-count, c.fields-i-end.ensures)) c.field_at.ensures.result_value c.row_unnamed.ensures (not-true _ c.if-not-row_unnamed.true-raw))
 
 pub loop-i-preserved : goal.loop-i-preserved
-loop-i-preserved c = c.loop-i.invariant ∙ all-on unnamed_field? (flds_of c.args.work.now) c.loop-i.i no_field (omega (arith, c.requires.flds-count, c.fields-n.ensures)) c.field_at.ensures.result_value c.row_unnamed.ensures c.if-not-row_unnamed.false
+loop-i-preserved c = c.loop-i.invariant ∙ all-on unnamed_field? (flds_of c.args.work.now) c.loop-i.i no_field (omega (arith, c.requires.flds-count, c.fields-i-end.ensures)) c.field_at.ensures.result_value c.row_unnamed.ensures c.if-not-row_unnamed.false
 
 pub returns : goal.returns
-returns c = sym (c.loop-i.invariant ∙ all_end unnamed_field? (flds_of c.args.work.now) c.loop-i.i (omega (arith, c.requires.flds-count, c.fields-n.ensures)))
+returns c = sym (c.loop-i.invariant ∙ all_end unnamed_field? (flds_of c.args.work.now) c.loop-i.i (omega (arith, c.requires.flds-count, c.fields-i-end.ensures)))

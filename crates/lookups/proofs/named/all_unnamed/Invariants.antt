@@ -1,4 +1,4 @@
-use Rattle.std.proofs.Common.{◌≡◌, ◌-◌, drop}
+use Rattle.std.proofs.Common.{◌≡◌, drop}
 use Rattle.paper.specs.Lists.{all}
 use Rattle.table.specs.View.{flds_of}
 use Rattle.lookups.specs.Named.{unnamed_field?}
@@ -6,6 +6,3 @@ use Rattle.lookups.proofs.named.all_unnamed.Given as goal
 
 abbrev pub invariant-loop-i : goal.invariant-loop-i
 invariant-loop-i l = all unnamed_field? (flds_of l.work) ≡ all unnamed_field? (drop l.i (flds_of l.work))
-
-abbrev pub decreases-loop-i : goal.decreases-loop-i
-decreases-loop-i l = l.n - l.i

@@ -6,6 +6,3 @@ use Rattle.lookups.proofs.ranges.gather_each.Given as goal
 
 abbrev pub invariant-loop-i : goal.invariant-loop-i
 invariant-loop-i l = (l.i ≤ length (log_of l.work)) × Gathering l.t (log_of l.work) l.to l.initial.first l.initial.last l.first l.last l.i l.k
-
-abbrev pub decreases-loop-i : goal.decreases-loop-i
-decreases-loop-i l = l.i

@@ -5,6 +5,3 @@ use Rattle.lookups.proofs.ranges.group.Given as goal
 
 abbrev pub invariant-loop-t : goal.invariant-loop-t
 invariant-loop-t l = Grouping l.kinds (log_of l.work) l.starts l.first l.last l.t l.k
-
-abbrev pub decreases-loop-t : goal.decreases-loop-t
-decreases-loop-t l = l.t

@@ -1,6 +1,7 @@
 use Rattle.std.proofs.Common.{arith}
-use Rattle.puts.specs.Strings.{end_is}
+use Rattle.puts.specs.Strings.{end_behind}
 use Rattle.puts.proofs.strings.end_behind.Goals as goal
 
 pub returns : goal.returns
-returns c = (end_is _ _ c.at_most.ensures (omega arith), omega (arith, c.at_most.ensures.below))
+unfolding end_behind
+returns c = (c.min.ensures, omega (arith, c.min.ensures))

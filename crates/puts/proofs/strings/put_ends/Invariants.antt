@@ -1,4 +1,4 @@
-use Rattle.std.proofs.Common.{◌-◌, ◌<◌, drop}
+use Rattle.std.proofs.Common.{◌<◌, drop}
 use Rattle.paper.specs.Numbers.{put_fixed}
 use Rattle.paper.specs.Lists.{flat}
 use Rattle.lay.specs.Laid.{Leads}
@@ -9,6 +9,3 @@ use Rattle.puts.proofs.strings.put_ends.Given as goal
 abbrev pub invariant-loop-i : goal.invariant-loop-i
 invariant-loop-i l = (l.end < 4294967296)
     × Leads l.initial.out l.at (flat (put_fixed 4) (ends_behind 0 (drop l.from (strs_of l.t l.work)))) l.out l.p (flat (put_fixed 4) (ends_behind l.end (drop l.i (strs_of l.t l.work))))
-
-abbrev pub decreases-loop-i : goal.decreases-loop-i
-decreases-loop-i l = l.n - l.i

@@ -3,8 +3,8 @@ use Rattle.lay.specs.Laid.{most, leads-start, leads-on, leads-end}
 use Rattle.puts.specs.Strings.{bytes-more, bytes-none}
 use Rattle.puts.proofs.strings.put_string_bytes.Goals as goal
 
-pub strings-n-requires : goal.strings-n-requires
-strings-n-requires c = c.requires.ok
+pub strings-i-end-requires : goal.strings-i-end-requires
+strings-i-end-requires c = c.requires.ok
 
 pub loop-i-init : goal.loop-i-init
 unfolding most

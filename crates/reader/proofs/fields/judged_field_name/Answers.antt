@@ -13,8 +13,8 @@ returns-then-strings-n c = name-past c.requires c.args.t (omega arith)
 pub find_field-other-requires : goal.find_field-other-requires
 find_field-other-requires c = record { holds = c.requires; end_in_bounds = c.string_at-name.ensures.within c.args.names.now c.requires }
 
-pub returns-in-At : goal.returns-in-At
-returns-in-At c = name-used c.requires c.args.t (omega arith) (omega arith) c.string_at-name.ensures c.find_field-other.ensures (ap found c.in-At.is)
+pub returns-in-Some : goal.returns-in-Some
+returns-in-Some c = name-used c.requires c.args.t (omega arith) (omega arith) c.string_at-name.ensures c.find_field-other.ensures (ap found c.in-Some.is)
 
-pub returns-in-Nothing : goal.returns-in-Nothing
-returns-in-Nothing c = name_free c.requires c.args.t (omega arith) (omega arith) c.string_at-name.ensures c.find_field-other.ensures refl (ap found c.in-Nothing.is)
+pub returns-in-None : goal.returns-in-None
+returns-in-None c = name_free c.requires c.args.t (omega arith) (omega arith) c.string_at-name.ensures c.find_field-other.ensures refl (ap found c.in-None.is)

@@ -1,10 +1,6 @@
 -- `reader::fields::old_fields` meets its contract. Assumes nothing.
-use Rattle.std.proofs.Common.{◌-◌}
 use Rattle.reader.specs.OldLaws.{OldsGoing}
 use Rattle.reader.proofs.fields.old_fields.Given as goal
 
 abbrev pub invariant-loop-i : goal.invariant-loop-i
-invariant-loop-i l = OldsGoing l.file l.initial.work l.work l.t l.added l.end l.initial.at l.n l.i l.last l.at
-
-abbrev pub decreases-loop-i : goal.decreases-loop-i
-decreases-loop-i l = l.n - l.i
+invariant-loop-i l = OldsGoing l.file l.initial.work l.work l.t l.added l.end l.initial.next.at l.i-end l.i l.last l.next.at

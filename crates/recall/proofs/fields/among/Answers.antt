@@ -5,12 +5,6 @@ use Rattle.recall.proofs.fields.among.Goals as goal
 pub loop-i-init : goal.loop-i-init
 loop-i-init c = (among-start _ _ _ _ _ _, search rules)
 
-pub new_at-g-requires : goal.new_at-g-requires
-new_at-g-requires c = tt
-
-pub is_string-requires : goal.is_string-requires
-is_string-requires c = tt
-
 pub returns-then-is_string : goal.returns-then-is_string
 returns-then-is_string c = among-found c.args.t c.loop-i.invariant.0 c.loop-i-test.true c.new_at-g.ensures c.is_string.ensures c.if-is_string.true
 

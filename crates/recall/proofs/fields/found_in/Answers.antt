@@ -5,14 +5,8 @@ use Rattle.recall.proofs.fields.found_in.Goals as goal
 pub returns-then-t-eq0 : goal.returns-then-t-eq0
 returns-then-t-eq0 c = block-lacks c.if-t-eq0.true _ _
 
-pub past_olds-e-requires : goal.past_olds-e-requires
-past_olds-e-requires c = tt
-
 pub returns-then-top-typ : goal.returns-then-top-typ
 returns-then-top-typ c = entry-lacks c.if-t-eq0.false c.past_olds-e.ensures _ c.if-top-typ.true _
-
-pub among-i-requires : goal.among-i-requires
-among-i-requires c = tt
 
 pub overflow_add-result : goal.overflow_add-result
 overflow_add-result c = omega (arith, c.past_olds-e.ensures.had, c.past_olds-e.ensures.few, c.if-i-e.true)

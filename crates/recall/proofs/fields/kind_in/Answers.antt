@@ -5,9 +5,6 @@ use Rattle.recall.proofs.fields.kind_in.Goals as goal
 pub returns-then-t-eq0 : goal.returns-then-t-eq0
 returns-then-t-eq0 c = block-kind c.if-t-eq0.true _ _ _
 
-pub past_olds-e-requires : goal.past_olds-e-requires
-past_olds-e-requires c = tt
-
 pub returns-then-top-typ : goal.returns-then-top-typ
 returns-then-top-typ c = kind-else c.if-t-eq0.false c.past_olds-e.ensures _ c.if-top-typ.true _ _
 
@@ -16,12 +13,6 @@ returns-then-own-e c = kind-old c.if-t-eq0.false c.past_olds-e.ensures _ (omega 
 
 pub returns-then-e-own : goal.returns-then-e-own
 returns-then-e-own c = kind-later c.if-t-eq0.false c.past_olds-e.ensures _ (omega arith) _ (omega arith) _
-
-pub past_news-b-requires : goal.past_news-b-requires
-past_news-b-requires c = tt
-
-pub new_at-g-requires : goal.new_at-g-requires
-new_at-g-requires c = tt
 
 pub returns : goal.returns
 returns c = kind-new c.if-t-eq0.false c.past_olds-e.ensures _ (omega arith) _ (omega arith) (omega arith) c.past_news-b.ensures c.new_at-g.ensures _

@@ -4,12 +4,6 @@ use Rattle.recall.proofs.log.entered_on.Goals as goal
 pub returns-then-t-eq0 : goal.returns-then-t-eq0
 returns-then-t-eq0 c = entered-block c.if-t-eq0.true
 
-pub past_head-top-requires : goal.past_head-top-requires
-past_head-top-requires c = tt
-
-pub pooled-all-requires : goal.pooled-all-requires
-pooled-all-requires c = tt
-
 pub returns-then-t-block : goal.returns-then-t-block
 returns-then-t-block c = entered-elsewhere c.if-t-eq0.false c.past_head-top.ensures c.pooled-all.ensures c.if-t-block.true
 

@@ -7,14 +7,5 @@ returns-then-t-eq0 c = inside-block c.if-t-eq0.true
 pub returns-then-t-block : goal.returns-then-t-block
 returns-then-t-block c = inside-elsewhere c.if-t-eq0.false c.if-t-block.true
 
-pub past_head-top-requires : goal.past_head-top-requires
-past_head-top-requires c = tt
-
-pub around-within-requires : goal.around-within-requires
-around-within-requires c = tt
-
-pub clear-behind-requires : goal.clear-behind-requires
-clear-behind-requires c = tt
-
 pub returns : goal.returns
 returns c = inside-here c.if-t-eq0.false c.past_head-top.ensures c.if-t-block.false c.around-within.ensures c.clear-behind.ensures

@@ -4,8 +4,5 @@ use Rattle.recall.proofs.log.pooled.Goals as goal
 pub returns-then-top-ne0 : goal.returns-then-top-ne0
 returns-then-top-ne0 c = base-not c.if-top-ne0.true
 
-pub plus-requires : goal.plus-requires
-plus-requires c = tt
-
 pub returns : goal.returns
 returns c = base_plus c.if-top-ne0.false c.plus.ensures

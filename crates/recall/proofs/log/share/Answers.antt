@@ -4,14 +4,8 @@ use Rattle.recall.proofs.log.share.Goals as goal
 pub returns-then-t-eq0 : goal.returns-then-t-eq0
 returns-then-t-eq0 c = share-block c.if-t-eq0.true
 
-pub past_head-top-requires : goal.past_head-top-requires
-past_head-top-requires c = tt
-
 pub returns-then-top-typ : goal.returns-then-top-typ
 returns-then-top-typ c = share_other c.if-t-eq0.false c.past_head-top.ensures c.if-top-typ.true
-
-pub plus-requires : goal.plus-requires
-plus-requires c = tt
 
 pub returns : goal.returns
 returns c = share-more c.if-t-eq0.false c.past_head-top.ensures c.if-top-typ.false c.plus.ensures

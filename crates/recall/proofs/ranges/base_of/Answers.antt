@@ -8,8 +8,5 @@ returns-then-up-eq0 c = base-own c.if-up-eq0.true
 pub overflow_sub-up : goal.overflow_sub-up
 overflow_sub-up c = omega (arith, c.if-up-eq0.false)
 
-pub of_type-requires : goal.of_type-requires
-of_type-requires c = tt
-
 pub returns : goal.returns
 returns c = base_above c.if-up-eq0.false c.of_type.ensures

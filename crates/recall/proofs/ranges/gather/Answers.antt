@@ -5,11 +5,5 @@ use Rattle.recall.proofs.ranges.gather.Goals as goal
 pub returns-then-j-ge32 : goal.returns-then-j-ge32
 returns-then-j-ge32 c = gather-far c.if-j-ge32.true
 
-pub nowhere-places-requires : goal.nowhere-places-requires
-nowhere-places-requires c = tt
-
-pub meet-requires : goal.meet-requires
-meet-requires c = tt
-
 pub returns : goal.returns
 returns c = gather-done c.nowhere-places.ensures (omega (arith, c.if-j-ge32.false)) _ _ c.requires.0 c.requires.1 c.meet.ensures

@@ -2,8 +2,5 @@
 use Rattle.recall.specs.Meets.{Meets}
 use Rattle.recall.proofs.ranges.meet.Given as goal
 
-abbrev pub invariant-loop-rest : goal.invariant-loop-rest
-invariant-loop-rest l = Meets l.file l.steps l.initial.places l.initial.first l.initial.last l.rest l.t l.p l.places l.first l.last
-
-abbrev pub decreases-loop-rest : goal.decreases-loop-rest
-decreases-loop-rest l = l.rest
+abbrev pub invariant-loop : goal.invariant-loop
+invariant-loop l = Meets l.file l.steps l.initial.places l.initial.first l.initial.last l.counter l.t l.p l.places l.first l.last

@@ -2,9 +2,6 @@ use Rattle.std.proofs.Common.{arith, refl}
 use Rattle.recall.specs.Names.{pool-unknown, pool-far, pool-below, pool-base}
 use Rattle.recall.proofs.ranges.pool_of.Goals as goal
 
-pub string_at-name-requires : goal.string_at-name-requires
-string_at-name-requires c = tt
-
 pub find-typ-requires : goal.find-typ-requires
 find-typ-requires c = c.string_at-name.ensures.within
 

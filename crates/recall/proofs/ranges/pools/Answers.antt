@@ -3,12 +3,6 @@ use Rattle.std.proofs.Common.{arith, refl, sym, ◌∙◌}
 use Rattle.recall.specs.Names.{pools-begin, pools-full, pools-next, pools-done}
 use Rattle.recall.proofs.ranges.pools.Goals as goal
 
-pub nowhere-places-requires : goal.nowhere-places-requires
-nowhere-places-requires c = tt
-
-pub meet-m-requires : goal.meet-m-requires
-meet-m-requires c = tt
-
 pub loop-i-init : goal.loop-i-init
 loop-i-init c = pools-begin c.meet-m.ensures refl c.requires
 
@@ -17,9 +11,6 @@ shape_of-list-then-list-i c = c.loop-i.invariant.long ∙ sym c.requires
 
 pub returns-then-list-i : goal.returns-then-list-i
 returns-then-list-i c = pools-full c.loop-i.invariant c.loop-i-test.true c.if-list-i.true
-
-pub pool_of-requires : goal.pool_of-requires
-pool_of-requires c = tt
 
 pub bounds-list-i : goal.bounds-list-i
 bounds-list-i c = omega (arith, c.if-list-i.false)

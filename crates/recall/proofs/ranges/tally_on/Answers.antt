@@ -5,9 +5,6 @@ use Rattle.recall.proofs.ranges.tally_on.Goals as goal
 pub returns-then-j-ge32 : goal.returns-then-j-ge32
 returns-then-j-ge32 c = tally-not c.if-j-ge32.true
 
-pub plus-requires : goal.plus-requires
-plus-requires c = tt
-
 pub returns-then-types-top : goal.returns-then-types-top
 returns-then-types-top c = tally-fresh c.plus.ensures c.if-types-top.true
 

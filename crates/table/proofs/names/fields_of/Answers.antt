@@ -8,15 +8,15 @@ use Rattle.table.proofs.names.fields_of.Goals as goal
 use Rattle.table.proofs.names.fields_of.Goals.{then-row-t, else-row-t}
 
 pub loop-i-init : goal.loop-i-init
-loop-i-init c = let own = c.stretch_of-own.ensures in (own.forward, zero-le, omega (arith, ap length own.before))
+loop-i-init c = let own = c.stretch_of-own.ensures in (zero-le, omega (arith, ap length own.before))
 
 pub loop-i-preserved : goal.loop-i-preserved
 unfolding owns?
 loop-i-preserved c = let a = c.args in
     let i = c.loop-i.i in
     elim c.if-row-t.branch [
-      | then-row-t w ↦ let on = places-here (owns? a.t) (flds_of a.work.now) i no_field (omega arith) c.field_at-row.ensures.result_value refl (eq-eqb _ _ w.if-row-t.true) in (omega arith, omega arith, omega (arith, c.loop-i.invariant.2))
-      | else-row-t w ↦ let on = places-on (owns? a.t) (flds_of a.work.now) i no_field (omega arith) c.field_at-row.ensures.result_value refl (ne_eqb _ _ w.if-row-t.false) in (omega arith, omega arith, omega (arith, c.loop-i.invariant.2))
+      | then-row-t w ↦ let on = places-here (owns? a.t) (flds_of a.work.now) i no_field (omega arith) c.field_at-row.ensures.result_value refl (eq-eqb _ _ w.if-row-t.true) in (omega arith, omega (arith, c.loop-i.invariant.1))
+      | else-row-t w ↦ let on = places-on (owns? a.t) (flds_of a.work.now) i no_field (omega arith) c.field_at-row.ensures.result_value refl (ne_eqb _ _ w.if-row-t.false) in (omega arith, omega (arith, c.loop-i.invariant.1))
     ]
 
 pub returns : goal.returns

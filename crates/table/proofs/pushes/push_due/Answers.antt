@@ -6,4 +6,4 @@ use Rattle.table.proofs.pushes.push_due.Goals as goal
 
 pub returns : goal.returns
 unfolding starts width most
-returns c = pushed-by 4 refl (omega arith) c.requires.ok (omega arith) c.put4.ensures (omega arith) (omega arith) (omega arith)
+returns c = pushed-by 4 refl (omega arith) c.requires.ok (omega arith) c.put.ensures (omega arith) (omega arith) (omega arith)

@@ -6,4 +6,4 @@ use Rattle.table.proofs.pushes.push_type.Goals as goal
 
 pub returns : goal.returns
 unfolding starts width most
-returns c = pushed-type-by c.args.t c.requires.ok (omega arith) c.put5.ensures
+returns c = pushed-type-by c.args.t c.requires.ok (omega arith) c.put.ensures

@@ -10,7 +10,7 @@ pub returns-then-up-gt32 : goal.returns-then-up-gt32
 returns-then-up-gt32 c = above-none c.args.up c.args.b c.args.end c.args.work.now (λ p q. omega (arith, c.if-up-gt32.true))
 
 pub returns-then-c-b : goal.returns-then-c-b
-returns-then-c-b c = above-later c.args.up c.args.b c.args.end c.args.work.now c.requires.work_len (omega (arith, c.if-up-eq0.false)) (omega (arith, c.if-up-gt32.false)) c.if-c-b.true c.put2.ensures
+returns-then-c-b c = above-later c.args.up c.args.b c.args.end c.args.work.now c.requires.work_len (omega (arith, c.if-up-eq0.false)) (omega (arith, c.if-up-gt32.false)) c.if-c-b.true c.put.ensures
 
 pub returns-then-c-b-2 : goal.returns-then-c-b-2
 returns-then-c-b-2 c = above_kept c.args.up c.args.b c.args.end c.args.work.now c.requires.work_len (omega (arith, c.if-up-eq0.false)) (omega (arith, c.if-up-gt32.false)) (omega (arith, c.if-c-b.false)) (λ e. absurd (c.if-c-b-2.true (sym e)))

@@ -17,10 +17,10 @@ pub overflow_add-sum : goal.overflow_add-sum
 overflow_add-sum c = omega (arith, (c.regular.ensures c.if-not-regular.false).sum-few, c.requires.small.count_fits)
 
 pub tally_above-requires : goal.tally_above-requires
-tally_above-requires c = let l = c.args.work.now in let k = 16048 + 8 * c.args.r.typ + 1 in let vs : List ℕ = (get_or l k 0 + c.args.r.count) ∷ (c.args.r.block + 1) ∷ get_or l k 0 ∷ c.args.n ∷ [] in record { work_len = length-set c.put4.new.work 16304 (get_or l 16304 0 + c.share_of.result) ∙ ap length c.put4.ensures ∙ length-sets l k vs ∙ c.requires.work_len; b_bound = c.requires.small.block-fits }
+tally_above-requires c = let l = c.args.work.now in let k = 16048 + 8 * c.args.r.typ + 1 in let vs : List ℕ = (get_or l k 0 + c.args.r.count) ∷ (c.args.r.block + 1) ∷ get_or l k 0 ∷ c.args.n ∷ [] in record { work_len = length-set c.put.new.work 16304 (get_or l 16304 0 + c.share_of.result) ∙ ap length c.put.ensures ∙ length-sets l k vs ∙ c.requires.work_len; b_bound = c.requires.small.block-fits }
 
 pub shape_of-work : goal.shape_of-work
-shape_of-work c = let l = c.args.work.now in let k = 16048 + 8 * c.args.r.typ + 1 in let vs : List ℕ = (get_or l k 0 + c.args.r.count) ∷ (c.args.r.block + 1) ∷ get_or l k 0 ∷ c.args.n ∷ [] in c.tally_above.ensures.long ∙ length-set c.put4.new.work 16304 (get_or l 16304 0 + c.share_of.result) ∙ ap length c.put4.ensures ∙ length-sets l k vs
+shape_of-work c = let l = c.args.work.now in let k = 16048 + 8 * c.args.r.typ + 1 in let vs : List ℕ = (get_or l k 0 + c.args.r.count) ∷ (c.args.r.block + 1) ∷ get_or l k 0 ∷ c.args.n ∷ [] in c.tally_above.ensures.long ∙ length-set c.put.new.work 16304 (get_or l 16304 0 + c.share_of.result) ∙ ap length c.put.ensures ∙ length-sets l k vs
 
 pub returns : goal.returns
-returns c = tallied-on c.args.r c.args.up c.args.n c.share_of.ensures.value c.requires.small.typ-fits (c.regular.ensures c.if-not-regular.false) c.put4.ensures c.tally_above.ensures
+returns c = tallied-on c.args.r c.args.up c.args.n c.share_of.ensures.value c.requires.small.typ-fits (c.regular.ensures c.if-not-regular.false) c.put.ensures c.tally_above.ensures

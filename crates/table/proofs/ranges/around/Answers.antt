@@ -4,6 +4,3 @@ use Rattle.table.proofs.ranges.around.Goals as goal
 
 pub returns-then-last_around : goal.returns-then-last_around
 returns-then-last_around c = sym (c.last_around.ensures c.if-last_around.true)
-
-pub returns : goal.returns
-returns c = c.any_range.ensures

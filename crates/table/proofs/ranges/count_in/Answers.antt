@@ -5,6 +5,3 @@ use Rattle.table.proofs.ranges.count_in.Goals as goal
 
 pub returns-then-none_from : goal.returns-then-none_from
 returns-then-none_from c = record { value = sym (no-count c.args.work.now c.args.b c.args.t (c.none_from.ensures c.if-none_from.true)); upper_bound = omega arith }
-
-pub returns : goal.returns
-returns c = record { value = c.sum_of.ensures.value; upper_bound = c.sum_of.ensures.upper_bound }

@@ -19,4 +19,4 @@ pub past-end-requires : goal.past-end-requires
 past-end-requires c = tt
 
 pub returns : goal.returns
-returns c = new-got c.past-none.ensures c.read_kind-k.ensures c.in-Got.is c.past-name.ensures c.past-end.ensures (all-bytes c.args.file.now (λ i. omega (arith, c.shared_slice_known-1.given i)))
+returns c = new-got c.past-none.ensures c.read_kind-k.ensures c.in-Ok.is c.past-name.ensures c.past-end.ensures (all-bytes c.args.file.now (λ i. omega (arith, c.shared_slice_known-1.given i)))

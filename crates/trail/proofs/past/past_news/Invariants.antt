@@ -4,8 +4,5 @@ use Rattle.paper.specs.File.{new_field, upto_new}
 use Rattle.trail.specs.Told.{end_of, Going}
 use Rattle.trail.proofs.past.past_news.Given as goal
 
-abbrev pub invariant-loop-rest : goal.invariant-loop-rest
-invariant-loop-rest l = (t : ℕ) → Going (new_field any_type t) (upto_new t) end_of l.n l.file l.initial.here.at l.last l.rest l.here
-
-abbrev pub decreases-loop-rest : goal.decreases-loop-rest
-decreases-loop-rest l = l.rest
+abbrev pub invariant-loop : goal.invariant-loop
+invariant-loop l = (t : ℕ) → Going (new_field any_type t) (upto_new t) end_of l.n l.file l.initial.here.at l.last l.counter l.here

@@ -5,4 +5,4 @@ pub returns-in_default : goal.returns-in_default
 returns-in_default c = four-none c.be-a.ensures c.in_default.is
 
 pub returns : goal.returns
-returns c = four-one c.be-a.ensures c.in-Got.is
+returns c = four-one c.be-a.ensures c.in-Ok.is

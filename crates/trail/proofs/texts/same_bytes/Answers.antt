@@ -1,20 +1,7 @@
-use Rattle.std.proofs.Common.{arith, zero-le}
-use Rattle.trail.specs.Texts.{bytes-long, bytes-start, bytes-differ, bytes-alike, bytes-end}
+-- `trail::texts::same_bytes` meets its contract: the library's equality goes over the pairs. Assumes nothing.
+use Rattle.std.proofs.Common.{◌∙◌}
+use Rattle.table.specs.NameLaws.{same-pairs}
 use Rattle.trail.proofs.texts.same_bytes.Goals as goal
-use Rattle.trail.proofs.texts.same_bytes.Goals.{then-a-i, else-a-i}
-
-pub returns-then-a-b : goal.returns-then-a-b
-returns-then-a-b c = bytes-long _ _ (λ e. c.if-a-b.true (omega arith))
-
-pub loop-i-init : goal.loop-i-init
-loop-i-init c = (zero-le, omega arith, bytes-start _ _)
-
-pub loop-i-preserved : goal.loop-i-preserved
-loop-i-preserved c = let l = c.loop-i in
-    elim c.if-a-i.branch [
-      | then-a-i w ↦ (omega arith, l.invariant.1, bytes-differ _ _ l.invariant.2 (omega arith) (omega arith) w.if-a-i.true w.alike-is)
-      | else-a-i w ↦ (omega arith, l.invariant.1, bytes-alike _ _ l.invariant.2 (omega arith) (omega arith) w.if-a-i.false w.alike-is)
-    ]
 
 pub returns : goal.returns
-returns c = bytes-end _ _ c.loop-i.invariant.2 (omega arith) (omega arith)
+returns c = c.eq.ensures ∙ same-pairs c.args.a.now c.args.b.now

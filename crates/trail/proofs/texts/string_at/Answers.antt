@@ -11,12 +11,6 @@ loop-i-init c = (seek-start _ _ _ _, search rules, omega arith)
 pub returns-then-blocks-i : goal.returns-then-blocks-i
 returns-then-blocks-i c = seek-end c.loop-i.invariant.0 c.if-blocks-i.true
 
-pub past-c-requires : goal.past-c-requires
-past-c-requires c = tt
-
-pub string_in-requires : goal.string_in-requires
-string_in-requires c = tt
-
 pub returns-then-k-c : goal.returns-then-k-c
 returns-then-k-c c = seek_found c.loop-i.invariant.0 c.loop-i.invariant.1 c.loop-i-test.true (omega arith) c.past-c.ensures c.if-k-c.true c.string_in.ensures
 

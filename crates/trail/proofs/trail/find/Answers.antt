@@ -2,9 +2,6 @@ use Rattle.std.proofs.Common.{rules, arith}
 use Rattle.trail.specs.Types.{find-start, find-over, find-end, find-found, find-on, find-there}
 use Rattle.trail.proofs.trail.find.Goals as goal
 
-pub stands_at-there-requires : goal.stands_at-there-requires
-stands_at-there-requires c = tt
-
 pub returns-then-there-n : goal.returns-then-there-n
 returns-then-there-n c = find-there c.stands_at-there.ensures c.if-there-n.true
 

@@ -1,5 +1,7 @@
 -- `walk::chunks::fill` meets its contract: a law for each of its four ways out. Assumes nothing.
-use Rattle.std.proofs.Common.{arith}
+use Rattle.std.proofs.Common.{arith, ap}
+use Rattle.numbers.specs.Faults.{number_of, one_fault}
+use Rattle.numbers.specs.declared.Fault.TheVariants.{Short}
 use Rattle.walk.specs.Steps.{part-used, bytes_left, part-short, part-refused}
 use Rattle.walk.proofs.chunks.fill.Goals as goal
 
@@ -12,11 +14,11 @@ returns-then-c-size c = part-used c.args.at c.args.size c.in-Ok.is c.if-c-size.t
 pub overflow_add-place : goal.overflow_add-place
 overflow_add-place c = omega (arith, rw c.in-Err.is at c.requires.0)
 
-pub returns-then-e-eq1 : goal.returns-then-e-eq1
-returns-then-e-eq1 c = part-short c.args.at c.args.size c.in-Err.is c.if-e-eq1.true
+pub returns-in-Short : goal.returns-in-Short
+returns-in-Short c = part-short c.args.at c.args.size c.in-Err.is (ap number_of c.in-Short.is)
 
 pub returns-else-c-size : goal.returns-else-c-size
 returns-else-c-size c = bytes_left c.args.at c.args.size c.in-Ok.is c.if-c-size.false
 
-pub returns-else-e-eq1 : goal.returns-else-e-eq1
-returns-else-e-eq1 c = part-refused c.args.at c.args.size c.in-Err.is c.if-e-eq1.false
+pub returns-in_default : goal.returns-in_default
+returns-in_default c = part-refused c.args.at c.args.size c.in-Err.is (λ h. c.in_default.not-Short (one_fault _ Short h))
