@@ -3,8 +3,7 @@ ghost use Rattle.std.specs.Prelude.{◌≡◌, ℕ, ◌<◌, ◌≤◌, List, le
 ghost use Rattle.paper.specs.Reader.{repeat};
 ghost use Rattle.values.specs.Pass.{Passed};
 ghost use Rattle.values.specs.Items.{in_range, linked, some_object};
-ghost use Rattle.values.specs.Linked.{Places};
-ghost use Rattle.values.specs.RangeLaws.{Placed};
+ghost use Rattle.values.specs.RangeLaws.{Placed, Places};
 
 use crate::guides::{bits_of, guess};
 use numbers::{Cursor, Fault, Outcome, Refusal};
@@ -89,8 +88,25 @@ pub fn range_by(guide: &[u32], first: &[u32], last: &[u32], n: u64) -> usize
     guided_range(guide, bits_of(guide), first, last, n)
 }
 
-// m numbers of objects, each of which lies in a range or is 0: `range` finds the range in which one lies, or how many there are. Each way
-// to find it has a loop of its own.
+// The number of an object, or 0: `range` finds the range in which one lies, or how many there are.
+fn reference<F: Fn(u64) -> usize>(part: &[u8], c: Cursor, first: &[u32], range: &F) -> Outcome<u64>
+    requires { F.IsAlwaysCallable range.now }
+    ensures { (last : List ℕ) → Places first.now last (F.post range.now) → Passed (linked (some_object first.now last)) part.now c.at result }
+{
+    let (n, next) = c.v64(part)?;
+    if n == 0 {
+        return Ok((n, next));
+    }
+    if first.len() <= range(n) {
+        return Err(Refusal {
+            fault: Fault::Reference,
+            place: c.at,
+        });
+    }
+    Ok((n, next))
+}
+
+// m numbers of objects. Each way to find a range has a loop of its own.
 fn references_by<F: Fn(u64) -> usize>(
     part: &[u8],
     c: Cursor,
@@ -99,22 +115,13 @@ fn references_by<F: Fn(u64) -> usize>(
     range: F,
 ) -> Outcome<u64>
     requires { F.IsAlwaysCallable range }
-    ensures { (last : List ℕ) → Places first.now last (F.post range)
-        → Passed (repeat m (linked (some_object first.now last))) part.now c.at result }
+    ensures { (last : List ℕ) → Places first.now last (F.post range) → Passed (repeat m (linked (some_object first.now last))) part.now c.at result }
 {
     let mut here = c;
-    // A `for` keeps two numbers where this keeps one, and the registers are few: with it a run of references is a tenth slower and more.
+    // A `for` keeps two numbers where this keeps one, and the registers are few here.
     let mut rest = m;
     while 0 < rest {
-        let (n, next) = here.v64(part)?;
-        if n != 0 {
-            if first.len() <= range(n) {
-                return Err(Refusal {
-                    fault: Fault::Reference,
-                    place: here.at,
-                });
-            }
-        }
+        let (_, next) = reference(part, here, first, &range)?;
         here = next;
         rest -= 1;
     }
