@@ -7,7 +7,6 @@ pub mod Annotations
 pub mod Items
 pub mod Ups
 pub mod Held
-pub mod Linked
 pub mod RangeLaws
 pub mod Chunks
 -- Maps of several types

@@ -3,7 +3,7 @@ use Rattle.std.specs.Prelude.{◌≡◌, ℕ, ◌+◌, ◌<◌, ◌≤◌, Bool,
 use Rattle.std.proofs.Math.Path.{refl}
 use Rattle.std.proofs.Common.{arith, lt_of_not-le, le-leb, eq-eqb, ne_eqb}
 use Rattle.std.proofs.Math.Decide.{dec_le}
-use borrow.Author.Tests.{le-ltb, lt-ltb}
+use borrow.Author.Tests.{le-ltb}
 use Rattle.std.proofs.lemmas.Bool.{lt-leb}
 use Rattle.values.specs.Items.{in_ranges, in_range, range-found, range_none, some_object}
 
@@ -11,6 +11,10 @@ use Rattle.values.specs.Items.{in_ranges, in_range, range-found, range_none, som
 pub record Placed (first last : List ℕ) (n i : ℕ) : Type 0 where
   pub found : i < length first → in_ranges first last n ≡ true
   pub missing : length first ≤ i → in_ranges first last n ≡ false
+
+-- what a search answers is such a place
+abbrev pub Places : List ℕ → List ℕ → (ℕ → ℕ → Type 0) → Type 0
+Places first last says = (n i : ℕ) → says n i → Placed first last n i
 
 pub placed_at : (first last : List ℕ) (n i : ℕ) → length first ≡ length last → i < length first → in_range first last i n ≡ true → Placed first last n i
 placed_at first last n i e h t = record { found = λ lt. range-found first last i n e h t; missing = λ le. absurd (omega arith) }
@@ -65,11 +69,3 @@ module _ (first last : List ℕ) (n : ℕ) where
   pub object-missing : (n ≢ 0) → {i : ℕ} → Placed first last n i → length first ≤ i → some_object first last n ≡ false
   unfolding some_object
   object-missing z P h = rw (ne_eqb n 0 z, P.missing h)
-
-  -- as code asks it, once n is not 0
-  pub object-by : (n ≢ 0) → {i : ℕ} → Placed first last n i → nat_lt i (length first) ≡ some_object first last n
-  object-by z {i} P =
-      elim (dec_le (length first) i) [
-        | yes d ↦ rw (le-ltb i (length first) d, object-missing z P d)
-        | no d ↦ (let near = lt_of_not-le d in rw (lt-ltb i (length first) near, object-found P near))
-      ]

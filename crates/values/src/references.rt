@@ -1,10 +1,9 @@
 // References: numbers of objects, which lie in the ranges of a type.
-ghost use Rattle.std.specs.Prelude.{◌≡◌, ℕ, ◌<◌, ◌≤◌, Bool, length};
+ghost use Rattle.std.specs.Prelude.{◌≡◌, ℕ, ◌<◌, ◌≤◌, List, length};
 ghost use Rattle.paper.specs.Reader.{repeat};
 ghost use Rattle.values.specs.Pass.{Passed};
 ghost use Rattle.values.specs.Items.{in_range, linked, some_object};
-ghost use Rattle.values.specs.Linked.{Tells};
-ghost use Rattle.values.specs.RangeLaws.{Placed};
+ghost use Rattle.values.specs.RangeLaws.{Placed, Places};
 
 use crate::guides::{bits_of, guess};
 use numbers::{Cursor, Fault, Outcome, Refusal};
@@ -89,42 +88,42 @@ pub fn range_by(guide: &[u32], first: &[u32], last: &[u32], n: u64) -> usize
     guided_range(guide, bits_of(guide), first, last, n)
 }
 
-// Whether n is the number of an object, or 0.
-fn object(first: &[u32], last: &[u32], n: u64) -> bool
-    requires { length first.now ≡ length last.now }
-    ensures { result ≡ some_object first.now last.now n }
+// The number of an object, or 0: `range` finds the range in which one lies, or how many there are.
+fn reference<F: Fn(u64) -> usize>(part: &[u8], c: Cursor, first: &[u32], range: &F) -> Outcome<u64>
+    requires { F.IsAlwaysCallable range.now }
+    ensures { (last : List ℕ) → Places first.now last (F.post range.now) → Passed (linked (some_object first.now last)) part.now c.at result }
 {
-    n == 0 || range_of(first, last, n) < first.len()
+    let (n, next) = c.v64(part)?;
+    if n == 0 {
+        return Ok((n, next));
+    }
+    if first.len() <= range(n) {
+        return Err(Refusal {
+            fault: Fault::Reference,
+            place: c.at,
+        });
+    }
+    Ok((n, next))
 }
 
-// The same, with a guide.
-fn guided_object(guide: &[u32], bits: u32, first: &[u32], last: &[u32], n: u64) -> bool
-    requires { (bits < 64) × (length first.now ≡ length last.now) }
-    ensures { result ≡ some_object first.now last.now n }
-{
-    n == 0 || guided_range(guide, bits, first, last, n) < first.len()
-}
-
-// m numbers, each of which the test takes. Each test has a loop of its own.
-pub(crate) fn linked_numbers<F: Fn(u64) -> bool>(
+// m numbers of objects. Each way to find a range has a loop of its own.
+fn references_by<F: Fn(u64) -> usize>(
     part: &[u8],
     c: Cursor,
     m: u64,
-    test: F,
+    first: &[u32],
+    range: F,
 ) -> Outcome<u64>
-    requires { F.IsAlwaysCallable test }
-    ensures { (ok : ℕ → Bool) → Tells ok (F.post test) → Passed (repeat m (linked ok)) part.now c.at result }
+    requires { F.IsAlwaysCallable range }
+    ensures { (last : List ℕ) → Places first.now last (F.post range) → Passed (repeat m (linked (some_object first.now last))) part.now c.at result }
 {
     let mut here = c;
-    for _ in 0..m {
-        let (n, next) = here.v64(part)?;
-        if !test(n) {
-            return Err(Refusal {
-                fault: Fault::Reference,
-                place: here.at,
-            });
-        }
+    // A `for` keeps two numbers where this keeps one, and the registers are few here.
+    let mut rest = m;
+    while 0 < rest {
+        let (_, next) = reference(part, here, first, &range)?;
         here = next;
+        rest -= 1;
     }
     Ok((0, here))
 }
@@ -134,7 +133,7 @@ pub fn references(part: &[u8], c: Cursor, m: u64, first: &[u32], last: &[u32]) -
     requires { length first.now ≡ length last.now }
     ensures { Passed (repeat m (linked (some_object first.now last.now))) part.now c.at result }
 {
-    linked_numbers(part, c, m, move |n| object(first, last, n))
+    references_by(part, c, m, first, move |n| range_of(first, last, n))
 }
 
 // The same, with a guide.
@@ -150,10 +149,11 @@ pub fn guided_references(
     ensures { Passed (repeat m (linked (some_object first.now last.now))) part.now c.at result }
 {
     let bits = bits_of(guide);
-    linked_numbers(
+    references_by(
         part,
         c,
         m,
-        move |n| guided_object(guide, bits, first, last, n),
+        first,
+        move |n| guided_range(guide, bits, first, last, n),
     )
 }

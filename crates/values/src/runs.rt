@@ -12,7 +12,6 @@ ghost use Rattle.values.specs.Held.{Bools};
 ghost use Rattle.values.specs.Overs.{Looks, RanTo};
 ghost use Rattle.values.specs.Ups.{Up, Surely};
 
-use crate::references::linked_numbers;
 use numbers::{Cursor, Fault, Outcome, Refusal, Run, Taken};
 
 // Whether all bytes from `at` up to `end` are 00 or FF. There is no way out of the loop before its end, so that the compiler looks at many
@@ -244,5 +243,10 @@ pub fn string_numbers(part: &[u8], c: Cursor, m: u64, strings: u64) -> Outcome<u
 pub fn strings_in_turn(part: &[u8], c: Cursor, m: u64, strings: u64) -> Outcome<u64>
     ensures { Passed (repeat m (linked (at_most strings))) part.now c.at result }
 {
-    linked_numbers(part, c, m, move |n| n <= strings)
+    let mut here = c;
+    for _ in 0..m {
+        let (_, next) = number_up_to(part, here, strings)?;
+        here = next;
+    }
+    Ok((0, here))
 }

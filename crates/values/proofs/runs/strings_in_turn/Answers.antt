@@ -1,7 +1,13 @@
-use Rattle.std.proofs.Common.{rules}
-use Rattle.values.specs.Items.{at_most}
+use Rattle.numbers.specs.Cursors.{handed}
+use Rattle.values.specs.Pass.{read-passed}
+use Rattle.values.specs.Turns.{turning-next, turning-no, turning-done}
 use Rattle.values.proofs.runs.strings_in_turn.Goals as goal
 
+pub returns-in_err-next : goal.returns-in_err-next
+returns-in_err-next c = rw (handed c.from_residual.ensures.1) (turning-no c.loop.invariant c.loop-test.true (read-passed c.number_up_to.ensures) c.in_err-next.was)
+
+pub loop-preserved : goal.loop-preserved
+loop-preserved c = turning-next c.loop.invariant c.loop-test.true (read-passed c.number_up_to.ensures) c.in_ok-next.was
+
 pub returns : goal.returns
-unfolding at_most
-returns c = c.linked_numbers.ensures (at_most c.args.strings) (λ n b said. search rules)
+returns c = turning-done c.loop.invariant 0 c.loop-test.false
