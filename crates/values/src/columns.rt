@@ -147,7 +147,7 @@ fn some_v64s(part: &[u8], c: Cursor, out: &mut [i64], p: usize, n: usize, long: 
 }
 
 // As many as are surely there are stored at once, again and again; the last few one by one. Whether they are long is a guess, which the
-// ones before tell: so no more than some hundred are stored by one.
+// ones before tell: so no more than some hundred are stored by one. A turn stores one or many, so no range counts the turns.
 fn fill_v64s(part: &[u8], out: &mut [i64], at: usize) -> usize
     ensures { Filled 11 part.now out.old at out.new result }
 {

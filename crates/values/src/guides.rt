@@ -23,7 +23,7 @@ pub fn guess(guide: &[u32], bits: u32, n: u64) -> usize
     }
 }
 
-// How many bits are left out where the last object has this number.
+// How many bits are left out where the last object has this number: all but six of those that it has, and no more than 24.
 fn bits_out(object: u32) -> u32
     ensures { result ≤ 24 }
 {
