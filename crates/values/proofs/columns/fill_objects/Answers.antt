@@ -1,5 +1,5 @@
-use Rattle.std.proofs.Common.{◌∙◌, to_z-of_z, w64}
 use Rattle.values.specs.Rows.{links-full, links-cut, link_fits, links-next, links-on, links-done}
+use Rattle.values.specs.Columns.{held}
 use Rattle.values.proofs.columns.fill_objects.Goals as goal
 
 pub returns-then-out-p : goal.returns-then-out-p
@@ -15,7 +15,7 @@ pub store-requires : goal.store-requires
 store-requires c = link_fits c.loop-from.invariant c.loop-from-test.true c.number_up_to.ensures c.in-Ok.is
 
 pub loop-from-preserved : goal.loop-from-preserved
-loop-from-preserved c = links-next c.loop-from.invariant c.loop-from-test.true c.number_up_to.ensures c.in-Ok.is (to_z-of_z {w = w64} (record { sfits = c.store.type_inv }) ∙ c.store.ensures)
+loop-from-preserved c = links-next c.loop-from.invariant c.loop-from-test.true c.number_up_to.ensures c.in-Ok.is (held c.store.type_inv c.store.ensures)
 
 pub returns : goal.returns
 returns c = links-done c.loop-from.invariant c.loop-from-test.false

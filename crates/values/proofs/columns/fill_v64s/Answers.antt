@@ -1,7 +1,8 @@
-use Rattle.std.proofs.Common.{refl, ◌∙◌, to_z-of_z, w64}
+use Rattle.std.proofs.Common.{refl}
 use Rattle.numbers.specs.Cursors.{was-got}
 use Rattle.values.specs.Rows.{stood, v64-listed, read-v64, number_cut, number-next}
 use Rattle.values.specs.Filling.{fill_done, fill-full}
+use Rattle.values.specs.Columns.{held}
 use Rattle.values.proofs.columns.fill_v64s.Goals as goal
 
 pub returns-then-out-p : goal.returns-then-out-p
@@ -17,7 +18,7 @@ pub value_of-requires : goal.value_of-requires
 value_of-requires c = v64-listed _ (was-got c.v64.ensures c.in-Ok.is).below
 
 pub loop-from-preserved : goal.loop-from-preserved
-loop-from-preserved c = number-next refl c.loop-from.invariant c.loop-from-test.true (read-v64 c.v64.ensures) c.in-Ok.is (stood c.value_of.ensures) (to_z-of_z {w = w64} (record { sfits = c.store.type_inv }) ∙ c.store.ensures)
+loop-from-preserved c = number-next refl c.loop-from.invariant c.loop-from-test.true (read-v64 c.v64.ensures) c.in-Ok.is (stood c.value_of.ensures) (held c.store.type_inv c.store.ensures)
 
 pub returns : goal.returns
 returns c = fill_done c.loop-from.invariant refl c.loop-from-test.false
