@@ -52,6 +52,10 @@ pub record Skips {A : Type 0} (q : Reader A) (f : List ℕ) (at end : ℕ) : Typ
 pub record Quick (q : Reader ℕ) (b : Bounds) : Type 0 where
   pub over : {f : List ℕ} {at end : ℕ} → Stands b.width b.low b.high f at end → Skips q f at end
 
+pub quick-behind :
+    {A : Type 0} {q : A → Reader ℕ} {b : Bounds} {f : List ℕ} {at end : ℕ} → ((a : A) → Quick (q a) b) → Stands b.width b.low b.high f at end → (a : A) → Skips (q a) f at end
+quick-behind Q S a = (Q a).over S
+
 pub skips-passed : {A : Type 0} {q : Reader A} {f : List ℕ} {at end : ℕ} → Skips q f at end → Passed q f at (Ok (0, record { at = end }))
 unfolding forget
 skips-passed S = record { says = sym S.says; inside = λ h. S.inside }
@@ -80,8 +84,8 @@ numbered {n = n} {end = end} reads w = record { value = n; reads = reads ∙ ap 
 
 -- ── an element ──
 
-pub stands-number : {width low high : ℕ} {f : List ℕ} {at r : ℕ} → width ≡ 0 → (r < FAR → Numbered low high f at r) → r ≤ length f → length f < FAR → Stands width low high f at r
-stands-number is N inside short = record { wide = λ h. absurd (omega arith); number = λ h. N (omega arith); inside = inside }
+pub stands-number : {width low high : ℕ} {f : List ℕ} {at r : ℕ} → width ≡ 0 → Numbered low high f at r → r ≤ length f → Stands width low high f at r
+stands-number is N inside = record { wide = λ h. absurd (omega arith); number = λ h. N; inside = inside }
 
 pub stands-wide : {width low high : ℕ} {f : List ℕ} {at : ℕ} → (width ≢ 0) → width ≤ 8 → at + width ≤ length f → Stands width low high f at (at + width)
 stands-wide some most inside = record { wide = λ h. (most, refl); number = λ h. absurd (some h); inside = inside }

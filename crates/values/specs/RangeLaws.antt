@@ -12,10 +12,6 @@ pub record Placed (first last : List ℕ) (n i : ℕ) : Type 0 where
   pub found : i < length first → in_ranges first last n ≡ true
   pub missing : length first ≤ i → in_ranges first last n ≡ false
 
--- what a search answers is such a place
-abbrev pub Places : List ℕ → List ℕ → (ℕ → ℕ → Type 0) → Type 0
-Places first last says = (n i : ℕ) → says n i → Placed first last n i
-
 pub placed_at : (first last : List ℕ) (n i : ℕ) → length first ≡ length last → i < length first → in_range first last i n ≡ true → Placed first last n i
 placed_at first last n i e h t = record { found = λ lt. range-found first last i n e h t; missing = λ le. absurd (omega arith) }
 

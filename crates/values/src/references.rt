@@ -1,9 +1,9 @@
 // References: numbers of objects, which lie in the ranges of a type.
-ghost use Rattle.std.specs.Prelude.{◌≡◌, ℕ, ◌<◌, ◌≤◌, List, length};
+ghost use Rattle.std.specs.Prelude.{◌≡◌, ◌<◌, ◌≤◌, length};
 ghost use Rattle.paper.specs.Reader.{repeat};
 ghost use Rattle.values.specs.Pass.{Passed};
 ghost use Rattle.values.specs.Items.{in_range, linked, some_object};
-ghost use Rattle.values.specs.RangeLaws.{Placed, Places};
+ghost use Rattle.values.specs.RangeLaws.{Placed};
 
 use crate::guides::{bits_of, guess};
 use numbers::{Cursor, Fault, Outcome, Refusal};
@@ -88,16 +88,17 @@ pub fn range_by(guide: &[u32], first: &[u32], last: &[u32], n: u64) -> usize
     guided_range(guide, bits_of(guide), first, last, n)
 }
 
-// The number of an object, or 0: `range` finds the range in which one lies, or how many there are.
-fn reference<F: Fn(u64) -> usize>(part: &[u8], c: Cursor, first: &[u32], range: &F) -> Outcome<u64>
-    requires { F.IsAlwaysCallable range.now }
-    ensures { (last : List ℕ) → Places first.now last (F.post range.now) → Passed (linked (some_object first.now last)) part.now c.at result }
+// The number of an object, or 0. It stands beside `guided_reference`, and `references` beside `guided_references`: one function that takes
+// the search as a parameter was tried, and with it a run of references to one range took a quarter longer.
+fn reference(part: &[u8], c: Cursor, first: &[u32], last: &[u32]) -> Outcome<u64>
+    requires { length first.now ≡ length last.now }
+    ensures { Passed (linked (some_object first.now last.now)) part.now c.at result }
 {
     let (n, next) = c.v64(part)?;
     if n == 0 {
         return Ok((n, next));
     }
-    if first.len() <= range(n) {
+    if first.len() <= range_of(first, last, n) {
         return Err(Refusal {
             fault: Fault::Reference,
             place: c.at,
@@ -106,37 +107,48 @@ fn reference<F: Fn(u64) -> usize>(part: &[u8], c: Cursor, first: &[u32], range: 
     Ok((n, next))
 }
 
-// m numbers of objects. Each way to find a range has a loop of its own.
-fn references_by<F: Fn(u64) -> usize>(
-    part: &[u8],
-    c: Cursor,
-    m: u64,
-    first: &[u32],
-    range: F,
-) -> Outcome<u64>
-    requires { F.IsAlwaysCallable range }
-    ensures { (last : List ℕ) → Places first.now last (F.post range) → Passed (repeat m (linked (some_object first.now last))) part.now c.at result }
+// m numbers of objects.
+pub fn references(part: &[u8], c: Cursor, m: u64, first: &[u32], last: &[u32]) -> Outcome<u64>
+    requires { length first.now ≡ length last.now }
+    ensures { Passed (repeat m (linked (some_object first.now last.now))) part.now c.at result }
 {
     let mut here = c;
-    // A `for` keeps two numbers where this keeps one, and the registers are few here.
+    // A `for` keeps two numbers where this keeps one, and the registers are few: it has an instruction more for each reference.
     let mut rest = m;
     while 0 < rest {
-        let (_, next) = reference(part, here, first, &range)?;
+        let (_, next) = reference(part, here, first, last)?;
         here = next;
         rest -= 1;
     }
     Ok((0, here))
 }
 
-// m numbers of objects.
-pub fn references(part: &[u8], c: Cursor, m: u64, first: &[u32], last: &[u32]) -> Outcome<u64>
-    requires { length first.now ≡ length last.now }
-    ensures { Passed (repeat m (linked (some_object first.now last.now))) part.now c.at result }
+// The same as `reference`, with a guide.
+fn guided_reference(
+    part: &[u8],
+    c: Cursor,
+    guide: &[u32],
+    bits: u32,
+    first: &[u32],
+    last: &[u32],
+) -> Outcome<u64>
+    requires { (bits < 64) × (length first.now ≡ length last.now) }
+    ensures { Passed (linked (some_object first.now last.now)) part.now c.at result }
 {
-    references_by(part, c, m, first, move |n| range_of(first, last, n))
+    let (n, next) = c.v64(part)?;
+    if n == 0 {
+        return Ok((n, next));
+    }
+    if first.len() <= guided_range(guide, bits, first, last, n) {
+        return Err(Refusal {
+            fault: Fault::Reference,
+            place: c.at,
+        });
+    }
+    Ok((n, next))
 }
 
-// The same, with a guide.
+// The same as `references`, with a guide.
 pub fn guided_references(
     part: &[u8],
     c: Cursor,
@@ -149,11 +161,12 @@ pub fn guided_references(
     ensures { Passed (repeat m (linked (some_object first.now last.now))) part.now c.at result }
 {
     let bits = bits_of(guide);
-    references_by(
-        part,
-        c,
-        m,
-        first,
-        move |n| guided_range(guide, bits, first, last, n),
-    )
+    let mut here = c;
+    let mut rest = m;
+    while 0 < rest {
+        let (_, next) = guided_reference(part, here, guide, bits, first, last)?;
+        here = next;
+        rest -= 1;
+    }
+    Ok((0, here))
 }

@@ -9,14 +9,14 @@ use Rattle.values.proofs.maps.+key_and_rest_map.Goals as goal
 pub key_and_rest-bounds-kinds-0 : goal.key_and_rest-bounds-kinds-0
 key_and_rest-bounds-kinds-0 t c = omega arith
 
-pub key_and_rest-element_behind-behind-requires : goal.key_and_rest-element_behind-behind-requires
-key_and_rest-element_behind-behind-requires t c = (first_kind c.args.kinds.now (omega arith) c.requires.in_bounds.1, c.requires.at_in_bounds.0, c.requires.at_in_bounds.1)
+pub key_and_rest-element_behind-requires : goal.key_and_rest-element_behind-requires
+key_and_rest-element_behind-requires t c = (first_kind c.args.kinds.now (omega arith) c.requires.in_bounds.1, c.requires.at_in_bounds.0, c.requires.at_in_bounds.1)
 
 pub key_and_rest-map-requires : goal.key_and_rest-map-requires
-key_and_rest-map-requires t c = (rest-falls c.args.kinds.now c.requires.in_bounds.0 c.decreases, (rest-asked 2 c.args.kinds.now c.if-kinds-gt2.true c.requires.in_bounds.1, (c.if-behind-part.true, c.requires.at_in_bounds.1)))
+key_and_rest-map-requires t c = (rest-falls c.args.kinds.now c.requires.in_bounds.0 c.decreases, (rest-asked 2 c.args.kinds.now c.if-kinds-gt2.true c.requires.in_bounds.1, ((c.in-Some.ensures c.args.pools.now).inside, c.requires.at_in_bounds.1)))
 
-pub key_and_rest-returns-then-behind-part : goal.key_and_rest-returns-then-behind-part
-key_and_rest-returns-then-behind-part t c = way-rest _ _ _ _ _ _ c.requires.in_bounds.0 (skips-passed (c.element_behind-behind.ensures c.if-behind-part.true _)) refl c.map.ensures
+pub key_and_rest-returns-in-Some : goal.key_and_rest-returns-in-Some
+key_and_rest-returns-in-Some t c = way-rest _ _ _ _ _ _ c.requires.in_bounds.0 (skips-passed (c.in-Some.ensures _)) refl c.map.ensures
 
 pub key_and_rest-element-requires : goal.key_and_rest-element-requires
 key_and_rest-element-requires t c = (first_kind c.args.kinds.now (omega arith) c.requires.in_bounds.1, c.requires.at_in_bounds.0, c.requires.at_in_bounds.1)
@@ -45,11 +45,11 @@ map-bounds_of-key-requires t c = (first_kind c.args.kinds.now (omega arith) c.re
 pub map-bounds_of-value-requires : goal.map-bounds_of-value-requires
 map-bounds_of-value-requires t c = (last-kind c.args.kinds.now c.requires.in_bounds.0 c.requires.in_bounds.1, c.requires.at_in_bounds.1)
 
-pub map-pairs_behind-end-requires : goal.map-pairs_behind-end-requires
-map-pairs_behind-end-requires t c = (was-got c.small.ensures c.in_ok-n.was).inside c.requires.at_in_bounds.0
+pub map-pairs_behind-requires : goal.map-pairs_behind-requires
+map-pairs_behind-requires t c = (was-got c.small.ensures c.in_ok-n.was).inside c.requires.at_in_bounds.0
 
-pub map-returns-then-end-part : goal.map-returns-then-end-part
-map-returns-then-end-part t c = way-keys _ _ _ _ _ _ c.requires.in_bounds.0 c.small.ensures c.in_ok-n.was (paired-passed (c.pairs_behind-end.ensures c.if-end-part.true) (key-steps _ _ _ _ _ _ (omega arith) (c.bounds_of-key.ensures _) (c.bounds_of-value.ensures _)))
+pub map-returns-in-Some : goal.map-returns-in-Some
+map-returns-in-Some t c = way-keys _ _ _ _ _ _ c.requires.in_bounds.0 c.small.ensures c.in_ok-n.was (paired-passed c.in-Some.ensures (key-steps _ _ _ _ _ _ (omega arith) (c.bounds_of-key.ensures _) (c.bounds_of-value.ensures _)))
 
 pub map-loop-init : goal.map-loop-init
 map-loop-init t c = turning-start _ _ _ _

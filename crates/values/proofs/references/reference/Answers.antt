@@ -9,16 +9,16 @@ use Rattle.values.proofs.references.reference.Goals as goal
 
 pub returns-in_err-n : goal.returns-in_err-n
 unfolding linked
-returns-in_err-n g c = rw (handed c.from_residual.ensures.1) (λ last P. read-passed (ruled-cut _ Reference (2 ^ 64) c.v64.ensures c.in_err-n.was (omega arith)))
+returns-in_err-n c = rw (handed c.from_residual.ensures.1) (read-passed (ruled-cut _ Reference (2 ^ 64) c.v64.ensures c.in_err-n.was (omega arith)))
 
 pub returns-then-n-eq0 : goal.returns-then-n-eq0
 unfolding linked
-returns-then-n-eq0 g c last P = passed-with _ (read-passed (ruled-taken _ Reference (2 ^ 64) c.v64.ensures c.in_ok-n.was (object-nought _ _ _ c.if-n-eq0.true) (was-got c.v64.ensures c.in_ok-n.was).below))
+returns-then-n-eq0 c = passed-with _ (read-passed (ruled-taken _ Reference (2 ^ 64) c.v64.ensures c.in_ok-n.was (object-nought _ _ _ c.if-n-eq0.true) (was-got c.v64.ensures c.in_ok-n.was).below))
 
-pub returns-then-first-range : goal.returns-then-first-range
+pub returns-then-first-range_of : goal.returns-then-first-range_of
 unfolding linked
-returns-then-first-range g c last P = read-passed (ruled-refused _ Reference (2 ^ 64) c.v64.ensures c.in_ok-n.was (object-missing _ _ _ c.if-n-eq0.false (P _ _ c.range.ensures) c.if-first-range.true) (omega arith))
+returns-then-first-range_of c = read-passed (ruled-refused _ Reference (2 ^ 64) c.v64.ensures c.in_ok-n.was (object-missing _ _ _ c.if-n-eq0.false c.range_of.ensures (omega arith)) (omega arith))
 
 pub returns : goal.returns
 unfolding linked
-returns g c last P = passed-with _ (read-passed (ruled-taken _ Reference (2 ^ 64) c.v64.ensures c.in_ok-n.was (object-found _ _ _ (P _ _ c.range.ensures) (omega arith)) (was-got c.v64.ensures c.in_ok-n.was).below))
+returns c = passed-with _ (read-passed (ruled-taken _ Reference (2 ^ 64) c.v64.ensures c.in_ok-n.was (object-found _ _ _ c.range_of.ensures (omega arith)) (was-got c.v64.ensures c.in_ok-n.was).below))
