@@ -1,9 +1,8 @@
 -- A search through the ranges. Assumes nothing.
-use Rattle.std.specs.Prelude.{◌≡◌, ℕ, ◌+◌, ◌<◌, ◌≤◌, Bool, true, false, ◌||◌, List, length, ◌==◌, ◌≢◌, nat_le, nat_lt, slice_index}
+use Rattle.std.specs.Prelude.{◌≡◌, ℕ, ◌+◌, ◌<◌, ◌≤◌, Bool, true, false, ◌||◌, List, length, ◌==◌, ◌≢◌, nat_le, slice_index}
 use Rattle.std.proofs.Math.Path.{refl}
 use Rattle.std.proofs.Common.{arith, lt_of_not-le, le-leb, eq-eqb, ne_eqb}
 use Rattle.std.proofs.Math.Decide.{dec_le}
-use borrow.Author.Tests.{le-ltb}
 use Rattle.std.proofs.lemmas.Bool.{lt-leb}
 use Rattle.values.specs.Items.{in_ranges, in_range, range-found, range_none, some_object}
 
@@ -17,9 +16,9 @@ placed_at first last n i e h t = record { found = λ lt. range-found first last 
 
 -- code tests one end after the other
 module _ (first last : List ℕ) (i n : ℕ) {before : ℕ} (is : before ≡ slice_index first i) where
-  pub before-range : n ≤ before → nat_lt before n ≡ in_range first last i n
+  pub before-range : n ≤ before → false ≡ in_range first last i n
   unfolding in_range
-  before-range h = rw (le-ltb before n h, lt-leb (slice_index first i + 1) n (omega arith))
+  before-range h = rw (lt-leb (slice_index first i + 1) n (omega arith))
 
   pub behind-first : {end : ℕ} → end ≡ slice_index last i → before < n → nat_le n end ≡ in_range first last i n
   unfolding in_range
@@ -30,7 +29,7 @@ pub record Searched (first last : List ℕ) (n i : ℕ) : Type 0 where
   pub none : (j : ℕ) → j < i → in_range first last j n ≡ false
   pub within : i ≤ length first
 
-pub searched-all : {first last : List ℕ} {n i : ℕ} → Searched first last n i → length first ≤ i → Placed first last n (length first)
+pub searched-all : {first last : List ℕ} {n i : ℕ} → Searched first last n i → length first ≤ i → Placed first last n i
 searched-all {first} {last} {n} {i} S h =
     record { found = λ lt. absurd (omega arith); missing = λ le. range_none first last n (λ j lt. S.none j (omega arith)) }
 

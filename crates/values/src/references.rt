@@ -7,13 +7,30 @@ ghost use Rattle.values.specs.RangeLaws.{Placed};
 
 use crate::guides::{bits_of, guess};
 use numbers::{Cursor, Fault, Outcome, Refusal};
+use std::num;
+
+// The loops count by hand here, an end is widened by `wide`, and what takes a guide stands beside what takes none. With `for`, `&&` and
+// `u64::from` in `search`, `lies_in` and `over`, 65,535 references to one range took 0.23 ms in place of 0.17, and 0.21 where besides one
+// function took the search as a parameter: the compiler then asks again, for each reference, whether a range was found.
+
+// An end of a range in the width of the numbers that are held against it. Said once, it spares each load a fact.
+fn wide(x: u32) -> u64
+    ensures { result ≡ x }
+{
+    x as u64
+}
 
 // Whether object n lies in the i-th range.
 fn lies_in(first: &[u32], last: &[u32], i: usize, n: u64) -> bool
     requires { (length first.now ≡ length last.now) × (i < length first.now) }
     ensures { result ≡ in_range first.now last.now i n }
 {
-    u64::from(first[i]) < n && n <= u64::from(last[i])
+    let before = wide(first[i]);
+    let end = wide(last[i]);
+    if n <= before {
+        return false;
+    }
+    n <= end
 }
 
 // The range in which object n lies, or how many there are.
@@ -21,12 +38,14 @@ fn search(first: &[u32], last: &[u32], n: u64) -> usize
     requires { length first.now ≡ length last.now }
     ensures { Placed first.now last.now n result }
 {
-    for i in 0..first.len() {
+    let mut i: usize = 0;
+    while i < first.len() {
         if lies_in(first, last, i, n) {
             return i;
         }
+        i += 1;
     }
-    first.len()
+    i
 }
 
 // How far to go on: over a half that ends before n, or not at all. A difference below 0 has its top bit set, and a product
@@ -35,7 +54,7 @@ fn over(last: &[u32], at: usize, half: usize, n: u64) -> usize
     requires { at < length last.now }
     ensures { result ≤ half }
 {
-    let below = u64::from(last[at]).wrapping_sub(n);
+    let below = num::wrapping_sub_u64(wide(last[at]), n);
     let before = (below >> 63) as usize;
     half * before
 }
@@ -66,30 +85,7 @@ fn range_of(first: &[u32], last: &[u32], n: u64) -> usize
     search(first, last, n)
 }
 
-// The same, with a look at the range that a guide names before it.
-fn guided_range(guide: &[u32], bits: u32, first: &[u32], last: &[u32], n: u64) -> usize
-    requires { (bits < 64) × (length first.now ≡ length last.now) }
-    ensures { Placed first.now last.now n result }
-{
-    let i = guess(guide, bits, n);
-    if i < first.len() {
-        if lies_in(first, last, i, n) {
-            return i;
-        }
-    }
-    range_of(first, last, n)
-}
-
-// The same, for whoever looks for one object at a time.
-pub fn range_by(guide: &[u32], first: &[u32], last: &[u32], n: u64) -> usize
-    requires { length first.now ≡ length last.now }
-    ensures { Placed first.now last.now n result }
-{
-    guided_range(guide, bits_of(guide), first, last, n)
-}
-
-// The number of an object, or 0. It stands beside `guided_reference`, and `references` beside `guided_references`: one function that takes
-// the search as a parameter was tried, and with it a run of references to one range took a quarter longer.
+// The number of an object, or 0.
 fn reference(part: &[u8], c: Cursor, first: &[u32], last: &[u32]) -> Outcome<u64>
     requires { length first.now ≡ length last.now }
     ensures { Passed (linked (some_object first.now last.now)) part.now c.at result }
@@ -113,7 +109,6 @@ pub fn references(part: &[u8], c: Cursor, m: u64, first: &[u32], last: &[u32]) -
     ensures { Passed (repeat m (linked (some_object first.now last.now))) part.now c.at result }
 {
     let mut here = c;
-    // A `for` keeps two numbers where this keeps one, and the registers are few: it has an instruction more for each reference.
     let mut rest = m;
     while 0 < rest {
         let (_, next) = reference(part, here, first, last)?;
@@ -121,6 +116,28 @@ pub fn references(part: &[u8], c: Cursor, m: u64, first: &[u32], last: &[u32]) -
         rest -= 1;
     }
     Ok((0, here))
+}
+
+// The same as `range_of`, with a look at the range that a guide names before it.
+fn guided_range(guide: &[u32], bits: u32, first: &[u32], last: &[u32], n: u64) -> usize
+    requires { (bits < 64) × (length first.now ≡ length last.now) }
+    ensures { Placed first.now last.now n result }
+{
+    let i = guess(guide, bits, n);
+    if i < first.len() {
+        if lies_in(first, last, i, n) {
+            return i;
+        }
+    }
+    range_of(first, last, n)
+}
+
+// The same, for whoever looks for one object at a time.
+pub fn range_by(guide: &[u32], first: &[u32], last: &[u32], n: u64) -> usize
+    requires { length first.now ≡ length last.now }
+    ensures { Placed first.now last.now n result }
+{
+    guided_range(guide, bits_of(guide), first, last, n)
 }
 
 // The same as `reference`, with a guide.
