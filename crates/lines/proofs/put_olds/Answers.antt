@@ -11,8 +11,5 @@ loop-init c = rw sub-zero (leads-start (omega arith) (omega arith))
 pub loop-preserved : goal.loop-preserved
 loop-preserved c = leads-on c.loop.invariant (olds-more (omega arith)) c.put_old-p.ensures
 
-pub shape_of-out : goal.shape_of-out
-shape_of-out c = c.loop.invariant.long
-
 pub returns : goal.returns
 returns c = leads-end c.loop.invariant (olds-none (omega arith))

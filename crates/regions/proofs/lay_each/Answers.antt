@@ -5,9 +5,6 @@ use Rattle.regions.specs.Turns.{sizing-ready}
 use Rattle.lay.specs.Laid.{most}
 use Rattle.regions.proofs.lay_each.Goals as goal
 
-pub dues-i-end-requires : goal.dues-i-end-requires
-dues-i-end-requires c = c.requires.0.holds.ok
-
 pub loop-i-init : goal.loop-i-init
 unfolding most
 loop-i-init c = both-start c.requires.0 _ _ _ (omega arith) (omega arith) refl
@@ -18,9 +15,6 @@ lay_due-requires c = sizing-ready c.requires.0 c.loop-i.invariant.sizing (omega 
 pub shape_of-work-in_err-here : goal.shape_of-work-in_err-here
 shape_of-work-in_err-here c = c.lay_due.ensures.holds.ok.long ∙ sym c.requires.0.holds.ok.long
 
-pub shape_of-out-in_err-here : goal.shape_of-out-in_err-here
-shape_of-out-in_err-here c = c.lay_due.auto.out ∙ c.loop-i.invariant.long
-
 pub returns-in_err-here : goal.returns-in_err-here
 returns-in_err-here c = rw c.from_residual.ensures (both-bad c.requires.0 c.loop-i.invariant (omega arith) c.lay_due.ensures c.in_err-here.was)
 
@@ -29,9 +23,6 @@ loop-i-preserved c = both-next c.requires.0 c.loop-i.invariant (omega arith) c.l
 
 pub shape_of-work : goal.shape_of-work
 shape_of-work c = c.loop-i.invariant.sizing.holds.ok.long ∙ sym c.requires.0.holds.ok.long
-
-pub shape_of-out : goal.shape_of-out
-shape_of-out c = c.loop-i.invariant.long
 
 pub returns : goal.returns
 returns c = both-done c.requires.0 c.loop-i.invariant (omega arith) (omega arith)

@@ -3,9 +3,6 @@ use Rattle.std.proofs.Common.{sym, ◌∙◌, arith}
 use Rattle.regions.specs.Turns.{sizing-start, sizing-ready, sizing-next, sizing-bad, sizing-done}
 use Rattle.regions.proofs.size_each.Goals as goal
 
-pub dues-i-end-requires : goal.dues-i-end-requires
-dues-i-end-requires c = c.requires.0.holds.ok
-
 pub loop-i-init : goal.loop-i-init
 loop-i-init c = sizing-start _ c.requires.0
 

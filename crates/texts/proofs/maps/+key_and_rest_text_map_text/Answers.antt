@@ -5,32 +5,17 @@ use Rattle.texts.specs.Told.{refuses, taking-behind, taking-next, taking-bad, ta
 use Rattle.texts.specs.MapWays.{way-word, way-no-size, way-keys, way-no-key, way-rest}
 use Rattle.texts.proofs.maps.+key_and_rest_text_map_text.Goals as goal
 
-pub key_and_rest_text-bounds-kinds-0 : goal.key_and_rest_text-bounds-kinds-0
-key_and_rest_text-bounds-kinds-0 t c = omega (arith, c.requires.0)
-
 pub key_and_rest_text-word_text-requires : goal.key_and_rest_text-word_text-requires
 key_and_rest_text-word_text-requires t c = (first_kind c.args.kinds.now (omega (arith, c.requires.0)) c.requires.1, c.requires.2)
 
 pub key_and_rest_text-returns-in_err-k : goal.key_and_rest_text-returns-in_err-k
 key_and_rest_text-returns-in_err-k t c = rw c.from_residual.ensures (refuses (way-no-key _ _ _ _ _ _ c.requires.0 c.word_text.ensures c.in_err-k.was))
 
-pub key_and_rest_text-slice_bounds-map_text-start : goal.key_and_rest_text-slice_bounds-map_text-start
-key_and_rest_text-slice_bounds-map_text-start t c = omega (arith, c.requires.0)
-
-pub key_and_rest_text-slice_bounds-map_text-end : goal.key_and_rest_text-slice_bounds-map_text-end
-key_and_rest_text-slice_bounds-map_text-end t c = omega (arith, c.requires.0)
-
-pub key_and_rest_text-slice_bounds-map_text-count : goal.key_and_rest_text-slice_bounds-map_text-count
-key_and_rest_text-slice_bounds-map_text-count t c = omega (arith, c.requires.0)
-
 pub key_and_rest_text-map_text-requires : goal.key_and_rest_text-map_text-requires
 key_and_rest_text-map_text-requires t c = (rest-falls c.args.kinds.now c.requires.0 c.decreases, ((rest-asked 1 c.args.kinds.now c.requires.0 c.requires.1).0, (rest-asked 1 c.args.kinds.now c.requires.0 c.requires.1).1, c.requires.2))
 
 pub key_and_rest_text-returns : goal.key_and_rest_text-returns
 key_and_rest_text-returns t c = way-rest _ _ _ _ _ _ c.requires.0 c.word_text.ensures c.in_ok-k.was c.map_text.ensures
-
-pub map_text-bounds-kinds-0 : goal.map_text-bounds-kinds-0
-map_text-bounds-kinds-0 t c = omega arith
 
 pub map_text-word_text-requires : goal.map_text-word_text-requires
 map_text-word_text-requires t c = (first_kind c.args.kinds.now c.requires.0 c.requires.1, c.requires.2)
@@ -43,9 +28,6 @@ map_text-returns-in_err-n t c = rw c.from_residual.ensures (refuses (way-no-size
 
 pub map_text-loop-init : goal.map_text-loop-init
 map_text-loop-init t c = rw sub-zero (taking-behind _ _ _ _ _ c.put_v64-behind.ensures refl)
-
-pub map_text-key_and_rest_text-requires : goal.map_text-key_and_rest_text-requires
-map_text-key_and_rest_text-requires t c = (omega (arith, c.decreases), (omega arith, c.requires.1, c.requires.2))
 
 pub map_text-returns-in_err-here : goal.map_text-returns-in_err-here
 map_text-returns-in_err-here t c = rw c.from_residual-in_err-here.ensures (way-keys _ _ _ _ _ _ c.requires.0 (λ q. omega arith) (rw c.in_ok-n.was at c.size_text.ensures) c.put_v64-behind.ensures (taking-bad c.loop.invariant {less = c.in_ok-n.n - (c.loop.counter + 1)} (omega arith) c.key_and_rest_text.ensures c.in_err-here.was))
