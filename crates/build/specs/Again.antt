@@ -1,5 +1,6 @@
 -- The second pass: the values of a pair laid before its front, at the place where they are known to begin. Assumes nothing.
-use Rattle.std.specs.Prelude.{◌≡◌, Bool, true, false, List, [], ℕ, ◌+◌, ◌-◌, ◌≤◌, ◌<◌, leb, get_or, drop}
+use Rattle.std.specs.Prelude as prelude
+use Rattle.std.specs.Prelude.{None, Some, ◌≡◌, Bool, true, false, List, [], ℕ, ◌+◌, ◌-◌, ◌≤◌, ◌<◌, leb, get_or, drop}
 use Rattle.std.proofs.Math.Path.{refl, sym, ap, subst}
 use Rattle.std.proofs.Common.{◌∙◌, append-nil, arith, drop_of_length-le}
 use Rattle.std.proofs.Math.Option.{none, some}
@@ -21,12 +22,9 @@ use Rattle.table.specs.Counts.{Next}
 use Rattle.walk.specs.Region.{sizes}
 use Rattle.values.specs.Filling.{sets-front}
 use Rattle.texts.specs.declared.Taken.{Taken}
-use Rattle.texts.specs.declared.TextRead.{TextRead}
-use Rattle.texts.specs.declared.TextRead.TheVariants as read
 use Rattle.regions.specs.Turns.{RegionReady, RegionSized}
 use Rattle.regions.specs.Both.{RegionLaid, LaidSized, as-sized}
 use Rattle.regions.specs.After.{still-ready}
-use Rattle.words.specs.declared.read.Step.TheVariants as step
 use Rattle.build.specs.FrontLaws.{PairAsks, Fronted}
 use Rattle.build.specs.FrontTold.{FrontTold, FrontedBy}
 use Rattle.build.specs.Places.{front_bytes, value_bytes, pair-length, Placed, PairPlaced, placed_end, placed-next}
@@ -34,8 +32,6 @@ use Rattle.build.specs.Pairs.{Built, TextReady, FileBuilt, PairsGoing, pairs-beg
 use Rattle.build.specs.PairLaws.{values-read, pair, reads, small-sizes, region-laid, pair-laid, pair_inside, pair-built}
 use Rattle.build.specs.Puts.{FrontLays, fronted, front-ready, front-told}
 use Rattle.build.specs.declared.front.Front.{Front}
-use Rattle.build.specs.declared.front.FrontRead.{FrontRead}
-use Rattle.build.specs.declared.front.FrontRead.TheVariants.{Got, Bad}
 
 -- ── a pair ──
 
@@ -48,30 +44,30 @@ pub record PairGiven (t l : List ℕ) (from at values : ℕ) : Type 0 where
   pub place : values ≡ at + length (front_bytes asks.state pair)
   pub short : at + length (put_pair asks.state pair) ≤ most_bytes
 
-module _ {t l : List ℕ} {at p q : ℕ} (G : PairGiven t l at p q) {a : FrontRead} {l₁ : List ℕ} (T : FrontTold t l at a l₁) where
+module _ {t l : List ℕ} {at p q : ℕ} (G : PairGiven t l at p q) {a : prelude.Option Front} {l₁ : List ℕ} (T : FrontTold t l at a l₁) where
   abbrev s : State
   s = G.asks.state
 
-  pub again-no-front : a ≡ Bad → ⊥
-  again-no-front is = not-got (sym (subst (λ (x : FrontRead). FrontedBy t l s at x l₁) is (T.told s G.asks.spelt G.asks.says)) ∙ G.reads)
+  pub again-no-front : a ≡ None → ⊥
+  again-no-front is = not-got (sym (subst (λ (x : prelude.Option Front). FrontedBy t l s at x l₁) is (T.told s G.asks.spelt G.asks.says)) ∙ G.reads)
 
-  module _ {x : Front} (is : a ≡ Got x) where
+  module _ {x : Front} (is : a ≡ Some x) where
     abbrev F : Fronted t l s at x.entries x.from.at x.values.at l₁
     F = fronted G.asks T is s G.asks.spelt G.asks.says
 
-    module _ {out m₁ : List ℕ} {b : TextRead} {l₂ : List ℕ} (Y : LaidSized t l₁ x.values.at out q m₁ b l₂) where
-      pub again-no-values : b ≡ read.Bad → ⊥
+    module _ {out m₁ : List ℕ} {b : prelude.Option Taken} {l₂ : List ℕ} (Y : LaidSized t l₁ x.values.at out q m₁ b l₂) where
+      pub again-no-values : b ≡ None → ⊥
       unfolding most
       again-no-values bad =
           let (cs, reads, same) = values-read G.asks.spelt F G.reads in
           let over = Y.refused bad cs G.next reads in
           absurd (omega (arith, over, ap length same, pair-length s G.pair, G.place, G.short))
 
-      module _ {k : Taken} (to : b ≡ read.Got k) where
+      module _ {k : Taken} (to : b ≡ Some k) where
         values-laid : RegionLaid t l₁ x.values.at out q m₁ k l₂
         values-laid = Y.laid k to
 
-        abbrev R : RegionSized t l₁ x.values.at (step.To k.next) l₂
+        abbrev R : RegionSized t l₁ x.values.at (Some k.next) l₂
         R = as-sized (front-ready G.asks T is) values-laid
 
         pub again-ready : RegionReady t l₂

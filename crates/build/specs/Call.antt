@@ -1,5 +1,6 @@
 -- The call: the file whose listing a text is. Assumes nothing.
-use Rattle.std.specs.Prelude.{◌≡◌, refl, true, ℕ, ◌≤◌, ◌<◌, take, Result, Ok, Err}
+use Rattle.std.specs.Prelude as prelude
+use Rattle.std.specs.Prelude.{None, Some, ◌≡◌, refl, true, ℕ, ◌≤◌, ◌<◌, take, Result, Ok, Err}
 use Rattle.std.proofs.Common.{sym, ◌∙◌, subst, arith, length-take}
 use Rattle.std.proofs.Math.Path.{ap}
 use mathlib.Core.List.{List, [], ◌++◌}
@@ -22,8 +23,6 @@ use Rattle.laws.specs.Room.{print-room, empty-few}
 use Rattle.table.specs.Counts.{noughts, Begun}
 use Rattle.walk.specs.FileLaws.{steady-begun, state-begun}
 use Rattle.texts.specs.declared.Taken.{Taken}
-use Rattle.texts.specs.declared.TextRead.{TextRead}
-use Rattle.texts.specs.declared.TextRead.TheVariants.{Got, Bad}
 use Rattle.calls.specs.Told.{answer_of, after, Wrote, wrote_none, wrote-all}
 use Rattle.calls.specs.Table.{untouched, noughts-first}
 use Rattle.calls.specs.Fixed.{one_way}
@@ -84,11 +83,11 @@ module _ {t : List ℕ} {n : ℕ} (B : FileBuilt t [] [] n) where
 pub lent : (n : ℕ) (out : List ℕ) → n ≤ length out → n ≡ length (take n out)
 lent n out le = omega (arith, length-take n out)
 
-module _ {t ps : List ℕ} {a : TextRead} (C : FileCounted t ps a) where
-  pub build-bad : a ≡ Bad → {out : List ℕ} → Wrote (build (length out) table_length t) out (Err (record { number = 20 })) out
+module _ {t ps : List ℕ} {a : prelude.Option Taken} (C : FileCounted t ps a) where
+  pub build-bad : a ≡ None → {out : List ℕ} → Wrote (build (length out) table_length t) out (Err (record { number = 20 })) out
   build-bad is {out} = wrote_none (build-none (length out) t (subst (FileBy t ps) is C.told))
 
-  module _ {k : Taken} (is : a ≡ Got k) where
+  module _ {k : Taken} (is : a ≡ Some k) where
     counted : FileLong t ps k.at
     counted = subst (FileBy t ps) is C.told
 

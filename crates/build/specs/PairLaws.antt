@@ -1,5 +1,6 @@
 -- The ways out of building a pair, on plain values: its front was read, and its values are counted, or laid. Assumes nothing.
-use Rattle.std.specs.Prelude.{◌≡◌, ℕ, ◌+◌, ◌^◌, ◌≤◌, ◌<◌, min, length}
+use Rattle.std.specs.Prelude as prelude
+use Rattle.std.specs.Prelude.{None, Some, ◌≡◌, ℕ, ◌+◌, ◌^◌, ◌≤◌, ◌<◌, min, length}
 use Rattle.std.proofs.Math.Path.{refl, sym, ap, subst}
 use Rattle.std.proofs.Common.{◌∙◌, arith}
 use mathlib.Core.List.{List, [], ◌∷◌, ◌++◌, map, append-nil}
@@ -35,8 +36,6 @@ use Rattle.regions.specs.Turns.{what_due, RegionReady, RegionSized, Sized, regio
 use Rattle.regions.specs.Both.{RegionLaid}
 use Rattle.regions.specs.After.{same-dues, sized-length}
 use Rattle.words.specs.declared.read.Place.{Place}
-use Rattle.words.specs.declared.read.Step.{Step}
-use Rattle.words.specs.declared.read.Step.TheVariants as step
 use Rattle.build.specs.Spelling.{chunk_text-hexed, put_chunks-hexed}
 use Rattle.build.specs.Swap.{laid-swap}
 use Rattle.build.specs.Fronts.{region_text, with_values}
@@ -90,7 +89,7 @@ module _ {t l : List ℕ} {at : ℕ} {s : State} (S : Spelt s) {m from to : ℕ}
   bytes-as : (cs : List Chunk) → put_chunks (view t l₁) (what_due l₁) cs ≡ put_chunks s₂ ds cs
   bytes-as cs = rw (dues-what, F.state) (put_chunks-hexed s₂ ds cs)
 
-  pub built-bad : {r : Step} {l₂ : List ℕ} → RegionSized t l₁ to r l₂ → r ≡ step.Bad → Refused s t at
+  pub built-bad : {r : prelude.Option Place} {l₂ : List ℕ} → RegionSized t l₁ to r l₂ → r ≡ None → Refused s t at
   unfolding with_values
   built-bad R is = wrong (F.reads ∙ rw (sym (region-as to) ∙ R.refused is))
 
@@ -112,7 +111,7 @@ module _ {t l : List ℕ} {at : ℕ} {s : State} (S : Spelt s) {m from to : ℕ}
           (cs, is ∙ ap (λ (x : ℕ). got cs x) end, ap (flat (λ b. b)) (bytes-as cs) ∙ ap (λ (x : Pair). value_bytes s x) same)
       go (no n q) is k = not-got k
 
-  module _ {r : Step} {l₂ : List ℕ} (R : RegionSized t l₁ to r l₂) {next : Place} (is : r ≡ step.To next) where
+  module _ {r : prelude.Option Place} {l₂ : List ℕ} (R : RegionSized t l₁ to r l₂) {next : Place} (is : r ≡ Some next) where
     pub sized : Sized t l₁ to next.at l₂
     sized = R.sized next is
 

@@ -1,5 +1,6 @@
 -- A pair laid down, or counted: its front, and with its values what was read of it. Assumes nothing.
-use Rattle.std.specs.Prelude.{◌≡◌, refl, true, List, ◌++◌, map, ℕ, ◌+◌, ◌^◌, ◌≤◌, ◌<◌, min, length, drop}
+use Rattle.std.specs.Prelude as prelude
+use Rattle.std.specs.Prelude.{None, Some, ◌≡◌, refl, true, List, ◌++◌, map, ℕ, ◌+◌, ◌^◌, ◌≤◌, ◌<◌, min, length, drop}
 use Rattle.std.proofs.Common.{ap, ◌∙◌, subst, arith}
 use Rattle.paper.specs.Reader.{got, times}
 use Rattle.paper.specs.Bounds.{most_bytes}
@@ -20,8 +21,6 @@ use Rattle.fronts.specs.Ends.{sum, ends_of}
 use Rattle.regions.specs.Turns.{RegionReady, RegionSized}
 use Rattle.regions.specs.After.{still-ready, same_view}
 use Rattle.words.specs.declared.read.Place.{Place}
-use Rattle.words.specs.declared.read.Step.{Step}
-use Rattle.words.specs.declared.read.Step.TheVariants as step
 use Rattle.build.specs.FrontLaws.{PairAsks, Fronted}
 use Rattle.build.specs.FrontTold.{FrontTold, FrontedBy}
 use Rattle.build.specs.Places.{front_bytes}
@@ -29,9 +28,6 @@ use Rattle.build.specs.Pairs.{wrong}
 use Rattle.build.specs.Counting.{Counted, PairCounted}
 use Rattle.build.specs.PairLaws.{region-ready, built-bad, built-long, pair, sum-small, as_many, front-laid, pair-counted, pair_inside, pair-built}
 use Rattle.build.specs.declared.front.Front.{Front}
-use Rattle.build.specs.declared.front.FrontRead.{FrontRead}
-use Rattle.build.specs.declared.front.FrontRead.TheVariants.{Got, Bad}
-use Rattle.build.specs.declared.pairs.PairRead.TheVariants as read
 
 -- the bytes of a front, for every reading that these lines and rows are of
 pub record FrontLays (t : List ℕ) (x : Front) (l : List ℕ) (from : ℕ) (out : List ℕ) (at : ℕ) (m : List ℕ) (r : ℕ) : Type 0 where
@@ -52,22 +48,22 @@ module _ {t : List ℕ} {x : Front} {l : List ℕ} {from : ℕ} {out m₁ m₂ m
 
 -- ── the ways out of counting a pair ──
 
-module _ {t l : List ℕ} {at : ℕ} (A : PairAsks t l at) {a : FrontRead} {l₁ : List ℕ} (T : FrontTold t l at a l₁) where
-  pub pair-no-front : a ≡ Bad → {p : ℕ} {l' : List ℕ} → PairCounted t l at p read.Bad l'
-  pair-no-front is = record { told = λ s S q. wrong (subst (λ (x : FrontRead). FrontedBy t l s at x l₁) is (T.told s S q)) }
+module _ {t l : List ℕ} {at : ℕ} (A : PairAsks t l at) {a : prelude.Option Front} {l₁ : List ℕ} (T : FrontTold t l at a l₁) where
+  pub pair-no-front : a ≡ None → {p : ℕ} {l' : List ℕ} → PairCounted t l at p None l'
+  pair-no-front is = record { told = λ s S q. wrong (subst (λ (x : prelude.Option Front). FrontedBy t l s at x l₁) is (T.told s S q)) }
 
-  module _ {x : Front} (is : a ≡ Got x) where
+  module _ {x : Front} (is : a ≡ Some x) where
     pub fronted : (s : State) → Spelt s → view t l ≡ hexed s → Fronted t l s at x.entries x.from.at x.values.at l₁
-    fronted s S q = subst (λ (y : FrontRead). FrontedBy t l s at y l₁) is (T.told s S q)
+    fronted s S q = subst (λ (y : prelude.Option Front). FrontedBy t l s at y l₁) is (T.told s S q)
 
     pub front-ready : RegionReady t l₁
     front-ready = region-ready A.spelt (fronted A.state A.spelt A.says)
 
-    module _ {b : Step} {l₂ : List ℕ} (R : RegionSized t l₁ x.values.at b l₂) where
-      pub pair-no-values : b ≡ step.Bad → {p : ℕ} {l' : List ℕ} → PairCounted t l at p read.Bad l'
+    module _ {b : prelude.Option Place} {l₂ : List ℕ} (R : RegionSized t l₁ x.values.at b l₂) where
+      pub pair-no-values : b ≡ None → {p : ℕ} {l' : List ℕ} → PairCounted t l at p None l'
       pair-no-values bad = record { told = λ s S q. built-bad S (fronted s S q) R bad }
 
-      module _ {next : Place} (to : b ≡ step.To next) where
+      module _ {next : Place} (to : b ≡ Some next) where
         pub sized-ready : RegionReady t l₂
         sized-ready = still-ready (R.sized next to) front-ready
 
@@ -81,12 +77,12 @@ module _ {t l : List ℕ} {at : ℕ} (A : PairAsks t l at) {a : FrontRead} {l₁
             front-laid S F R to small (L.laid F.strings spelt F.small F.few _ F.entries x.values.at F.lines (as_many S F R to small) (sum-small S F R to small))
 
         module _ {n : ℕ} (size : n ≡ min (sizes (dues_of l₂)) most) where
-          pub pair-long : most_bytes < n → {p : ℕ} {l' : List ℕ} → PairCounted t l at p read.Bad l'
+          pub pair-long : most_bytes < n → {p : ℕ} {l' : List ℕ} → PairCounted t l at p None l'
           pair-long h = record { told = λ s S q. built-long S (fronted s S q) R to size h }
 
           pub pair-done :
               n ≤ most_bytes → {from : ℕ} → from ≡ strings_in l → {out m : List ℕ} {p v r : ℕ} → FrontLays t x l₂ from out p m v → r ≡ min (v + n) most → {l₃ : List ℕ} → Next l₂ l₃
-              → PairCounted t l at p (read.Got (record { next = next; values = v; end = r })) l₃
+              → PairCounted t l at p (Some (record { next = next; values = v; end = r })) l₃
           unfolding most pair-built
           pair-done h first {p = p} {v} {r} L end {l₃} N = record { told = λ s S q. counted s S q }
             where

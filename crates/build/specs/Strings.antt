@@ -1,5 +1,6 @@
 -- The strings of a listed pair: the table has them as they stand in the text, in hex. Assumes nothing.
-use Rattle.std.specs.Prelude.{◌≡◌, refl, true, List, [], ◌∷◌, ◌++◌, map, ℕ, ◌+◌, ◌-◌, ◌≤◌, ◌<◌, length}
+use Rattle.std.specs.Prelude as prelude
+use Rattle.std.specs.Prelude.{None, Some, ◌≡◌, refl, true, List, [], ◌∷◌, ◌++◌, map, ℕ, ◌+◌, ◌-◌, ◌≤◌, ◌<◌, length}
 use Rattle.std.proofs.Common.{sym, ap, ◌∙◌, append_assoc, append-nil, arith}
 use Rattle.std.proofs.lemmas.List.{map-append}
 use Rattle.std.proofs.Math.Seq.{slice}
@@ -15,14 +16,12 @@ use Rattle.table.specs.View.{said, Said, Holds, Now, strings_in}
 use Rattle.table.specs.Adds.{add_string}
 use Rattle.table.specs.Pushes.{Pushed}
 use Rattle.table.specs.ViewLaws.{pushed-string}
-use Rattle.words.specs.declared.read.Step.{Step}
-use Rattle.words.specs.declared.read.Step.TheVariants.{To, Bad}
 use Rattle.words.specs.declared.read.Place.{Place}
 use Rattle.parse.specs.Answers.{StringAt, StringReads}
-use Rattle.parse.specs.declared.StringLine.{StringLine}
-use Rattle.parse.specs.declared.StringLine.TheVariants as line
 use Rattle.reader.specs.Strings.{add_strings}
 use Rattle.texts.specs.Exact.{repeat-some, repeat-over}
+use Rattle.words.specs.Answers.{Scanned}
+use Rattle.parse.specs.declared.StringLine.{StringLine}
 
 -- n strings were read, up to m, and the table l became l'
 pub record Strung (t l : List ℕ) (n at m : ℕ) (l' : List ℕ) : Type 0 where
@@ -31,11 +30,11 @@ pub record Strung (t l : List ℕ) (n at m : ℕ) (l' : List ℕ) : Type 0 where
   pub small : all bytes? strings ≡ true
   pub says : said t l' ≡ add_strings (said t l) (map hex strings)
 
-abbrev pub StrungBy : List ℕ → List ℕ → ℕ → ℕ → Step → List ℕ → Type 0
-StrungBy t l n at (To c) l' = Strung t l n at c.at l'
-StrungBy t l n at Bad l' = repeat n read_string t at ≡ no 20 0
+abbrev pub StrungBy : List ℕ → List ℕ → ℕ → ℕ → prelude.Option Place → List ℕ → Type 0
+StrungBy t l n at (Some c) l' = Strung t l n at c.at l'
+StrungBy t l n at None l' = repeat n read_string t at ≡ no 20 0
 
-pub record StringsTold (t l : List ℕ) (n at : ℕ) (r : Step) (l' : List ℕ) : Type 0 where
+pub record StringsTold (t l : List ℕ) (n at : ℕ) (r : prelude.Option Place) (l' : List ℕ) : Type 0 where
   pub holds : Holds t l'
   pub told : StrungBy t l n at r l'
 
@@ -70,11 +69,11 @@ stringing-start {t} {l} h {n} room at =
 
 module _ {t l₀ : List ℕ} {n at₀ : ℕ} {l : List ℕ} {rest at : ℕ} (g : Stringing t l₀ n at₀ l rest at) where
   module _ (due : 0 < rest) where
-    module _ {a : StringLine} (read : StringReads t at a) where
-      pub stringing-bad : a ≡ line.Bad → StringsTold t l₀ n at₀ Bad l
+    module _ {a : Scanned StringLine} (read : StringReads t at a) where
+      pub stringing-bad : a ≡ None → StringsTold t l₀ n at₀ None l
       stringing-bad is = let R = rw is at read.says in record { holds = g.holds; told = g.reads ∙ rw (repeat-some read_string t at rest due, R) }
 
-      module _ {start end : ℕ} {next : Place} (is : a ≡ line.Got start end next) where
+      module _ {start end : ℕ} {next : Place} (is : a ≡ Some (record { from = start; to = end }, next)) where
         there : StringAt t at start end next.at
         there = rw is at read.says
 
@@ -97,7 +96,7 @@ module _ {t l₀ : List ℕ} {n at₀ : ℕ} {l : List ℕ} {rest at : ℕ} (g :
                   ∙ ap (add_strings (said t l₀)) (sym (map-append hex g.done (there.bytes ∷ [])));
             }
 
-  pub stringing-done : rest ≤ 0 → StringsTold t l₀ n at₀ (To (record { at = at })) l
+  pub stringing-done : rest ≤ 0 → StringsTold t l₀ n at₀ (Some (record { at = at })) l
   stringing-done z =
       let over : rest ≡ 0 = omega arith in
       record {

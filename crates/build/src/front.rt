@@ -9,7 +9,7 @@ ghost use Rattle.build.specs.FrontTold.{FrontTold};
 use crate::strings::strings_text;
 use judge::entries::entries_text;
 use paper::Ledger;
-use parse::{PairLine, pair_line};
+use parse::pair_line;
 use table::rows::{fields, strings};
 use walk::region::kinds_stand;
 use words::read::Place;
@@ -20,12 +20,6 @@ pub struct Front {
     pub entries: u64,
     pub from: Place,
     pub values: Place,
-}
-
-#[derive(Clone, Copy)]
-pub enum FrontRead {
-    Got(Front),
-    Bad,
 }
 
 // Whether there is room for n strings more, and m entries are not too many.
@@ -42,9 +36,7 @@ pub fn front_text(text: &[u8], p: Place, work: &mut [u32]) -> Option<Front>
     requires { PairAsks text.now work.old p.at }
     ensures { FrontTold text.now work.old p.at result work.new }
 {
-    let PairLine::Got(n, m, first) = pair_line(text, p) else {
-        return None;
-    };
+    let ((n, m), first) = pair_line(text, p)?;
     if !few(work, n, m) {
         return None;
     }

@@ -19,6 +19,7 @@ use calls::replies::{Refused, Reply};
 use pairs::count_pairs;
 use paper::Ledger;
 use table::counts::{begin, clear};
+use texts::Taken;
 
 // How long the file of a text is, and where the values of its pairs begin.
 fn count_file(text: &[u8], table: &mut [u32], places: &mut [u64]) -> Option<Taken>

@@ -26,13 +26,6 @@ pub struct PairCount {
     pub end: usize,
 }
 
-// What was counted, or that no accepted file has this text.
-#[derive(Clone, Copy)]
-pub enum PairRead {
-    Got(PairCount),
-    Bad,
-}
-
 // The string block of the strings from a row on, the number of entries, and the entries.
 pub fn put_front(
     text: &[u8],

@@ -4,7 +4,7 @@ ghost use Rattle.paper.specs.Bounds.{most_strings};
 ghost use Rattle.table.specs.View.{Holds, strings_in};
 ghost use Rattle.build.specs.Strings.{StringsTold};
 
-use parse::{StringLine, string_line};
+use parse::string_line;
 use table::pushes::push_string;
 use words::read::Place;
 
@@ -16,10 +16,8 @@ pub fn strings_text(text: &[u8], p: Place, n: u64, work: &mut [u32]) -> Option<P
 {
     let mut at = p.at;
     for _ in 0..n {
-        let StringLine::Got(first, end, next) = string_line(text, Place { at }) else {
-            return None;
-        };
-        push_string(work, first as u32, end as u32);
+        let (line, next) = string_line(text, Place { at })?;
+        push_string(work, line.from as u32, line.to as u32);
         at = next.at;
     }
     Some(Place { at })

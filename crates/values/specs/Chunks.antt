@@ -1,6 +1,6 @@
 -- The values of a chunk, by the numbers of their kind. Assumes nothing.
-use Rattle.std.specs.Prelude.{Ok, Err, ◌≡◌, ℕ, ◌*◌, ◌<◌, ◌≤◌, true, List, [], length, ◌≢◌}
-use Rattle.std.proofs.Math.Path.{sym}
+use Rattle.std.specs.Prelude.{Ok, Err, ◌≡◌, ℕ, ◌+◌, ◌*◌, ◌<◌, ◌≤◌, true, List, [], length, ◌≢◌}
+use Rattle.std.proofs.Math.Path.{refl, sym}
 use Rattle.std.proofs.Common.{◌∙◌, arith}
 use Rattle.std.proofs.Math.Nat.{mul-one, lt_of_not-le}
 use Rattle.std.proofs.Math.Decide.{dec_le}
@@ -17,6 +17,7 @@ use Rattle.numbers.specs.declared.Cursor.{Cursor}
 use Rattle.numbers.specs.declared.Refusal.{Refusal}
 use Rattle.values.specs.Pass.{forget, Passed, Alike, alike_then, alike-repeat, alike-bind, alike-flat, alike-nothing}
 use Rattle.values.specs.Items.{item, Known, alike-item, Checked}
+use Rattle.values.specs.Turns.{Turning, turning-start, turning-next, turning-no, turning-done}
 
 -- an array that gives its own length, of elements that q reads
 unfoldable pub counted : Reader ℕ → Reader (List ℕ)
@@ -123,3 +124,41 @@ module _ (q : Reader ℕ) {f : List ℕ} {at : ℕ} {a : Outcome ℕ} (R : Read 
 -- arrays of the kind that code chose a reader for
 pub lists-by : (n : ℕ) {q p : Reader ℕ} {f : List ℕ} {r : Outcome ℕ} → p ≡ q → Passed (repeat n (counted q)) f 0 r → Passed (repeat n (counted p)) f 0 r
 lists-by n is P = rw is P
+
+-- ── arrays, each read by a parameter ──
+
+-- a reader may be called for so many elements from any place of the bytes on, and stays in them
+pub record Reads (f : List ℕ) (may : Cursor → ℕ → Type 0) (says : Cursor → ℕ → Outcome ℕ → Type 0) : Type 0 where
+  pub may-read : (c : Cursor) (m : ℕ) → c.at ≤ length f → may c m
+  pub inside : (c : Cursor) (m : ℕ) (r : Outcome ℕ) → c.at ≤ length f → says c m r → place_of r ≤ length f
+
+-- what it answers is that of so many which q reads
+abbrev pub RunsOf : Reader ℕ → List ℕ → (Cursor → ℕ → Outcome ℕ → Type 0) → Type 0
+RunsOf q f says = (c : Cursor) (m : ℕ) (r : Outcome ℕ) → says c m r → Passed (repeat m q) f c.at r
+
+-- of n arrays i are read, whatever their elements' reader is
+pub record Counting (f : List ℕ) (says : Cursor → ℕ → Outcome ℕ → Type 0) (n i at : ℕ) : Type 0 where
+  pub runs : (q : Reader ℕ) → RunsOf q f says → Turning (counted q) f n 0 i at
+  pub inside : at ≤ length f
+
+pub counting-start : (f : List ℕ) (says : Cursor → ℕ → Outcome ℕ → Type 0) (n : ℕ) → Counting f says n 0 0
+counting-start f says n = record { runs = λ q R. turning-start (counted q) f n 0; inside = omega arith }
+
+module _ {f : List ℕ} {says : Cursor → ℕ → Outcome ℕ → Type 0} {n i at : ℕ} (C : Counting f says n i at) where
+  pub counting-done : n ≤ i → (q : Reader ℕ) → RunsOf q f says → Passed (repeat n (counted q)) f 0 (Ok (0, record { at = at }))
+  counting-done h q R = turning-done (C.runs q R) 0 h
+
+  module _ (due : i < n) {a : Outcome ℕ} (S : Read small 65536 f at a) where
+    pub counting-cut : {u : Refusal} → a ≡ Err u → (q : Reader ℕ) → RunsOf q f says → Passed (repeat n (counted q)) f 0 (Err u)
+    counting-cut is q R = turning-no (C.runs q R) due (counted-cut q S is) refl
+
+    module _ {m : ℕ} {b : Cursor} (got : a ≡ Ok (m, b)) {o : Outcome ℕ} (said : says b m o) where
+      one : (q : Reader ℕ) → RunsOf q f says → Passed (counted q) f at o
+      one q R = counted-then q S got (R b m o said)
+
+      pub counting-no : {u : Refusal} → o ≡ Err u → (q : Reader ℕ) → RunsOf q f says → Passed (repeat n (counted q)) f 0 (Err u)
+      counting-no is q R = turning-no (C.runs q R) due (one q R) is
+
+      pub counting-next : {x : ℕ} {d : Cursor} → (b.at ≤ length f → place_of o ≤ length f) → o ≡ Ok (x, d) → Counting f says n (i + 1) d.at
+      counting-next stays is =
+          record { runs = λ q R. turning-next (C.runs q R) due (one q R) is; inside = rw is at (stays ((was-got S got).inside C.inside)) }

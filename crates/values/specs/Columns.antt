@@ -1,6 +1,6 @@
 -- What a value in code says: an element, which a column can store. Assumes nothing.
 use Rattle.std.specs.Prelude.{Ok, Err, ◌≡◌, ℕ, ◌^◌, ◌<◌, Bool, true, false, List, ℤ, pos, ◌≢◌, nat_eq}
-use Rattle.std.proofs.Common.{sym, ◌∙◌}
+use Rattle.std.proofs.Common.{sym, ◌∙◌, to_z, of_z, to_z-of_z, w64}
 use Rattle.std.specs.Int.Signed.{mag}
 use Rattle.paper.specs.Reader.{Out, got, no, ◌>>=◌, give}
 use Rattle.paper.specs.Ledger.{Element, flag, whole, float, link, State}
@@ -26,6 +26,10 @@ Storable (Flag b) = Unit {0}
 Storable (Whole z) = mag z < 2 ^ 63
 Storable (Float w bits) = (w ≢ 8) → (w ≡ 4) × (bits < 256 ^ 4)
 Storable (Object n) = n < 2 ^ 63
+
+-- a number that fits is what the machine reads of it
+pub held : {z r : ℤ} → mag z < 2 ^ 63 → z ≡ r → to_z w64 (of_z w64 z) ≡ r
+held fits is = to_z-of_z {w = w64} (record { sfits = fits }) ∙ is
 
 -- ── what is stored, by the variants ──
 

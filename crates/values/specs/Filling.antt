@@ -1,9 +1,8 @@
 -- A column, filled value by value up to the end of a chunk. Assumes nothing.
-use Rattle.std.specs.Prelude.{Ok, Err, ◌≡◌, ℕ, zero, suc, ◌+◌, ◌-◌, ◌<◌, ◌≤◌, false, List, [], ◌∷◌, ◌++◌, length, replicate, ℤ, nat_eq, slice_set, refl}
+use Rattle.std.specs.Prelude.{Ok, Err, ◌≡◌, ℕ, zero, suc, ◌+◌, ◌<◌, ◌≤◌, false, List, [], ◌∷◌, ◌++◌, length, replicate, ℤ, nat_eq, slice_set, refl}
 use Rattle.std.proofs.Math.Path.{sym, ap}
 use Rattle.std.proofs.Common.{◌∙◌, arith, add-one, add-zero, zero-add}
 use Rattle.std.proofs.Math.ListN.{length-set}
-use Rattle.std.proofs.lemmas.List.{length-replicate}
 use Rattle.std.proofs.lemmas.List.Edits.{sets, sets-eq}
 use Rattle.paper.specs.Reader.{Reader, got, give, each, times, repeat}
 use Rattle.paper.specs.Ledger.{Element, plain, State}
@@ -209,12 +208,7 @@ module _ {k : ℕ} {f : List ℕ} {l : List ℤ} {at : ℕ} {m : List ℤ} {p fr
                 };
           }
 
--- ── a constant ──
-
-pub record Repeating (l : List ℤ) (n : ℕ) (z : ℤ) (m : List ℤ) (i : ℕ) : Type 0 where
-  pub long : length m ≡ length l
-  pub within : i ≤ n
-  pub stores : sets m i (replicate (n - i) z) ≡ sets l 0 (replicate n z)
+-- ── lists that are stored ──
 
 -- a list that is stored at the front
 pub sets-front : {A : Type 0} (w l : List A) → length w ≤ length l → sets l 0 w ≡ over_front w l
@@ -226,21 +220,3 @@ pub sets_then : {A : Type 0} (v w l : List A) (at : ℕ) → sets l at (v ++ w) 
 sets_then [] w l at = rw add-zero
 sets_then {A} (b ∷ v) w l at =
     sets_then v w (slice_set l at b) (suc at) ∙ ap (λ (n : ℕ). sets (sets (slice_set l at b) (suc at) v) n w) (omega arith)
-
-pub repeat-start : (l : List ℤ) (n : ℕ) (z : ℤ) → Repeating l n z l 0
-repeat-start l n z = let all : n - 0 ≡ n = omega arith in record { long = refl; within = omega arith; stores = rw all }
-
-module _ {l : List ℤ} {n : ℕ} {z : ℤ} {m : List ℤ} {i : ℕ} (g : Repeating l n z m i) where
-  pub repeat-on : i < n → Repeating l n z (slice_set m i z) (i + 1)
-  repeat-on h =
-      let less : n - i ≡ suc (n - suc i) = omega arith in
-      record {
-        long = length-set m i z ∙ g.long;
-        within = omega arith;
-        stores = rw (add-one i) (rw less at g.stores);
-      }
-
-  pub repeat-done : n ≤ i → n ≤ length l → m ≡ over_front (replicate n z) l
-  repeat-done h room =
-      let none : n - i ≡ 0 = omega arith in
-      rw none at g.stores ∙ sets-front (replicate n z) l (rw length-replicate room)

@@ -1,5 +1,6 @@
 -- Passing over elements, and holding them to the rules
 pub mod Pass
+pub mod Turns
 pub mod Overs
 pub mod Listed
 pub mod Annotations

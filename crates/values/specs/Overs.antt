@@ -20,29 +20,29 @@ pub record RanTo (n : ℕ) (f : List ℕ) (at : ℕ) (r : Run) : Type 0 where
   pub some : 0 < n → 0 < r.count
   pub few : r.count ≤ 8 * n
 
--- ── the loop: `left` of n looks are left ──
+-- ── the loop: i looks are done ──
 
-pub record Looking (n : ℕ) (f : List ℕ) (from count at left : ℕ) : Type 0 where
+pub record Looking (f : List ℕ) (from count at i : ℕ) : Type 0 where
   pub over : Over f count from at
-  pub some : left < n → 0 < count
-  pub few : count + 8 * left ≤ 8 * n
-  pub near : at + 9 * left ≤ from + 9 * n
+  pub some : 0 < i → 0 < count
+  pub few : count ≤ 8 * i
+  pub near : at ≤ from + 9 * i
 
-pub looking-start : (n : ℕ) (f : List ℕ) (from : ℕ) → Looking n f from 0 from n
-looking-start n f from = record { over = here; some = λ h. absurd (omega arith); few = omega arith; near = omega arith }
+pub looking-start : (f : List ℕ) (from : ℕ) → Looking f from 0 from 0
+looking-start f from = record { over = here; some = λ h. absurd (omega arith); few = omega arith; near = omega arith }
 
-module _ {n : ℕ} {f : List ℕ} {from count at left : ℕ} (L : Looking n f from count at left) where
-  pub looking-next : {r : Run} → Ran f at r → 0 < left → Looking n f from (count + r.count) r.next.at (left - 1)
-  looking-next R h =
+module _ {f : List ℕ} {from count at i : ℕ} (L : Looking f from count at i) where
+  pub looking-next : {r : Run} → Ran f at r → Looking f from (count + r.count) r.next.at (i + 1)
+  looking-next R =
       record {
         over = over-then L.over R.over;
-        some = λ i. omega (arith, R.some);
+        some = λ h. omega (arith, R.some);
         few = omega (arith, L.few, R.few);
         near = omega (arith, L.near, R.near);
       }
 
-  pub looking-done : left ≤ 0 → RanTo n f from (record { count = count; next = record { at = at } })
-  looking-done h = record { over = L.over; some = λ i. L.some (omega arith); few = omega (arith, L.few) }
+  pub looking-done : (n : ℕ) → i ≡ n → RanTo n f from (record { count = count; next = record { at = at } })
+  looking-done n all = record { over = L.over; some = λ h. L.some (omega arith); few = omega (arith, L.few) }
 
 -- ── those that are left to read are fewer by as many ──
 
@@ -63,24 +63,20 @@ pub running-rest :
     {r : Reader ℕ} {f : List ℕ} {m from rest at : ℕ} {n : Outcome ℕ} → Running r f m from rest at → Passed (repeat rest r) f at n → Passed (repeat m r) f from n
 running-rest R P = record { says = P.says ∙ sym R.says; inside = λ h. P.inside (R.inside h) }
 
--- ── one by one, where all of m are there: `rest` are left ──
+-- ── one by one, where all are there: i are passed over ──
 
-pub record Each (m : ℕ) (f : List ℕ) (from at rest : ℕ) : Type 0 where
-  pub over : Over f (m - rest) from at
-  pub count : rest ≤ m
-  pub near : at + 9 * rest ≤ from + 9 * m
+pub record Each (f : List ℕ) (from at i : ℕ) : Type 0 where
+  pub over : Over f i from at
+  pub near : at ≤ from + 9 * i
 
-pub each_start : (m : ℕ) (f : List ℕ) (from : ℕ) → Each m f from from m
-each_start m f from = let none : m - m ≡ 0 = omega arith in record { over = rw none here; count = omega arith; near = omega arith }
+pub each_start : (f : List ℕ) (from : ℕ) → Each f from from 0
+each_start f from = record { over = here; near = omega arith }
 
-module _ {m : ℕ} {f : List ℕ} {from at rest : ℕ} (E : Each m f from at rest) where
-  pub each_next : {e : ℕ} → Ended f at e → e ≤ at + 9 → 0 < rest → Each m f from e (rest - 1)
-  each_next one near due =
-      let more : m - (rest - 1) ≡ m - rest + 1 = omega (arith, E.count) in
-      record { over = rw more (over-then E.over (past one here)); count = omega (arith, E.count); near = omega (arith, E.near) }
+pub each_next : {f : List ℕ} {from at i e : ℕ} → Each f from at i → Ended f at e → e ≤ at + 9 → Each f from e (i + 1)
+each_next E one near = record { over = over-then E.over (past one here); near = omega (arith, E.near) }
 
-  pub each-done : rest ≤ 0 → Over f m from at
-  each-done h = let all : m - rest ≡ m = omega arith in rw all at E.over
+pub each-done : {f : List ℕ} {from at i : ℕ} (m : ℕ) → Each f from at i → i ≡ m → Over f m from at
+each-done m E all = rw all at E.over
 
 pub over-passed : {f : List ℕ} {m at e : ℕ} (x : ℕ) → Over f m at e → Passed (repeat m v64) f at (Ok (x, record { at = e }))
 over-passed {f} {m} {at} x O = running-done (running-over (running-start v64 f m at) O (omega arith)) x (omega arith)

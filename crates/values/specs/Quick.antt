@@ -9,7 +9,8 @@ use Rattle.paper.specs.Numbers.{fixed, coding, low_first, v64, number}
 use Rattle.numbers.specs.Cursors.{Step, out_step, Past}
 use Rattle.numbers.specs.Begun.{one_byte}
 use Rattle.numbers.specs.declared.Cursor.{Cursor}
-use Rattle.values.specs.Pass.{forget, Passed, Running, running-start, running-on, running-done}
+use Rattle.values.specs.Pass.{forget, Passed, Running, running-on, running-done}
+use Rattle.values.specs.Turns.{turning-start}
 use Rattle.values.specs.Held.{fixed-there}
 use Rattle.values.specs.Items.{in_range, range-found, linked, at_most, some_object, item, item-object}
 use Rattle.values.specs.Spans.{ranges, item_in, Grouped, Spanned, lendable, parts-match}
@@ -51,6 +52,10 @@ pub record Skips {A : Type 0} (q : Reader A) (f : List ℕ) (at end : ℕ) : Typ
 pub record Quick (q : Reader ℕ) (b : Bounds) : Type 0 where
   pub over : {f : List ℕ} {at end : ℕ} → Stands b.width b.low b.high f at end → Skips q f at end
 
+pub quick-behind :
+    {A : Type 0} {q : A → Reader ℕ} {b : Bounds} {f : List ℕ} {at end : ℕ} → ((a : A) → Quick (q a) b) → Stands b.width b.low b.high f at end → (a : A) → Skips (q a) f at end
+quick-behind Q S a = (Q a).over S
+
 pub skips-passed : {A : Type 0} {q : Reader A} {f : List ℕ} {at end : ℕ} → Skips q f at end → Passed q f at (Ok (0, record { at = end }))
 unfolding forget
 skips-passed S = record { says = sym S.says; inside = λ h. S.inside }
@@ -79,8 +84,8 @@ numbered {n = n} {end = end} reads w = record { value = n; reads = reads ∙ ap 
 
 -- ── an element ──
 
-pub stands-number : {width low high : ℕ} {f : List ℕ} {at r : ℕ} → width ≡ 0 → (r < FAR → Numbered low high f at r) → r ≤ length f → length f < FAR → Stands width low high f at r
-stands-number is N inside short = record { wide = λ h. absurd (omega arith); number = λ h. N (omega arith); inside = inside }
+pub stands-number : {width low high : ℕ} {f : List ℕ} {at r : ℕ} → width ≡ 0 → Numbered low high f at r → r ≤ length f → Stands width low high f at r
+stands-number is N inside = record { wide = λ h. absurd (omega arith); number = λ h. N; inside = inside }
 
 pub stands-wide : {width low high : ℕ} {f : List ℕ} {at : ℕ} → (width ≢ 0) → width ≤ 8 → at + width ≤ length f → Stands width low high f at (at + width)
 stands-wide some most inside = record { wide = λ h. (most, refl); number = λ h. absurd (some h); inside = inside }
@@ -181,18 +186,20 @@ pub record Paired (key value : Bounds) (f : List ℕ) (n from rest at : ℕ) : T
   pub inside : at ≤ length f
 
 module _ {key value : Bounds} {f : List ℕ} {n from : ℕ} where
-  pub paired-start : from ≤ length f → Paired key value f n from n from
-  paired-start h = record { runs = λ S. running-start _ f n from; inside = h }
+  -- as a loop counts them, i are behind it
+  pub paired-start : from ≤ length f → Paired key value f n from (n - 0) from
+  paired-start h = record { runs = λ S. turning-start _ f n from; inside = h }
 
   pub paired-next :
-      {rest at mid end : ℕ} → Paired key value f n from rest at → 0 < rest
+      {i at mid end : ℕ} → Paired key value f n from (n - i) at → i < n
       → Stands key.width key.low key.high f at mid → Stands value.width value.low value.high f mid end
-      → Paired key value f n from (rest - 1) end
-  paired-next P due K W =
-      record { runs = λ S. running-on (P.runs S) due _ (S.over K W).says (λ h. W.inside); inside = W.inside }
+      → Paired key value f n from (n - (i + 1)) end
+  paired-next {i} P due K W =
+      let less : n - (i + 1) ≡ n - i - 1 = omega arith in
+      record { runs = λ S. rw less (running-on (P.runs S) (omega arith) _ (S.over K W).says (λ h. W.inside)); inside = W.inside }
 
-  pub paired-done : {rest at : ℕ} → Paired key value f n from rest at → rest ≤ 0 → Paired key value f n from 0 at
-  paired-done {rest} {at} P h = let z : rest ≡ 0 = omega arith in rw z at P
+  pub paired-done : {i at : ℕ} → Paired key value f n from (n - i) at → n ≤ i → Paired key value f n from 0 at
+  paired-done {i} {at} P h = let z : n - i ≡ 0 = omega arith in rw z at P
 
   pub paired-passed : {at : ℕ} {p : Reader (List ℕ)} → Paired key value f n from 0 at → Steps key value f p → Passed (repeat n p) f from (Ok (0, record { at = at }))
   paired-passed P S = running-done (P.runs S) 0 (omega arith)

@@ -1,14 +1,13 @@
 -- A column of values of a fixed width: their number is known before the first is stored. One law for every width. Assumes nothing.
-use Rattle.std.specs.Prelude.{Ok, Err, ◌≡◌, ℕ, suc, ◌+◌, ◌-◌, ◌*◌, ◌/◌, ◌%◌, ◌^◌, ◌<◌, ◌≤◌, false, List, length, ℤ, ◌==◌, ◌≢◌, nat_eq, slice_set}
+use Rattle.std.specs.Prelude.{Ok, Err, ◌≡◌, ℕ, suc, ◌+◌, ◌-◌, ◌*◌, ◌/◌, ◌%◌, ◌^◌, ◌<◌, ◌≤◌, min, true, false, List, length, ℤ, ◌==◌, ◌≢◌, nat_eq, slice_set}
 use Rattle.std.proofs.Math.Path.{refl, sym, ap}
-use Rattle.std.proofs.Common.{◌∙◌, arith, lt_of_not-le, mod-lt, lit<, length-set, lt-ltb, le-leb, ne_eqb}
-use Rattle.std.proofs.Math.Nat.{div-add-mod, one-le-pow, mod-eq_of_lt}
+use Rattle.std.proofs.Common.{◌∙◌, arith, lt_of_not-le, mod-lt, lit<, lit≤, length-set, mul-le-mul_left, mul-le-mul_right, div-mul-le_self, le-leb, ne_eqb}
+use Rattle.std.proofs.Math.Nat.{div-add-mod, one-le-pow, mod-eq_of_lt, le_of_lt, min-eq_left, min-eq_right, min-le_left}
 use Rattle.std.proofs.Math.Decide.{dec_le}
-use Rattle.std.specs.Int.Signed.{mag}
 use Rattle.std.proofs.lemmas.Bool.{lt-leb}
 use Rattle.paper.specs.Reader.{when◌then◌else◌, Out, got}
-use Rattle.paper.specs.Numbers.{signed, fixed, v64}
-use Rattle.paper.specs.Ledger.{whole}
+use Rattle.paper.specs.Numbers.{fixed, v64}
+use Rattle.paper.specs.Rules.{single_kind?}
 use Rattle.paper.specs.Calls.{stored}
 use Rattle.numbers.specs.Cursors.{Outcome, Read, was-got, answer-no}
 use Rattle.numbers.specs.Turned.{TakenAt, TakenV64}
@@ -17,84 +16,57 @@ use Rattle.numbers.specs.declared.Cursor.{Cursor}
 use Rattle.numbers.specs.declared.Refusal.{Refusal}
 use Rattle.values.specs.Held.{fixed-cut, ruled-taken, ruled-refused}
 use Rattle.values.specs.Items.{linked, at_most}
-use Rattle.values.specs.Bare.{bare, bound_of, made, whole_made, made-whole, made-link, whole-8, bare-link, bound-link}
+use Rattle.values.specs.Listed.{single-5}
+use Rattle.values.specs.Bare.{bare, bound_of, made, made-link, bare-link, bound-link}
 use Rattle.values.specs.Columns.{element_of, Storable, value-got, value-cut}
 use Rattle.values.specs.Filling.{Filled, Filling, fill_start, fill_done, fill-full, fill-cut, fill-no, fill-next}
 use Rattle.values.specs.declared.columns.Value.{Value}
-use Rattle.values.specs.declared.columns.Value.TheVariants.{Flag, Whole, Float, Object}
+use Rattle.values.specs.declared.columns.Value.TheVariants.{Object}
 use Rattle.numbers.specs.declared.Fault.TheVariants as fault
-
--- the smaller of n and room
-pub record Fitting (n room r : ℕ) : Type 0 where
-  pub few : r ≤ n
-  pub inside : r ≤ room
-  pub most : r < n → room ≤ r
 
 -- kind k has values of w bytes
 pub record Wide (k w : ℕ) : Type 0 where
-  pub single : nat_eq k 5 ≡ false
+  pub listed : single_kind? k ≡ true
   pub some : 0 < w
+  pub most : w ≤ 8
   pub reads : bare k ≡ fixed w
   pub bound : bound_of k ≡ 256 ^ w
 
 pub wide-6 : Wide 6 1
-unfolding bare bound_of when◌then◌else◌
-wide-6 = record { single = refl; some = lit< tt; reads = refl; bound = refl }
+unfolding single_kind? bare bound_of when◌then◌else◌
+wide-6 = record { listed = refl; some = lit< tt; most = lit≤ tt; reads = refl; bound = refl }
 
 pub wide-7 : Wide 7 1
-unfolding bare bound_of when◌then◌else◌
-wide-7 = record { single = refl; some = lit< tt; reads = refl; bound = refl }
+unfolding single_kind? bare bound_of when◌then◌else◌
+wide-7 = record { listed = refl; some = lit< tt; most = lit≤ tt; reads = refl; bound = refl }
 
 pub wide-8 : Wide 8 2
-unfolding bare bound_of when◌then◌else◌
-wide-8 = record { single = refl; some = lit< tt; reads = refl; bound = refl }
+unfolding single_kind? bare bound_of when◌then◌else◌
+wide-8 = record { listed = refl; some = lit< tt; most = lit≤ tt; reads = refl; bound = refl }
 
 pub wide-9 : Wide 9 4
-unfolding bare bound_of when◌then◌else◌
-wide-9 = record { single = refl; some = lit< tt; reads = refl; bound = refl }
+unfolding single_kind? bare bound_of when◌then◌else◌
+wide-9 = record { listed = refl; some = lit< tt; most = lit≤ tt; reads = refl; bound = refl }
 
 pub wide-10 : Wide 10 8
-unfolding bare bound_of when◌then◌else◌
-wide-10 = record { single = refl; some = lit< tt; reads = refl; bound = refl }
+unfolding single_kind? bare bound_of when◌then◌else◌
+wide-10 = record { listed = refl; some = lit< tt; most = lit≤ tt; reads = refl; bound = refl }
 
 pub wide-12 : Wide 12 4
-unfolding bare bound_of when◌then◌else◌
-wide-12 = record { single = refl; some = lit< tt; reads = refl; bound = refl }
+unfolding single_kind? bare bound_of when◌then◌else◌
+wide-12 = record { listed = refl; some = lit< tt; most = lit≤ tt; reads = refl; bound = refl }
 
 pub wide-13 : Wide 13 8
-unfolding bare bound_of when◌then◌else◌
-wide-13 = record { single = refl; some = lit< tt; reads = refl; bound = refl }
+unfolding single_kind? bare bound_of when◌then◌else◌
+wide-13 = record { listed = refl; some = lit< tt; most = lit≤ tt; reads = refl; bound = refl }
 
--- ── the case of a value's answer that each kind has ──
-
+-- v is the value of kind k that n stands for
 pub record Stood (k n : ℕ) (v : Value) : Type 0 where
   pub is : element_of v ≡ made k n
   pub fits : Storable v
 
-pub stood-flag : (n : ℕ) → Stood 6 n (Flag (n == 255))
-unfolding element_of Storable made when◌then◌else◌
-stood-flag n = record { is = refl; fits = tt }
-
--- z is the machine's reading of r
-module _ (k n : ℕ) {z r : ℤ} (read : z ≡ r) (h : mag r < 2 ^ 63) where
-  stood-made : 6 < k → k < 12 → r ≡ whole_made k n → Stood k n (Whole z)
-  unfolding element_of Storable
-  stood-made low high e = record { is = ap whole (read ∙ e) ∙ sym (made-whole k n low high); fits = rw read h }
-
-  pub stood-whole : 6 < k → k < 11 → r ≡ signed (2 ^ (k - 7)) n → Stood k n (Whole z)
-  unfolding whole_made when◌then◌else◌
-  stood-whole low high e = stood-made low (omega arith) (rw (lt-ltb (k - 7) 4 (omega arith)) e)
-
-  pub stood-v64 : k ≡ 11 → r ≡ signed 8 n → Stood k n (Whole z)
-  stood-v64 is e = stood-made (omega arith) (omega arith) (e ∙ sym (whole-8 k n (omega arith)))
-
-pub stood-f32 : (n : ℕ) → n < 256 ^ 4 → Stood 12 n (Float 4 n)
-unfolding element_of Storable made when◌then◌else◌
-stood-f32 n h = record { is = refl; fits = λ other. (refl, h) }
-
-pub stood-f64 : (n : ℕ) → Stood 13 n (Float 8 n)
-unfolding element_of Storable made when◌then◌else◌
-stood-f64 n = record { is = refl; fits = λ other. absurd (other refl) }
+pub stood : {k n : ℕ} {v : Value} → (element_of v ≡ made k n) × Storable v → Stood k n v
+stood h = record { is = h.0; fits = h.1 }
 
 pub stood-object : (k n : ℕ) → 13 < k → n < 2 ^ 63 → Stood k n (Object n)
 unfolding element_of Storable
@@ -120,29 +92,38 @@ module _ {k w : ℕ} (W : Wide k w) {f : List ℕ} {l : List ℤ} {at : ℕ} {m 
       let reads : bare k f from ≡ got t.number t.next.at = rw W.reads T.says in
       let N : Read (bare k) (bound_of k) f from (Ok (t.number, t.next)) = record { says = sym reads; inside = λ h. end; below = rw W.bound T.below } in
       record {
-        filling = fill-next R.filling (omega (arith, W.some)) (value-got W.single N refl (S.is, S.fits)) refl e;
+        filling = fill-next R.filling (omega (arith, W.some)) (value-got (single-5 k W.listed) N refl (S.is, S.fits)) refl e;
         place = omega (arith, R.place, T.place);
         low = omega (arith, R.low);
         high = omega arith;
       }
 
+  -- one more is there
+  pub row-room : p < at + n → (m : ℕ) → n ≡ min (length f / w) m → from + w ≤ length f
+  row-room due m N =
+      let few : n ≤ length f / w = omega (arith, min-le_left (length f / w) m) in
+      let more : w * (p + 1) ≤ w * (at + n) = mul-le-mul_left w (omega arith) in
+      omega (arith, R.place, mul-le-mul_right w few, div-mul-le_self (length f) w)
+
   -- fewer bytes are left than a value has, or there is no room: values that keep the rules have neither
-  pub row_done : at + n ≤ p → Fitting (length f / w) (length l - at) n → at ≤ length l → Filled k f l at m p
+  pub row_done : at + n ≤ p → n ≡ min (length f / w) (length l - at) → at ≤ length l → Filled k f l at m (at + n)
   row_done stop N inside =
-      elim (dec_le (length f) from) [
-        | yes h ↦ fill_done R.filling W.single h
+      let here : p ≡ at + n = omega (arith, R.high) in
+      let filled : Filled k f l at m p = elim (dec_le (length f) from) [
+        | yes h ↦ fill_done R.filling (single-5 k W.listed) h
         | no h ↦
             (elim (dec_le (length l) p) [
               | yes full ↦ fill-full R.filling (lt_of_not-le h) (rw R.filling.long full)
-              | no room ↦ fill-cut R.filling (lt_of_not-le h) (value-cut W.single (no_more (lt_of_not-le room)) refl) refl
+              | no room ↦ fill-cut R.filling (lt_of_not-le h) (value-cut (single-5 k W.listed) (no_more (lt_of_not-le room)) refl) refl
             ])
-      ]
+      ] in
+      rw here at filled
     where
       all : p < length l → n ≡ length f / w
       all room =
-          elim (dec_le (length f / w) n) [
-            | yes d ↦ omega (arith, N.few)
-            | no d ↦ absurd (omega (arith, N.most (lt_of_not-le d)))
+          elim (dec_le (length f / w) (length l - at)) [
+            | yes d ↦ N ∙ min-eq_left d
+            | no d ↦ (let full = N ∙ min-eq_right (le_of_lt (lt_of_not-le d)) in absurd (omega (arith, R.high)))
           ]
 
       left : p < length l → length f < from + w
@@ -158,6 +139,11 @@ module _ {k w : ℕ} (W : Wide k w) {f : List ℕ} {l : List ℤ} {at : ℕ} {m 
           answer-no cut (rw W.bound (one-le-pow w 256 (lit< tt)))
 
 -- ── numbers of several widths, read one after the other ──
+
+-- a v64 has a value
+pub v64-listed : (n : ℕ) → n < 2 ^ 64 → (single_kind? 11 ≡ true) × (n < bound_of 11)
+unfolding single_kind? bound_of when◌then◌else◌
+v64-listed n h = (refl, h)
 
 module _ {f : List ℕ} {at : ℕ} {a : Outcome ℕ} where
   pub read-v64 : Read v64 (2 ^ 64) f at a → Read (bare 11) (bound_of 11) f at a

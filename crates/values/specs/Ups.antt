@@ -1,6 +1,7 @@
 -- Numbers that are there, of which only the largest is held against a bound. Assumes nothing.
-use Rattle.std.specs.Prelude.{◌≡◌, ℕ, suc, ◌+◌, ◌-◌, ◌*◌, ◌<◌, ◌≤◌, List, length, refl}
+use Rattle.std.specs.Prelude.{◌≡◌, ℕ, suc, ◌+◌, ◌-◌, ◌*◌, ◌<◌, ◌≤◌, max, List, length, refl}
 use Rattle.std.proofs.Common.{arith, zero-add, suc-add, le-leb}
+use Rattle.std.proofs.Math.Nat.{le-max_left, le-max_right}
 use Rattle.paper.specs.Reader.{got, must}
 use Rattle.paper.specs.Numbers.{v64, number}
 use Rattle.numbers.specs.Turned.{TakenV64}
@@ -26,28 +27,24 @@ pub record Surely (size at rest r : ℕ) : Type 0 where
   pub room : 0 < r → at + 9 * r ≤ size
   pub few : r ≤ rest
 
--- ── the loop: `left` of n are left ──
+-- ── the loop: i are read ──
 
-pub record Upward (n : ℕ) (f : List ℕ) (from largest at left : ℕ) : Type 0 where
-  pub up : Up f largest (n - left) from at
-  pub count : left ≤ n
-  pub near : at + 9 * left ≤ from + 9 * n
+pub record Upward (f : List ℕ) (from largest at i : ℕ) : Type 0 where
+  pub up : Up f largest i from at
+  pub near : at ≤ from + 9 * i
 
-pub upward-start : (n : ℕ) (f : List ℕ) (from : ℕ) → Upward n f from 0 from n
-upward-start n f from = let none : n - n ≡ 0 = omega arith in record { up = rw none here; count = omega arith; near = omega arith }
+pub upward-start : (f : List ℕ) (from : ℕ) → Upward f from 0 from 0
+upward-start f from = record { up = here; near = omega arith }
 
-module _ {n : ℕ} {f : List ℕ} {from largest at left : ℕ} (U : Upward n f from largest at left) where
-  pub upward-next :
-      {t : Taken} {l : ℕ} → TakenV64 f at t → (largest ≤ l) × (t.number ≤ l) → 0 < left → from + 9 * n ≤ length f → Upward n f from l t.next.at (left - 1)
-  upward-next T (less, low) due room =
-      let count = U.count in
-      let near = U.near in
-      let most = T.most in
-      let more : n - (left - 1) ≡ n - left + 1 = omega arith in
-      record { up = rw more (up-then (up_more less U.up) (past T.says low (omega arith) here)); count = omega arith; near = omega arith }
+module _ {f : List ℕ} {from largest at i : ℕ} (U : Upward f from largest at i) where
+  pub upward-next : {t : Taken} → TakenV64 f at t → at + 9 ≤ length f → Upward f from (max largest t.number) t.next.at (i + 1)
+  upward-next {t} T room =
+      let inside : t.next.at ≤ length f = omega (arith, T.most) in
+      let more = up_more (le-max_left largest t.number) U.up in
+      record { up = up-then more (past T.says (le-max_right largest t.number) inside here); near = omega (arith, U.near, T.most) }
 
-  pub upward-done : left ≤ 0 → Up f largest n from at
-  upward-done h = let all : n - left ≡ n = omega arith in rw all at U.up
+  pub upward-done : (n : ℕ) → i ≡ n → Up f largest n from at
+  upward-done n all = rw all at U.up
 
 -- ── those that are left to read are fewer by as many, where the largest keeps the bound ──
 

@@ -20,9 +20,7 @@ pub fn placed(pools: &[u32], m: u64, n: u64) -> bool
     if (pools.len() as u64) < m {
         return false;
     }
-    let i = (m - 1) as usize;
-    let most = pools[i] as u64;
-    n <= most
+    n <= u64::from(pools[(m - 1) as usize])
 }
 
 // Both numbers are read before the rule is asked, and it is broken where the first began.
@@ -45,11 +43,9 @@ pub fn annotations(part: &[u8], c: Cursor, m: u64, pools: &[u32]) -> Outcome<u64
     ensures { Passed (repeat m (annotated (placed? pools.now))) part.now c.at result }
 {
     let mut here = c;
-    let mut rest = m;
-    while 0 < rest {
+    for _ in 0..m {
         let (_, next) = annotation(part, here, pools)?;
         here = next;
-        rest -= 1;
     }
     Ok((0, here))
 }

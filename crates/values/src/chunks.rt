@@ -1,12 +1,11 @@
 // Elements of any kind, and the values of a chunk: the kind is chosen here, once for all that follow.
-ghost use Rattle.std.specs.Prelude.{◌≡◌, ◌<◌, ◌≤◌, true, length, ◌≢◌};
-ghost use Rattle.paper.specs.Reader.{must, repeat};
-ghost use Rattle.paper.specs.Numbers.{fixed, v64};
-ghost use Rattle.paper.specs.Rules.{bool_rules, element_kind?};
+ghost use Rattle.std.specs.Prelude.{◌≡◌, ℕ, ◌<◌, ◌≤◌, true, length, ◌≢◌};
+ghost use Rattle.paper.specs.Reader.{Reader, repeat};
+ghost use Rattle.paper.specs.Rules.{element_kind?};
 ghost use Rattle.values.specs.Pass.{Passed};
 ghost use Rattle.values.specs.Listed.{Fixed, width_of};
-ghost use Rattle.values.specs.Items.{Checked, linked, at_most, some_object};
-ghost use Rattle.values.specs.Chunks.{counted, list_of, Kinds, ChunkChecked};
+ghost use Rattle.values.specs.Items.{Checked};
+ghost use Rattle.values.specs.Chunks.{counted, list_of, Reads, RunsOf, Kinds, ChunkChecked};
 
 use crate::annotations::annotations;
 use crate::references::guided_references;
@@ -54,119 +53,17 @@ pub fn elements(
     }
 }
 
-// An array that gives its own length, and then its elements of kind e.
-fn list(
-    part: &[u8],
-    c: Cursor,
-    e: u64,
-    strings: u64,
-    pools: &[u32],
-    first: &[u32],
-    last: &[u32],
-) -> Outcome<u64>
-    requires { (element_kind? e ≡ true) × (c.at ≤ length part.now) × (length first.now ≡ length last.now) }
-    ensures { Passed (list_of strings pools.now first.now last.now e) part.now c.at result }
-{
-    let (n, next) = c.small(part)?;
-    elements(part, next, n, e, strings, pools, first, last)
-}
-
-// n such arrays of any kind, from the chunk's start on.
-fn lists(
-    part: &[u8],
-    n: u64,
-    e: u64,
-    strings: u64,
-    pools: &[u32],
-    first: &[u32],
-    last: &[u32],
-) -> Outcome<u64>
-    requires { (element_kind? e ≡ true) × (length first.now ≡ length last.now) }
-    ensures { Passed (repeat n (list_of strings pools.now first.now last.now e)) part.now 0 result }
+// n arrays that give their own lengths, from the chunk's start on: `read` goes over the elements of one. Each reader has a loop of its
+// own, so none is chosen in it.
+fn lists_by<F: Fn(Cursor, u64) -> Outcome<u64>>(part: &[u8], n: u64, read: F) -> Outcome<u64>
+    requires { Reads part.now (F.pre read) (F.post read) }
+    ensures { (q : Reader ℕ) → RunsOf q part.now (F.post read) → Passed (repeat n (counted q)) part.now 0 result }
 {
     let mut here = Cursor { at: 0 };
-    let mut rest = n;
-    while 0 < rest {
-        let (_, next) = list(part, here, e, strings, pools, first, last)?;
-        here = next;
-        rest -= 1;
-    }
-    Ok((0, here))
-}
-
-// n arrays of numbers of a fixed width, from the chunk's start on: none of their elements needs a look.
-fn fixed_lists(part: &[u8], n: u64, width: u64) -> Outcome<u64>
-    requires { 0 < width }
-    ensures { Passed (repeat n (counted (fixed width))) part.now 0 result }
-{
-    let mut here = Cursor { at: 0 };
-    let mut rest = n;
-    while 0 < rest {
+    for _ in 0..n {
         let (m, begin) = here.small(part)?;
-        let (_, next) = fixed_widths(part, begin, m, width)?;
+        let (_, next) = read(begin, m)?;
         here = next;
-        rest -= 1;
-    }
-    Ok((0, here))
-}
-
-// n arrays of bools.
-fn bool_lists(part: &[u8], n: u64) -> Outcome<u64>
-    ensures { Passed (repeat n (counted (must (fixed 1) bool_rules))) part.now 0 result }
-{
-    let mut here = Cursor { at: 0 };
-    let mut rest = n;
-    while 0 < rest {
-        let (m, begin) = here.small(part)?;
-        let (_, next) = bools(part, begin, m)?;
-        here = next;
-        rest -= 1;
-    }
-    Ok((0, here))
-}
-
-// n arrays of v64 numbers.
-fn v64_lists(part: &[u8], n: u64) -> Outcome<u64>
-    ensures { Passed (repeat n (counted v64)) part.now 0 result }
-{
-    let mut here = Cursor { at: 0 };
-    let mut rest = n;
-    while 0 < rest {
-        let (m, begin) = here.small(part)?;
-        let (_, next) = v64s(part, begin, m)?;
-        here = next;
-        rest -= 1;
-    }
-    Ok((0, here))
-}
-
-// n arrays of numbers of strings.
-fn string_lists(part: &[u8], n: u64, strings: u64) -> Outcome<u64>
-    ensures { Passed (repeat n (counted (linked (at_most strings)))) part.now 0 result }
-{
-    let mut here = Cursor { at: 0 };
-    let mut rest = n;
-    while 0 < rest {
-        let (m, begin) = here.small(part)?;
-        let (_, next) = strings_in_turn(part, begin, m, strings)?;
-        here = next;
-        rest -= 1;
-    }
-    Ok((0, here))
-}
-
-// n arrays of references.
-fn reference_lists(part: &[u8], n: u64, guide: &[u32], first: &[u32], last: &[u32]) -> Outcome<u64>
-    requires { length first.now ≡ length last.now }
-    ensures { Passed (repeat n (counted (linked (some_object first.now last.now)))) part.now 0 result }
-{
-    let mut here = Cursor { at: 0 };
-    let mut rest = n;
-    while 0 < rest {
-        let (m, begin) = here.small(part)?;
-        let (_, next) = guided_references(part, begin, m, guide, first, last)?;
-        here = next;
-        rest -= 1;
     }
     Ok((0, here))
 }
@@ -185,12 +82,23 @@ fn lists_of(
     ensures { Passed (repeat n (list_of strings pools.now first.now last.now e)) part.now 0 result }
 {
     match e {
-        6 => bool_lists(part, n),
-        7..=10 | 12..=13 => fixed_lists(part, n, width(e)),
-        11 => v64_lists(part, n),
-        14 => string_lists(part, n, strings),
-        32..=18446744073709551615 => reference_lists(part, n, pools, first, last),
-        _ => lists(part, n, e, strings, pools, first, last),
+        5 => lists_by(part, n, move |c, m| annotations(part, c, m, pools)),
+        6 => lists_by(part, n, move |c, m| bools(part, c, m)),
+        7..=10 | 12..=13 => {
+            let width = width(e);
+            lists_by(part, n, move |c, m| fixed_widths(part, c, m, width))
+        }
+        11 => lists_by(part, n, move |c, m| v64s(part, c, m)),
+        14 => lists_by(part, n, move |c, m| strings_in_turn(part, c, m, strings)),
+        32..=18446744073709551615 => {
+            lists_by(
+                part,
+                n,
+                move |c, m| guided_references(part, c, m, pools, first, last),
+            )
+        }
+        // No element has such a kind.
+        0..=4 | 15..=31 => Ok((0, Cursor { at: 0 })),
     }
 }
 

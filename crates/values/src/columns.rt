@@ -6,7 +6,7 @@ ghost use Rattle.numbers.specs.Cursors.{Read};
 ghost use Rattle.values.specs.Bare.{bare, bound_of, made, whole_made};
 ghost use Rattle.values.specs.Columns.{element_of, Storable, ValueRead};
 ghost use Rattle.values.specs.Filling.{Filled};
-ghost use Rattle.values.specs.Rows.{Fitting, On, IsV64, IsLink};
+ghost use Rattle.values.specs.Rows.{Wide, On, IsV64, IsLink};
 
 use crate::runs::number_up_to;
 use numbers::{Cursor, Outcome, sign};
@@ -92,165 +92,44 @@ pub fn read_value(part: &[u8], c: Cursor, k: u64) -> Outcome<Value>
     Ok((value_of(n, k), next))
 }
 
-// How many of n values there is room for.
-fn fitting(n: usize, room: usize) -> usize
-    ensures { Fitting n room result }
+// The values of kind `KIND`, of `WIDTH` bytes each, up to the end of the part, stored from place `at` on: the place behind the last. The kind
+// is known before the loop is made, so that a value's answer has one case in it; and how many there are is known before the loop runs, so that no
+// step asks.
+fn fill_fixed<const KIND: u64, const WIDTH: usize>(part: &[u8], out: &mut [i64], at: usize) -> usize
+    requires { (at ≤ length out.old) × Wide KIND WIDTH }
+    ensures { Filled KIND part.now out.old at out.new result }
 {
-    if room < n {
-        return room;
-    }
-    n
-}
-
-// Below, the values of one kind up to the end of the part, stored from place `at` on: the place behind the last. A value's answer
-// has one case in each loop. Where the width is fixed, it is known before the loop how many there are, and no step asks.
-fn fill_flags(part: &[u8], out: &mut [i64], at: usize) -> usize
-    requires { at ≤ length out.old }
-    ensures { Filled 6 part.now out.old at out.new result }
-{
-    let n = fitting(part.len() / 1, out.len() - at);
+    let n = (part.len() / WIDTH).min(out.len() - at);
     let end = at + n;
-    let mut p = at;
     let mut from = Cursor { at: 0 };
-    while p < end {
-        let a = from.take::<1>(part);
-        out[p] = store(Value::Flag(a.number == 255));
-        p += 1;
+    for p in at..end {
+        let a = from.take::<WIDTH>(part);
+        out[p] = store(value_of(a.number, KIND));
         from = a.next;
     }
-    p
-}
-
-fn fill_i8s(part: &[u8], out: &mut [i64], at: usize) -> usize
-    requires { at ≤ length out.old }
-    ensures { Filled 7 part.now out.old at out.new result }
-{
-    let n = fitting(part.len() / 1, out.len() - at);
-    let end = at + n;
-    let mut p = at;
-    let mut from = Cursor { at: 0 };
-    while p < end {
-        let a = from.take::<1>(part);
-        out[p] = store(Value::Whole(sign::signed::<1>(a.number)));
-        p += 1;
-        from = a.next;
-    }
-    p
-}
-
-fn fill_i16s(part: &[u8], out: &mut [i64], at: usize) -> usize
-    requires { at ≤ length out.old }
-    ensures { Filled 8 part.now out.old at out.new result }
-{
-    let n = fitting(part.len() / 2, out.len() - at);
-    let end = at + n;
-    let mut p = at;
-    let mut from = Cursor { at: 0 };
-    while p < end {
-        let a = from.take::<2>(part);
-        out[p] = store(Value::Whole(sign::signed::<2>(a.number)));
-        p += 1;
-        from = a.next;
-    }
-    p
-}
-
-fn fill_i32s(part: &[u8], out: &mut [i64], at: usize) -> usize
-    requires { at ≤ length out.old }
-    ensures { Filled 9 part.now out.old at out.new result }
-{
-    let n = fitting(part.len() / 4, out.len() - at);
-    let end = at + n;
-    let mut p = at;
-    let mut from = Cursor { at: 0 };
-    while p < end {
-        let a = from.take::<4>(part);
-        out[p] = store(Value::Whole(sign::signed::<4>(a.number)));
-        p += 1;
-        from = a.next;
-    }
-    p
-}
-
-fn fill_i64s(part: &[u8], out: &mut [i64], at: usize) -> usize
-    requires { at ≤ length out.old }
-    ensures { Filled 10 part.now out.old at out.new result }
-{
-    let n = fitting(part.len() / 8, out.len() - at);
-    let end = at + n;
-    let mut p = at;
-    let mut from = Cursor { at: 0 };
-    while p < end {
-        let a = from.take::<8>(part);
-        out[p] = store(Value::Whole(sign::signed::<8>(a.number)));
-        p += 1;
-        from = a.next;
-    }
-    p
-}
-
-fn fill_f32s(part: &[u8], out: &mut [i64], at: usize) -> usize
-    requires { at ≤ length out.old }
-    ensures { Filled 12 part.now out.old at out.new result }
-{
-    let n = fitting(part.len() / 4, out.len() - at);
-    let end = at + n;
-    let mut p = at;
-    let mut from = Cursor { at: 0 };
-    while p < end {
-        let a = from.take::<4>(part);
-        out[p] = store(Value::Float(4, a.number));
-        p += 1;
-        from = a.next;
-    }
-    p
-}
-
-fn fill_f64s(part: &[u8], out: &mut [i64], at: usize) -> usize
-    requires { at ≤ length out.old }
-    ensures { Filled 13 part.now out.old at out.new result }
-{
-    let n = fitting(part.len() / 8, out.len() - at);
-    let end = at + n;
-    let mut p = at;
-    let mut from = Cursor { at: 0 };
-    while p < end {
-        let a = from.take::<8>(part);
-        out[p] = store(Value::Float(8, a.number));
-        p += 1;
-        from = a.next;
-    }
-    p
+    end
 }
 
 // n numbers, stored from place p on: the cursor behind them. A v64 has nine bytes at most, so where nine are left for each they are all there,
-// and no step asks.
-fn v64s_there(part: &[u8], c: Cursor, out: &mut [i64], p: usize, n: usize) -> Cursor
+// and no step asks. `LONG` is for those of which most have more bytes than one or two.
+fn v64s_there<const LONG: bool>(
+    part: &[u8],
+    c: Cursor,
+    out: &mut [i64],
+    p: usize,
+    n: usize,
+) -> Cursor
     requires { (c.at + 9 * n ≤ length part.now) × (p + n ≤ length out.old) }
     ensures { On IsV64 part.now c.at out.old p n out.new result.at }
 {
-    let mut i: usize = 0;
     let mut here = c;
-    while i < n {
-        let a = here.take_v64(part);
-        out[p + i] = store(Value::Whole(sign::signed::<8>(a.number)));
-        i += 1;
-        here = a.next;
-    }
-    here
-}
-
-// The same where most have more bytes than one or two.
-fn long_v64s_there(part: &[u8], c: Cursor, out: &mut [i64], p: usize, n: usize) -> Cursor
-    requires { (c.at + 9 * n ≤ length part.now) × (p + n ≤ length out.old) }
-    ensures { On IsV64 part.now c.at out.old p n out.new result.at }
-{
-    let mut i: usize = 0;
-    let mut here = c;
-    while i < n {
-        let a = here.take_long_v64(part);
-        out[p + i] = store(Value::Whole(sign::signed::<8>(a.number)));
-        i += 1;
+    for i in 0..n {
+        let a = if LONG {
+            here.take_long_v64(part)
+        } else {
+            here.take_v64(part)
+        };
+        out[p + i] = store(value_of(a.number, 11));
         here = a.next;
     }
     here
@@ -262,13 +141,13 @@ fn some_v64s(part: &[u8], c: Cursor, out: &mut [i64], p: usize, n: usize, long: 
     ensures { On IsV64 part.now c.at out.old p n out.new result.at }
 {
     if long {
-        return long_v64s_there(part, c, out, p, n);
+        return v64s_there::<true>(part, c, out, p, n);
     }
-    v64s_there(part, c, out, p, n)
+    v64s_there::<false>(part, c, out, p, n)
 }
 
 // As many as are surely there are stored at once, again and again; the last few one by one. Whether they are long is a guess, which the
-// ones before tell: so no more than some hundred are stored by one.
+// ones before tell: so no more than some hundred are stored by one. A turn stores one or many, so no range counts the turns.
 fn fill_v64s(part: &[u8], out: &mut [i64], at: usize) -> usize
     ensures { Filled 11 part.now out.old at out.new result }
 {
@@ -281,7 +160,7 @@ fn fill_v64s(part: &[u8], out: &mut [i64], at: usize) -> usize
             return p;
         }
         let left = part.len() - from.at;
-        let n = fitting(fitting(left / 9, 256), out.len() - p);
+        let n = (left / 9).min(256).min(out.len() - p);
         if 0 < n {
             let next = some_v64s(part, from, out, p, n, long);
             long = from.at + 2 * n < next.at;
@@ -291,7 +170,7 @@ fn fill_v64s(part: &[u8], out: &mut [i64], at: usize) -> usize
             let Ok((x, next)) = from.v64(part) else {
                 return p;
             };
-            out[p] = store(Value::Whole(sign::signed::<8>(x)));
+            out[p] = store(value_of(x, 11));
             p += 1;
             from = next;
         }
@@ -299,17 +178,16 @@ fn fill_v64s(part: &[u8], out: &mut [i64], at: usize) -> usize
     p
 }
 
-// The same of strings and objects. A file has fewer of them than 2^63, so a column can store their numbers, and nothing is lost of one.
+// The same of strings and objects. A file has fewer of them than 2^63, so a column can store their numbers, and nothing is lost of one. None of
+// them is long, so there is nothing to guess, and a larger number is refused: one loop for these and for v64 would ask at each step which it is.
 fn objects_there(part: &[u8], c: Cursor, out: &mut [i64], p: usize, n: usize) -> Cursor
     requires { (c.at + 9 * n ≤ length part.now) × (p + n ≤ length out.old) }
     ensures { On IsLink part.now c.at out.old p n out.new result.at }
 {
-    let mut i: usize = 0;
     let mut here = c;
-    while i < n {
+    for i in 0..n {
         let a = here.take_v64(part);
         out[p + i] = store(Value::Object(a.number % 9223372036854775808));
-        i += 1;
         here = a.next;
     }
     here
@@ -326,7 +204,7 @@ fn fill_objects(part: &[u8], out: &mut [i64], at: usize) -> usize
             return p;
         }
         let left = part.len() - from.at;
-        let n = fitting(left / 9, out.len() - p);
+        let n = (left / 9).min(out.len() - p);
         if 0 < n {
             from = objects_there(part, from, out, p, n);
             p += n;
@@ -351,14 +229,14 @@ pub fn fill(part: &[u8], k: u64, out: &mut [i64], at: usize) -> usize
         return at;
     }
     match k {
-        6 => fill_flags(part, out, at),
-        7 => fill_i8s(part, out, at),
-        8 => fill_i16s(part, out, at),
-        9 => fill_i32s(part, out, at),
-        10 => fill_i64s(part, out, at),
+        6 => fill_fixed::<6, 1>(part, out, at),
+        7 => fill_fixed::<7, 1>(part, out, at),
+        8 => fill_fixed::<8, 2>(part, out, at),
+        9 => fill_fixed::<9, 4>(part, out, at),
+        10 => fill_fixed::<10, 8>(part, out, at),
         11 => fill_v64s(part, out, at),
-        12 => fill_f32s(part, out, at),
-        13 => fill_f64s(part, out, at),
+        12 => fill_fixed::<12, 4>(part, out, at),
+        13 => fill_fixed::<13, 8>(part, out, at),
         _ => fill_objects(part, out, at),
     }
 }
@@ -368,9 +246,5 @@ pub fn fill_constant(out: &mut [i64], n: usize, z: i64)
     requires { n ≤ length out.old }
     ensures { out.new ≡ over_front (replicate n z) out.old }
 {
-    let mut i: usize = 0;
-    while i < n {
-        out[i] = z;
-        i += 1;
-    }
+    out[..n].fill(z);
 }

@@ -13,35 +13,21 @@ pub fn bits_of(guide: &[u32]) -> u32
     guide[64] % 64
 }
 
-fn place(i: u32) -> usize {
-    i as usize
-}
-
 // The range to look at first for object n, where so many bits are left out. Where the guide does not know, it is the first.
 pub fn guess(guide: &[u32], bits: u32, n: u64) -> usize
     requires { bits < 64 }
 {
-    let part = n >> bits;
-    if (guide.len() as u64) <= part {
-        return 0;
+    match guide.get((n >> bits) as usize) {
+        Some(first) => *first as usize,
+        None => 0,
     }
-    place(guide[part as usize])
 }
 
-// How many bits are left out where the last object has this number.
+// How many bits are left out where the last object has this number: all but six of those that it has, and no more than 24.
 fn bits_out(object: u32) -> u32
     ensures { result ≤ 24 }
 {
-    let mut bits: u32 = 0;
-    let mut rest = object;
-    while bits < 24 {
-        if rest < 64 {
-            return bits;
-        }
-        rest /= 2;
-        bits += 1;
-    }
-    bits
+    26u32.saturating_sub(object.leading_zeros()).min(24)
 }
 
 // The part in which an object lies where so many bits are left out. The last has all that are behind.
@@ -49,11 +35,7 @@ fn part_of(object: u32, bits: u32) -> usize
     requires { bits < 32 }
     ensures { result < 64 }
 {
-    let part = object >> bits;
-    if 63 < part {
-        return 63;
-    }
-    part as usize
+    (object >> bits).min(63) as usize
 }
 
 // Range i for the parts from a place on up to another.
@@ -61,10 +43,8 @@ fn mark(guide: &mut [u32], from: usize, to: usize, i: u32)
     requires { to ≤ length guide.old }
     ensures { length guide.new ≡ length guide.old }
 {
-    let mut p = from;
-    while p < to {
-        guide[p] = i;
-        p += 1;
+    if let Some(parts) = guide.get_mut(from..to) {
+        parts.fill(i);
     }
 }
 
@@ -74,12 +54,10 @@ fn mark_all(last: &[u32], bits: u32, guide: &mut [u32])
     ensures { length guide.new ≡ 65 }
 {
     let mut from: usize = 0;
-    let mut i: usize = 0;
-    while i < last.len() {
-        let to = part_of(last[i], bits) + 1;
+    for (i, end) in last.iter().enumerate() {
+        let to = part_of(*end, bits) + 1;
         mark(guide, from, to, (i % 65536) as u32);
         from = to;
-        i += 1;
     }
 }
 
@@ -88,11 +66,10 @@ pub fn make_guide(last: &[u32], guide: &mut [u32])
     requires { length guide.old ≡ 65 }
     ensures { length guide.new ≡ 65 }
 {
-    let n = last.len();
-    if n == 0 {
+    let Some(object) = last.last() else {
         return;
-    }
-    let bits = bits_out(last[n - 1]);
+    };
+    let bits = bits_out(*object);
     guide[64] = bits;
     mark_all(last, bits, guide);
 }

@@ -1,6 +1,6 @@
 // Maps of several types: counted keys, each followed by what it leads to, which is a map of the other types or, at the last, an
 // element. They are held to the rules and passed over.
-ghost use Rattle.std.specs.Prelude.{◌≡◌, ℕ, ◌-◌, ◌^◌, ◌<◌, ◌≤◌, true, List, length};
+ghost use Rattle.std.specs.Prelude.{◌≡◌, ℕ, ◌-◌, ◌^◌, ◌<◌, ◌≤◌, true, List, length, IfSome};
 ghost use Rattle.paper.specs.Lists.{all};
 ghost use Rattle.paper.specs.Rules.{element_kind?};
 ghost use Rattle.paper.specs.Numbers.{put_fixed};
@@ -10,7 +10,7 @@ ghost use Rattle.values.specs.Items.{item};
 ghost use Rattle.values.specs.Spans.{Grouped, Spanned, item_in};
 ghost use Rattle.values.specs.Ways.{map_in, key_in};
 ghost use Rattle.values.specs.MapChunks.{MapsChecked};
-ghost use Rattle.values.specs.Quick.{FAR, Within, Any, Numbered, Stands, Quick, Skips, Paired};
+ghost use Rattle.values.specs.Quick.{Within, Stands, Quick, Skips, Paired};
 
 use crate::annotations::annotations;
 use crate::references::references;
@@ -23,10 +23,8 @@ fn first_unit(types: u64) -> u64
     ensures { result ≡ 256 ^ (types - 1) }
 {
     let mut unit: u64 = 1;
-    let mut i: u64 = 1;
-    while i < types {
+    for _ in 1..types {
         unit *= 256;
-        i += 1;
     }
     unit
 }
@@ -40,12 +38,10 @@ pub fn map_kinds(types: u64, packed: u64, kinds: &mut [u64]) -> usize
     let n = types as usize;
     let mut unit = first_unit(types);
     let mut rest = packed;
-    let mut i: usize = 0;
-    while i < n {
+    for i in 0..n {
         kinds[i] = rest / unit;
         rest %= unit;
         unit /= 256;
-        i += 1;
     }
     n
 }
@@ -120,11 +116,9 @@ fn element(
     }
 }
 
-// The quick way over elements has the place behind one for an answer, which no memory is needed for: the largest number where a closer
-// look has to tell, and then all is read again.
-
-// What an element is held to on this way: it has so many bytes, or where the width is 0 it is a number that is 0 or lies above `low` and
-// is at most `high`, and where that is the largest it is any number. With a width above 8 there is no such way.
+// What an element is held to on the quick way over it, where only the place behind it is asked: it has so many bytes, or where the width
+// is 0 it is a number that is 0 or lies above `low` and is at most `high`, and where that is the largest it is any number. With a width
+// above 8 there is no such way. Where a closer look has to tell, the quick way answers nothing, and then all is read again.
 #[derive(Clone, Copy)]
 pub struct Bounds {
     pub width: usize,
@@ -133,51 +127,46 @@ pub struct Bounds {
 }
 
 // The place behind a number, if it is within the bounds.
-fn held(n: u64, end: usize, low: u64, high: u64) -> usize
-    ensures { result < FAR → (result ≡ end) × Within low high n }
+fn held(n: u64, end: usize, low: u64, high: u64) -> Option<usize>
+    ensures { IfSome result (λ e. (e ≡ end) × Within low high n) }
 {
     if high < n {
-        return 18446744073709551615;
+        return None;
     }
     if n <= low {
         if n != 0 {
-            return 18446744073709551615;
+            return None;
         }
     }
-    end
-}
-
-// The place behind a number of which nobody asks the value.
-fn any_behind(part: &[u8], at: usize) -> usize
-    ensures { result < FAR → Any part.now at result }
-{
-    let c = Cursor { at };
-    let Ok(next) = c.past_v64(part) else {
-        return 18446744073709551615;
-    };
-    next.at
+    Some(end)
 }
 
 // The place behind a number, of any length.
-fn long_behind(part: &[u8], at: usize, low: u64, high: u64) -> usize
-    ensures { result < FAR → Numbered low high part.now at result }
+fn long_behind(part: &[u8], at: usize, low: u64, high: u64) -> Option<usize>
+    requires { at ≤ length part.now }
+    ensures { IfSome result (Stands 0 low high part.now at) }
 {
-    if high == 18446744073709551615 {
-        return any_behind(part, at);
-    }
     let c = Cursor { at };
+    // Nobody asks the value.
+    if high == u64::MAX {
+        let Ok(next) = c.past_v64(part) else {
+            return None;
+        };
+        return Some(next.at);
+    }
     let Ok((n, next)) = c.v64(part) else {
-        return 18446744073709551615;
+        return None;
     };
     held(n, next.at, low, high)
 }
 
 // The same. Most have one byte.
-fn number_behind(part: &[u8], at: usize, low: u64, high: u64) -> usize
-    ensures { result < FAR → Numbered low high part.now at result }
+fn number_behind(part: &[u8], at: usize, low: u64, high: u64) -> Option<usize>
+    requires { at ≤ length part.now }
+    ensures { IfSome result (Stands 0 low high part.now at) }
 {
     if at < part.len() {
-        let b = part[at] as u64;
+        let b = u64::from(part[at]);
         if b < 128 {
             return held(b, at + 1, low, high);
         }
@@ -186,87 +175,34 @@ fn number_behind(part: &[u8], at: usize, low: u64, high: u64) -> usize
 }
 
 // The place behind an element.
-fn one_behind(part: &[u8], at: usize, width: usize, low: u64, high: u64) -> usize
+fn one_behind(part: &[u8], at: usize, width: usize, low: u64, high: u64) -> Option<usize>
     requires { at ≤ length part.now }
-    ensures { result ≤ length part.now → Stands width low high part.now at result }
+    ensures { IfSome result (Stands width low high part.now at) }
 {
     if width == 0 {
         return number_behind(part, at, low, high);
     }
     if 8 < width {
-        return 18446744073709551615;
+        return None;
     }
-    at + width
+    let end = at + width;
+    if part.len() < end {
+        return None;
+    }
+    Some(end)
 }
 
 // The place behind n pairs of elements.
-fn pairs_behind(part: &[u8], at: usize, n: u64, key: Bounds, value: Bounds) -> usize
+fn pairs_behind(part: &[u8], at: usize, n: u64, key: Bounds, value: Bounds) -> Option<usize>
     requires { at ≤ length part.now }
-    ensures { result ≤ length part.now → Paired key value part.now n at 0 result }
+    ensures { IfSome result (Paired key value part.now n at 0) }
 {
     let mut here = at;
-    let mut rest = n;
-    while 0 < rest {
-        let next = one_behind(part, here, key.width, key.low, key.high);
-        if part.len() < next {
-            return 18446744073709551615;
-        }
-        let end = one_behind(part, next, value.width, value.low, value.high);
-        if part.len() < end {
-            return 18446744073709551615;
-        }
-        here = end;
-        rest -= 1;
+    for _ in 0..n {
+        let next = one_behind(part, here, key.width, key.low, key.high)?;
+        here = one_behind(part, next, value.width, value.low, value.high)?;
     }
-    here
-}
-
-// The bounds of a string's number.
-fn string_bounds(strings: u64) -> Bounds
-    ensures { (pools a b : List ℕ) → Quick (item strings pools a b 14) result }
-{
-    if strings == 18446744073709551615 {
-        return Bounds {
-            width: 9,
-            low: 0,
-            high: 0,
-        };
-    }
-    Bounds {
-        width: 0,
-        low: 0,
-        high: strings,
-    }
-}
-
-// An end of a range in the width of the numbers that are held to it.
-fn wide(x: u32) -> u64
-    ensures { (result ≡ x) × (result < FAR) }
-{
-    x as u64
-}
-
-// The bounds of an object's number, where kind k names a type that has one range.
-fn linked_bounds(k: u64, starts: &[u32], first: &[u32], last: &[u32]) -> Bounds
-    requires { (32 ≤ k) × Grouped starts.now first.now last.now }
-    ensures { (strings : ℕ) (pools : List ℕ) → Quick (item_in strings pools starts.now first.now last.now k) result }
-{
-    let s = span_of(starts, k);
-    let from = s.from;
-    if s.to - from == 1 {
-        let low = wide(first[from]);
-        let high = wide(last[from]);
-        return Bounds {
-            width: 0,
-            low,
-            high,
-        };
-    }
-    Bounds {
-        width: 9,
-        low: 0,
-        high: 0,
-    }
+    Some(here)
 }
 
 // The bounds of an element of so many bytes.
@@ -280,23 +216,52 @@ fn wide_bounds(width: usize) -> Bounds
     }
 }
 
+// The bounds of a number.
+fn number_bounds(low: u64, high: u64) -> Bounds
+    ensures { (result.width ≡ 0) × (result.low ≡ low) × (result.high ≡ high) }
+{
+    Bounds {
+        width: 0,
+        low,
+        high,
+    }
+}
+
+// The bounds of a string's number.
+fn string_bounds(strings: u64) -> Bounds
+    ensures { (pools a b : List ℕ) → Quick (item strings pools a b 14) result }
+{
+    if strings == 18446744073709551615 {
+        return wide_bounds(9);
+    }
+    number_bounds(0, strings)
+}
+
+// The bounds of an object's number, where kind k names a type that has one range.
+fn linked_bounds(k: u64, starts: &[u32], first: &[u32], last: &[u32]) -> Bounds
+    requires { (32 ≤ k) × Grouped starts.now first.now last.now }
+    ensures { (strings : ℕ) (pools : List ℕ) → Quick (item_in strings pools starts.now first.now last.now k) result }
+{
+    let s = span_of(starts, k);
+    let from = s.from;
+    if s.to - from == 1 {
+        return number_bounds(u64::from(first[from]), u64::from(last[from]));
+    }
+    wide_bounds(9)
+}
+
 // The bounds of an element of kind k. Annotations and bools have no quick way.
 fn bounds_of(k: u64, strings: u64, starts: &[u32], first: &[u32], last: &[u32]) -> Bounds
     requires { (element_kind? k ≡ true) × Grouped starts.now first.now last.now }
     ensures { (pools : List ℕ) → Quick (item_in strings pools starts.now first.now last.now k) result }
 {
     match k {
-        5 => wide_bounds(9),
-        6 => wide_bounds(9),
+        5 | 6 => wide_bounds(9),
         7 => wide_bounds(1),
         8 => wide_bounds(2),
         9 | 12 => wide_bounds(4),
         10 | 13 => wide_bounds(8),
-        11 => Bounds {
-            width: 0,
-            low: 0,
-            high: 18446744073709551615,
-        },
+        11 => number_bounds(0, 18446744073709551615),
         14 => string_bounds(strings),
         _ => linked_bounds(k, starts, first, last),
     }
@@ -311,9 +276,9 @@ fn element_behind(
     starts: &[u32],
     first: &[u32],
     last: &[u32],
-) -> usize
+) -> Option<usize>
     requires { (element_kind? k ≡ true) × (at ≤ length part.now) × Grouped starts.now first.now last.now }
-    ensures { result ≤ length part.now → (pools : List ℕ) → Skips (item_in strings pools starts.now first.now last.now k) part.now at result }
+    ensures { IfSome result (λ e. (pools : List ℕ) → Skips (item_in strings pools starts.now first.now last.now k) part.now at e) }
 {
     let b = bounds_of(k, strings, starts, first, last);
     one_behind(part, at, b.width, b.low, b.high)
@@ -340,17 +305,14 @@ fn map(
     if kinds.len() < 3 {
         let key = bounds_of(kinds[0], strings, starts, first, last);
         let value = bounds_of(kinds[1], strings, starts, first, last);
-        let end = pairs_behind(part, begin.at, n, key, value);
-        if end <= part.len() {
-            return Ok((0, Cursor { at: end }));
+        if let Some(at) = pairs_behind(part, begin.at, n, key, value) {
+            return Ok((0, Cursor { at }));
         }
     }
     let mut here = begin;
-    let mut rest = n;
-    while 0 < rest {
+    for _ in 0..n {
         let (_, next) = key_and_rest(part, here, kinds, strings, pools, starts, first, last)?;
         here = next;
-        rest -= 1;
     }
     Ok((0, here))
 }
@@ -372,9 +334,8 @@ fn key_and_rest(
     ensures { Passed (key_in strings pools.now starts.now first.now last.now kinds.now) part.now c.at result }
 {
     if 2 < kinds.len() {
-        let behind = element_behind(part, c.at, kinds[0], strings, starts, first, last);
-        if behind <= part.len() {
-            let rest = Cursor { at: behind };
+        if let Some(at) = element_behind(part, c.at, kinds[0], strings, starts, first, last) {
+            let rest = Cursor { at };
             return map(part, rest, &kinds[1..], strings, pools, starts, first, last);
         }
     }
@@ -400,11 +361,9 @@ pub fn maps(
     ensures { MapsChecked n strings pools.now starts.now first.now last.now kinds.now part.now result }
 {
     let mut here = Cursor { at: 0 };
-    let mut rest = n;
-    while 0 < rest {
+    for _ in 0..n {
         let (_, next) = map(part, here, kinds, strings, pools, starts, first, last)?;
         here = next;
-        rest -= 1;
     }
     Ok((0, here))
 }

@@ -9,6 +9,10 @@ use crate::guides::{bits_of, guess};
 use numbers::{Cursor, Fault, Outcome, Refusal};
 use std::num;
 
+// The loops count by hand here, an end is widened by `wide`, and what takes a guide stands beside what takes none. With `for`, `&&` and
+// `u64::from` in `search`, `lies_in` and `over`, 65,535 references to one range took 0.23 ms in place of 0.17, and 0.21 where besides one
+// function took the search as a parameter: the compiler then asks again, for each reference, whether a range was found.
+
 // An end of a range in the width of the numbers that are held against it. Said once, it spares each load a fact.
 fn wide(x: u32) -> u64
     ensures { result ≡ x }

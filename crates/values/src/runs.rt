@@ -21,15 +21,13 @@ fn are_bools(part: &[u8], at: usize, end: usize) -> bool
     ensures { result ≡ true → Bools part.now at end }
 {
     let mut others: u8 = 0;
-    let mut i = at;
-    while i < end {
+    for i in at..end {
         let b = part[i];
         if b != 0 {
             if b != 255 {
                 others = 1;
             }
         }
-        i += 1;
     }
     others == 0
 }
@@ -56,8 +54,7 @@ fn bools_in_turn(part: &[u8], c: Cursor, m: u64) -> Outcome<u64>
     ensures { Passed (repeat m (must (fixed 1) bool_rules)) part.now c.at result }
 {
     let mut here = c;
-    let mut rest = m;
-    while 0 < rest {
+    for _ in 0..m {
         let (b, next) = here.be::<1>(part)?;
         if b != 0 {
             if b != 255 {
@@ -68,7 +65,6 @@ fn bools_in_turn(part: &[u8], c: Cursor, m: u64) -> Outcome<u64>
             }
         }
         here = next;
-        rest -= 1;
     }
     Ok((0, here))
 }
@@ -97,20 +93,19 @@ pub fn fixed_widths(part: &[u8], c: Cursor, m: u64, width: u64) -> Outcome<u64>
     })
 }
 
+// How many v64 are surely there: one has nine bytes at most.
+fn sure(part: &[u8], at: usize) -> u64
+    ensures { 0 < result → at + 9 * result ≤ length part.now }
+{
+    (part.len().saturating_sub(at) / 9) as u64
+}
+
 // How many times eight bytes can be looked at for the ends of at most `rest` numbers: each time there is a ninth behind them, and no more than
 // eight numbers are passed over.
 fn looks(part: &[u8], at: usize, rest: u64) -> u64
     ensures { Looks (length part.now) at rest result }
 {
-    if part.len() < at {
-        return 0;
-    }
-    let room = ((part.len() - at) / 9) as u64;
-    let most = rest / 8;
-    if room < most {
-        return room;
-    }
-    most
+    sure(part, at).min(rest / 8)
 }
 
 // As many numbers as end in so many looks.
@@ -120,17 +115,16 @@ fn v64s_there(part: &[u8], c: Cursor, n: u64) -> Run
 {
     let mut here = c;
     let mut count: u64 = 0;
-    let mut left = n;
-    while 0 < left {
+    for _ in 0..n {
         let a = here.past_v64s(part);
         count += a.count;
         here = a.next;
-        left -= 1;
     }
     Run { count, next: here }
 }
 
-// m numbers of one byte or more: as many as are surely there are passed over at once, again and again, and then the last few.
+// m numbers of one byte or more: as many as are surely there are passed over at once, again and again, and then the last few. How many that
+// are is known only behind them, so no range counts the turns.
 pub fn v64s(part: &[u8], c: Cursor, m: u64) -> Outcome<u64>
     ensures { Passed (repeat m v64) part.now c.at result }
 {
@@ -169,10 +163,8 @@ fn each_v64(part: &[u8], c: Cursor, m: u64) -> Cursor
     ensures { Over part.now m c.at result.at }
 {
     let mut here = c;
-    let mut rest = m;
-    while 0 < rest {
+    for _ in 0..m {
         here = here.pass_v64(part);
-        rest -= 1;
     }
     here
 }
@@ -182,10 +174,8 @@ fn v64s_in_turn(part: &[u8], c: Cursor, m: u64) -> Outcome<u64>
     ensures { Passed (repeat m v64) part.now c.at result }
 {
     let mut here = c;
-    let mut rest = m;
-    while 0 < rest {
+    for _ in 0..m {
         here = here.past_v64(part)?;
-        rest -= 1;
     }
     Ok((0, here))
 }
@@ -204,15 +194,6 @@ pub fn number_up_to(part: &[u8], c: Cursor, most: u64) -> Outcome<u64>
     Ok((n, next))
 }
 
-fn larger(a: u64, b: u64) -> u64
-    ensures { (a ≤ result) × (b ≤ result) }
-{
-    if a < b {
-        return b;
-    }
-    a
-}
-
 // n numbers that are there: the largest of them, and the cursor behind them.
 fn numbers_there(part: &[u8], c: Cursor, n: u64) -> Taken
     requires { c.at + 9 * n ≤ length part.now }
@@ -220,12 +201,10 @@ fn numbers_there(part: &[u8], c: Cursor, n: u64) -> Taken
 {
     let mut here = c;
     let mut largest: u64 = 0;
-    let mut left = n;
-    while 0 < left {
+    for _ in 0..n {
         let a = here.take_v64(part);
-        largest = larger(largest, a.number);
+        largest = largest.max(a.number);
         here = a.next;
-        left -= 1;
     }
     Taken {
         number: largest,
@@ -233,22 +212,15 @@ fn numbers_there(part: &[u8], c: Cursor, n: u64) -> Taken
     }
 }
 
-// How many of `rest` numbers are surely there: a v64 has nine bytes at most.
+// How many of `rest` numbers are surely there.
 fn surely(part: &[u8], at: usize, rest: u64) -> u64
     ensures { Surely (length part.now) at rest result }
 {
-    if part.len() < at {
-        return 0;
-    }
-    let room = ((part.len() - at) / 9) as u64;
-    if room < rest {
-        return room;
-    }
-    rest
+    sure(part, at).min(rest)
 }
 
 // m numbers of strings. Of those that are surely there only the largest is held against the bound, and they are looked at one by one where it
-// is past it.
+// is past it. No range counts the turns: each asks anew how many are surely there.
 pub fn string_numbers(part: &[u8], c: Cursor, m: u64, strings: u64) -> Outcome<u64>
     ensures { Passed (repeat m (linked (at_most strings))) part.now c.at result }
 {
@@ -272,11 +244,9 @@ pub fn strings_in_turn(part: &[u8], c: Cursor, m: u64, strings: u64) -> Outcome<
     ensures { Passed (repeat m (linked (at_most strings))) part.now c.at result }
 {
     let mut here = c;
-    let mut rest = m;
-    while 0 < rest {
+    for _ in 0..m {
         let (_, next) = number_up_to(part, here, strings)?;
         here = next;
-        rest -= 1;
     }
     Ok((0, here))
 }

@@ -14,17 +14,17 @@ shape_of-places-then-left-eq0 c = c.loop-from.invariant.many ∙ sym c.requires.
 pub returns-then-left-eq0 : goal.returns-then-left-eq0
 returns-then-left-eq0 c = counting-many c.loop-from.invariant c.loop-from-test.true c.if-left-eq0.true
 
-pub count_pair-a-requires : goal.count_pair-a-requires
-count_pair-a-requires c = counting-asks c.loop-from.invariant c.loop-from-test.true c.if-left-eq0.false c.requires.text_ready.bytes
+pub count_pair-requires : goal.count_pair-requires
+count_pair-requires c = counting-asks c.loop-from.invariant c.loop-from-test.true c.if-left-eq0.false c.requires.text_ready.bytes
 
-pub shape_of-work-in_default : goal.shape_of-work-in_default
-shape_of-work-in_default c = c.count_pair-a.auto.work ∙ c.loop-from.invariant.going.long
+pub shape_of-work-in_err-k : goal.shape_of-work-in_err-k
+shape_of-work-in_err-k c = c.count_pair.auto.work ∙ c.loop-from.invariant.going.long
 
-pub shape_of-places-in_default : goal.shape_of-places-in_default
-shape_of-places-in_default c = c.loop-from.invariant.many ∙ sym c.requires.places_len
+pub shape_of-places-in_err-k : goal.shape_of-places-in_err-k
+shape_of-places-in_err-k c = c.loop-from.invariant.many ∙ sym c.requires.places_len
 
-pub returns-in_default : goal.returns-in_default
-returns-in_default c = counting-bad c.loop-from.invariant c.loop-from-test.true c.if-left-eq0.false c.count_pair-a.ensures c.in_default.is
+pub returns-in_err-k : goal.returns-in_err-k
+returns-in_err-k c = rw c.from_residual.ensures (counting-bad c.loop-from.invariant c.loop-from-test.true c.if-left-eq0.false c.count_pair.ensures c.in_err-k.was)
 
 pub overflow_sub-left : goal.overflow_sub-left
 overflow_sub-left c = omega (arith, c.if-left-eq0.false)
@@ -39,7 +39,7 @@ pub loop-from-smaller : goal.loop-from-smaller
 loop-from-smaller c = omega (arith, c.if-left-eq0.false)
 
 pub loop-from-preserved : goal.loop-from-preserved
-loop-from-preserved c = counting-next c.loop-from.invariant c.loop-from-test.true c.if-left-eq0.false c.count_pair-a.ensures c.in-Got.is c.count_pair-a.auto.work
+loop-from-preserved c = counting-next c.loop-from.invariant c.loop-from-test.true c.if-left-eq0.false c.count_pair.ensures c.in_ok-k.was c.count_pair.auto.work
 
 pub shape_of-work : goal.shape_of-work
 shape_of-work c = c.loop-from.invariant.going.long

@@ -1,4 +1,3 @@
-use Rattle.std.proofs.Common.{◌-◌, arith}
 use Rattle.values.specs.Annotations.{placed-null, placed-half, placed-far, placed-some}
 use Rattle.values.proofs.annotations.placed.Goals as goal
 
@@ -11,8 +10,5 @@ returns-then-n-eq0 c = placed-half _ _ _ c.if-m-eq0.false c.if-n-eq0.true
 pub returns-then-pools-m : goal.returns-then-pools-m
 returns-then-pools-m c = placed-far _ _ _ c.if-m-eq0.false c.if-n-eq0.false c.if-pools-m.true
 
-pub overflow_cast-most : goal.overflow_cast-most
-overflow_cast-most c = omega (arith, c.shared_slice_known-1.given (c.args.m - 1))
-
 pub returns : goal.returns
-returns c = placed-some _ _ _ c.if-m-eq0.false c.if-n-eq0.false
+returns c = rw c.from.ensures (placed-some _ _ _ c.if-m-eq0.false c.if-n-eq0.false)

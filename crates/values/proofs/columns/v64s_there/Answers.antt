@@ -1,27 +1,20 @@
-use Rattle.std.proofs.Common.{refl, ◌∙◌, arith, to_z-of_z, w64}
-use Rattle.values.specs.Rows.{stood-v64, on-start, on-v64, on-done}
+use Rattle.std.proofs.Common.{arith}
+use Rattle.numbers.specs.Turned.{TakenV64}
+use Rattle.values.specs.Rows.{stood, v64-listed, on-v64}
+use Rattle.values.specs.Columns.{held}
 use Rattle.values.proofs.columns.v64s_there.Goals as goal
+use Rattle.values.proofs.columns.v64s_there.Goals.{then-this-ne0, else-this-ne0}
 
-pub loop-i-init : goal.loop-i-init
-loop-i-init c = (on-start _ _ _ _ _, omega arith)
-
-pub take_v64-a-requires : goal.take_v64-a-requires
-take_v64-a-requires c = omega (arith, c.loop-i.invariant.0.most)
-
-pub store-requires : goal.store-requires
-store-requires c = (stood-v64 11 _ (to_z-of_z {w = w64} (record { sfits = c.signed.type_inv })) c.signed.type_inv refl c.signed.ensures).fits
-
-pub offset_bounds-out-p : goal.offset_bounds-out-p
-offset_bounds-out-p c = omega (arith, c.loop-i.invariant.0.long)
-
-pub bounds-out-p : goal.bounds-out-p
-bounds-out-p c = omega (arith, c.loop-i.invariant.0.long)
+pub value_of-requires : goal.value_of-requires
+value_of-requires g c = let T : TakenV64 c.args.part.now c.loop-i.here.at c.if-this-ne0.a = elim c.if-this-ne0.branch [
+  | then-this-ne0 w ↦ rw w.a-is w.take_long_v64-a.ensures
+  | else-this-ne0 w ↦ rw w.a-is w.take_v64-a.ensures
+] in
+    v64-listed _ T.below
 
 pub loop-i-preserved : goal.loop-i-preserved
-loop-i-preserved c = (on-v64 c.take_v64-a.ensures (omega (arith, c.loop-i.invariant.0.most)) c.loop-i.invariant.0 (stood-v64 11 _ (to_z-of_z {w = w64} (record { sfits = c.signed.type_inv })) c.signed.type_inv refl c.signed.ensures) (to_z-of_z {w = w64} (record { sfits = c.store.type_inv }) ∙ c.store.ensures), omega arith)
-
-pub shape_of-out : goal.shape_of-out
-shape_of-out c = c.loop-i.invariant.0.long
-
-pub returns : goal.returns
-returns c = on-done _ c.loop-i.invariant.0 (omega (arith, c.loop-i.invariant.1))
+loop-i-preserved g c = let T : TakenV64 c.args.part.now c.loop-i.here.at c.if-this-ne0.a = elim c.if-this-ne0.branch [
+  | then-this-ne0 w ↦ rw w.a-is w.take_long_v64-a.ensures
+  | else-this-ne0 w ↦ rw w.a-is w.take_v64-a.ensures
+] in
+    on-v64 T (omega (arith, c.loop-i.invariant.most)) c.loop-i.invariant (stood c.value_of.ensures) (held c.store.type_inv c.store.ensures)

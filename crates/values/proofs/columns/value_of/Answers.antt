@@ -3,7 +3,7 @@ use Rattle.values.specs.Listed.{listed-low}
 use Rattle.paper.specs.Reader.{when◌then◌else◌}
 use Rattle.paper.specs.Ledger.{whole}
 use Rattle.values.specs.Bare.{made, made-whole, made-link, bound-link, bound_of}
-use Rattle.values.specs.Columns.{element_of, Storable}
+use Rattle.values.specs.Columns.{held, element_of, Storable}
 use Rattle.values.proofs.columns.value_of.Goals as goal
 
 pub returns-in-6 : goal.returns-in-6
@@ -20,7 +20,7 @@ returns-in-13 c = (rw c.in-13.is, λ h. absurd (h refl))
 
 pub returns-in-7-to-11 : goal.returns-in-7-to-11
 unfolding element_of Storable
-returns-in-7-to-11 c = (ap whole (to_z-of_z {w = w64} (record { sfits = c.whole.type_inv }) ∙ c.whole.ensures) ∙ sym (made-whole c.args.k c.args.n (omega arith) (omega arith)), rw (to_z-of_z {w = w64} (record { sfits = c.whole.type_inv })) c.whole.type_inv)
+returns-in-7-to-11 c = (ap whole (held c.whole.type_inv c.whole.ensures) ∙ sym (made-whole c.args.k c.args.n (omega arith) (omega arith)), rw (to_z-of_z {w = w64} (record { sfits = c.whole.type_inv })) c.whole.type_inv)
 
 pub returns-in_default : goal.returns-in_default
 returns-in_default c = absurd (omega (arith, listed-low c.args.k c.requires.0))

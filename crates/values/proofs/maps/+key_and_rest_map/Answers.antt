@@ -1,6 +1,6 @@
 use Rattle.std.proofs.Common.{refl, arith}
 use Rattle.numbers.specs.Cursors.{handed, was-got}
-use Rattle.values.specs.Pass.{running-start, running-next, running-no, running-done}
+use Rattle.values.specs.Turns.{turning-start, turning-next, turning-no, turning-done}
 use Rattle.values.specs.Maps.{passed-inside}
 use Rattle.values.specs.Quick.{skips-passed, paired-passed, key-steps}
 use Rattle.values.specs.Ways.{first_kind, last-kind, rest-asked, rest-falls, way_no, way-keys, way-key-no, way-rest, way-last}
@@ -9,14 +9,14 @@ use Rattle.values.proofs.maps.+key_and_rest_map.Goals as goal
 pub key_and_rest-bounds-kinds-0 : goal.key_and_rest-bounds-kinds-0
 key_and_rest-bounds-kinds-0 t c = omega arith
 
-pub key_and_rest-element_behind-behind-requires : goal.key_and_rest-element_behind-behind-requires
-key_and_rest-element_behind-behind-requires t c = (first_kind c.args.kinds.now (omega arith) c.requires.in_bounds.1, c.requires.at_in_bounds.0, c.requires.at_in_bounds.1)
+pub key_and_rest-element_behind-requires : goal.key_and_rest-element_behind-requires
+key_and_rest-element_behind-requires t c = (first_kind c.args.kinds.now (omega arith) c.requires.in_bounds.1, c.requires.at_in_bounds.0, c.requires.at_in_bounds.1)
 
 pub key_and_rest-map-requires : goal.key_and_rest-map-requires
-key_and_rest-map-requires t c = (rest-falls c.args.kinds.now c.requires.in_bounds.0 c.decreases, (rest-asked 2 c.args.kinds.now c.if-kinds-gt2.true c.requires.in_bounds.1, (c.if-behind-part.true, c.requires.at_in_bounds.1)))
+key_and_rest-map-requires t c = (rest-falls c.args.kinds.now c.requires.in_bounds.0 c.decreases, (rest-asked 2 c.args.kinds.now c.if-kinds-gt2.true c.requires.in_bounds.1, ((c.in-Some.ensures c.args.pools.now).inside, c.requires.at_in_bounds.1)))
 
-pub key_and_rest-returns-then-behind-part : goal.key_and_rest-returns-then-behind-part
-key_and_rest-returns-then-behind-part t c = way-rest _ _ _ _ _ _ c.requires.in_bounds.0 (skips-passed (c.element_behind-behind.ensures c.if-behind-part.true _)) refl c.map.ensures
+pub key_and_rest-returns-in-Some : goal.key_and_rest-returns-in-Some
+key_and_rest-returns-in-Some t c = way-rest _ _ _ _ _ _ c.requires.in_bounds.0 (skips-passed (c.in-Some.ensures _)) refl c.map.ensures
 
 pub key_and_rest-element-requires : goal.key_and_rest-element-requires
 key_and_rest-element-requires t c = (first_kind c.args.kinds.now (omega arith) c.requires.in_bounds.1, c.requires.at_in_bounds.0, c.requires.at_in_bounds.1)
@@ -45,23 +45,23 @@ map-bounds_of-key-requires t c = (first_kind c.args.kinds.now (omega arith) c.re
 pub map-bounds_of-value-requires : goal.map-bounds_of-value-requires
 map-bounds_of-value-requires t c = (last-kind c.args.kinds.now c.requires.in_bounds.0 c.requires.in_bounds.1, c.requires.at_in_bounds.1)
 
-pub map-pairs_behind-end-requires : goal.map-pairs_behind-end-requires
-map-pairs_behind-end-requires t c = (was-got c.small.ensures c.in_ok-n.was).inside c.requires.at_in_bounds.0
+pub map-pairs_behind-requires : goal.map-pairs_behind-requires
+map-pairs_behind-requires t c = (was-got c.small.ensures c.in_ok-n.was).inside c.requires.at_in_bounds.0
 
-pub map-returns-then-end-part : goal.map-returns-then-end-part
-map-returns-then-end-part t c = way-keys _ _ _ _ _ _ c.requires.in_bounds.0 c.small.ensures c.in_ok-n.was (paired-passed (c.pairs_behind-end.ensures c.if-end-part.true) (key-steps _ _ _ _ _ _ (omega arith) (c.bounds_of-key.ensures _) (c.bounds_of-value.ensures _)))
+pub map-returns-in-Some : goal.map-returns-in-Some
+map-returns-in-Some t c = way-keys _ _ _ _ _ _ c.requires.in_bounds.0 c.small.ensures c.in_ok-n.was (paired-passed c.in-Some.ensures (key-steps _ _ _ _ _ _ (omega arith) (c.bounds_of-key.ensures _) (c.bounds_of-value.ensures _)))
 
-pub map-loop-rest-init : goal.map-loop-rest-init
-map-loop-rest-init t c = running-start _ _ _ _
+pub map-loop-init : goal.map-loop-init
+map-loop-init t c = turning-start _ _ _ _
 
 pub map-key_and_rest-requires : goal.map-key_and_rest-requires
-map-key_and_rest-requires t c = (omega arith, ((c.requires.in_bounds.0, c.requires.in_bounds.1), (c.loop-rest.invariant.inside ((was-got c.small.ensures c.in_ok-n.was).inside c.requires.at_in_bounds.0), c.requires.at_in_bounds.1)))
+map-key_and_rest-requires t c = (omega arith, ((c.requires.in_bounds.0, c.requires.in_bounds.1), (c.loop.invariant.inside ((was-got c.small.ensures c.in_ok-n.was).inside c.requires.at_in_bounds.0), c.requires.at_in_bounds.1)))
 
 pub map-returns-in_err-next : goal.map-returns-in_err-next
-map-returns-in_err-next t c = rw (handed c.from_residual-in_err-next.ensures.1) (way-keys _ _ _ _ _ _ c.requires.in_bounds.0 c.small.ensures c.in_ok-n.was (running-no c.loop-rest.invariant c.loop-rest-test.true c.key_and_rest.ensures c.in_err-next.was))
+map-returns-in_err-next t c = rw (handed c.from_residual-in_err-next.ensures.1) (way-keys _ _ _ _ _ _ c.requires.in_bounds.0 c.small.ensures c.in_ok-n.was (turning-no c.loop.invariant c.loop-test.true c.key_and_rest.ensures c.in_err-next.was))
 
-pub map-loop-rest-preserved : goal.map-loop-rest-preserved
-map-loop-rest-preserved t c = running-next c.loop-rest.invariant c.loop-rest-test.true c.key_and_rest.ensures c.in_ok-next.was
+pub map-loop-preserved : goal.map-loop-preserved
+map-loop-preserved t c = turning-next c.loop.invariant c.loop-test.true c.key_and_rest.ensures c.in_ok-next.was
 
 pub map-returns : goal.map-returns
-map-returns t c = way-keys _ _ _ _ _ _ c.requires.in_bounds.0 c.small.ensures c.in_ok-n.was (running-done c.loop-rest.invariant 0 c.loop-rest-test.false)
+map-returns t c = way-keys _ _ _ _ _ _ c.requires.in_bounds.0 c.small.ensures c.in_ok-n.was (turning-done c.loop.invariant 0 c.loop-test.false)

@@ -1,5 +1,5 @@
 use Rattle.std.proofs.Common.{◌+◌, ◌*◌, length}
-use Rattle.values.specs.Pass.{Running}
+use Rattle.values.specs.Turns.{Turning}
 use Rattle.values.specs.Ways.{key_in}
 use Rattle.values.proofs.maps.+key_and_rest_map.Given as goal
 
@@ -11,8 +11,5 @@ decreases-key_and_rest l = 2 * length l.kinds.now
 abbrev pub decreases-map : goal.decreases-map
 decreases-map l = 2 * length l.kinds.now + 1
 
-abbrev pub invariant-map-loop-rest : goal.invariant-map-loop-rest
-invariant-map-loop-rest l = Running (key_in l.strings l.pools l.starts l.first l.last l.kinds) l.part l.n l.initial.here.at l.rest l.here.at
-
-abbrev pub decreases-map-loop-rest : goal.decreases-map-loop-rest
-decreases-map-loop-rest l = l.rest
+abbrev pub invariant-map-loop : goal.invariant-map-loop
+invariant-map-loop l = Turning (key_in l.strings l.pools l.starts l.first l.last l.kinds) l.part l.n l.initial.here.at l.counter l.here.at

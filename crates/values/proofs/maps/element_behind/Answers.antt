@@ -1,4 +1,6 @@
+use Rattle.std.proofs.lemmas.Option.{IfSome_then}
+use Rattle.values.specs.Quick.{quick-behind}
 use Rattle.values.proofs.maps.element_behind.Goals as goal
 
 pub returns : goal.returns
-returns c h pools = (c.bounds_of-b.ensures pools).over (c.one_behind.ensures h)
+returns c = IfSome_then _ c.one_behind.ensures (λ e S. quick-behind c.bounds_of-b.ensures S)

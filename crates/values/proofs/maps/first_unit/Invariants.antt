@@ -1,9 +1,5 @@
-use Rattle.std.proofs.Common.{◌-◌}
 use Rattle.values.specs.Unpacked.{Unit}
 use Rattle.values.proofs.maps.first_unit.Given as goal
 
-abbrev pub invariant-loop-i : goal.invariant-loop-i
-invariant-loop-i l = Unit l.types l.i l.unit
-
-abbrev pub decreases-loop-i : goal.decreases-loop-i
-decreases-loop-i l = l.types - l.i
+abbrev pub invariant-loop : goal.invariant-loop
+invariant-loop l = Unit l.types l.counter l.unit

@@ -1,4 +1,4 @@
-use Rattle.std.proofs.Common.{refl, arith}
+use Rattle.std.proofs.Common.{◌∙◌, arith}
 use Rattle.values.specs.Spans.{lendable}
 use Rattle.values.specs.Quick.{quick-none, quick-object}
 use Rattle.values.proofs.maps.linked_bounds.Goals as goal
@@ -19,7 +19,10 @@ pub bounds-last-from : goal.bounds-last-from
 bounds-last-from c = let L = lendable c.requires.1 c.span_of-s.ensures in omega (arith, L.rising, L.in-last, c.if-s-from-eq1.true)
 
 pub returns-then-s-from-eq1 : goal.returns-then-s-from-eq1
-returns-then-s-from-eq1 c = quick-object c.requires.0 c.requires.1 c.span_of-s.ensures c.if-s-from-eq1.true refl c.wide-low.ensures.0 c.wide-high.ensures.0 c.wide-high.ensures.1
+returns-then-s-from-eq1 c =
+    let (width, low, high) = c.number_bounds.ensures in
+    quick-object c.requires.0 c.requires.1 c.span_of-s.ensures c.if-s-from-eq1.true width (low ∙ c.from.ensures) (high ∙ c.from-then-s-from-eq1.ensures)
+    (omega (arith, high, c.from-then-s-from-eq1.ensures, (c.type_inv.last c.span_of-s.result.from).fits))
 
 pub returns : goal.returns
-returns c strings pools = quick-none _ (omega arith)
+returns c strings pools = quick-none _ (omega (arith, c.wide_bounds.ensures))

@@ -1,13 +1,14 @@
-use Rattle.std.proofs.Common.{arith}
+use Rattle.std.proofs.lemmas.Option.{IfSome_then}
+use Rattle.std.proofs.Common.{refl, arith}
 use Rattle.numbers.specs.Cursors.{was-got}
-use Rattle.values.specs.Quick.{any-numbered, numbered}
+use Rattle.values.specs.Quick.{past-any, any-numbered, numbered, stands-number}
 use Rattle.values.proofs.maps.long_behind.Goals as goal
 
 pub returns-then-high-eq18446744073709551615 : goal.returns-then-high-eq18446744073709551615
-returns-then-high-eq18446744073709551615 c h = any-numbered c.if-high-eq18446744073709551615.true (c.any_behind.ensures h)
-
-pub returns-in_default : goal.returns-in_default
-returns-in_default c h = absurd (omega arith)
+returns-then-high-eq18446744073709551615 c =
+    stands-number refl (any-numbered c.if-high-eq18446744073709551615.true (past-any c.past_v64.ensures c.in-Ok.is)) ((rw c.in-Ok.is at c.past_v64.ensures).inside c.requires)
 
 pub returns : goal.returns
-returns c h = numbered (was-got c.v64.ensures c.in-Ok.is).says (c.held.ensures h)
+returns c =
+    let V = was-got c.v64.ensures c.in-Ok-v64.is in
+    IfSome_then _ c.held.ensures (λ e W. stands-number refl (numbered V.says W) (omega (arith, W.0, V.inside c.requires)))

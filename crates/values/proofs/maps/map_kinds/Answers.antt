@@ -20,9 +20,6 @@ bounds-kinds-i c = omega (arith, c.loop-i.invariant.long, c.requires.1, c.requir
 pub nonzero_rem-rest : goal.nonzero_rem-rest
 nonzero_rem-rest c = omega (arith, unit-some c.loop-i.invariant c.loop-i-test.true)
 
-pub overflow_add-i : goal.overflow_add-i
-overflow_add-i c = omega (arith, c.requires.1)
-
 pub loop-i-preserved : goal.loop-i-preserved
 loop-i-preserved c = unpack-on c.loop-i.invariant c.loop-i-test.true
 

@@ -1,9 +1,8 @@
-use Rattle.std.proofs.Common.{arith}
-use Rattle.values.specs.Quick.{one_number, numbered}
+use Rattle.std.proofs.lemmas.Option.{IfSome_then}
+use Rattle.std.proofs.Common.{refl, arith}
+use Rattle.values.specs.Quick.{one_number, numbered, stands-number}
 use Rattle.values.proofs.maps.number_behind.Goals as goal
 
-pub overflow_cast-b : goal.overflow_cast-b
-overflow_cast-b c = omega (arith, c.shared_slice_known-then-at-part-1.given c.args.at)
-
 pub returns-then-b-lt128 : goal.returns-then-b-lt128
-returns-then-b-lt128 c h = numbered (one_number _ _ _ c.if-at-part.true (omega arith) c.if-b-lt128.true) (c.held.ensures h)
+returns-then-b-lt128 c =
+    IfSome_then _ c.held.ensures (λ e W. stands-number refl (numbered (one_number _ _ _ c.if-at-part.true c.from-b.ensures c.if-b-lt128.true) W) (omega (arith, W.0)))

@@ -1,15 +1,9 @@
 use Rattle.std.proofs.Common.{arith}
-use Rattle.values.specs.Ups.{upward-start, upward-next, upward-done}
+use Rattle.values.specs.Ups.{upward-start, upward-next}
 use Rattle.values.proofs.runs.numbers_there.Goals as goal
 
-pub loop-left-init : goal.loop-left-init
-loop-left-init c = upward-start _ _ _
+pub loop-init : goal.loop-init
+loop-init c = upward-start _ _
 
-pub take_v64-a-requires : goal.take_v64-a-requires
-take_v64-a-requires c = omega (arith, c.loop-left.invariant.near)
-
-pub loop-left-preserved : goal.loop-left-preserved
-loop-left-preserved c = upward-next c.loop-left.invariant c.take_v64-a.ensures c.larger-largest.ensures (omega arith) (omega arith)
-
-pub returns : goal.returns
-returns c = upward-done c.loop-left.invariant c.loop-left-test.false
+pub loop-preserved : goal.loop-preserved
+loop-preserved c = rw c.max-largest.ensures (upward-next c.loop.invariant c.take_v64-a.ensures (omega (arith, c.loop.invariant.near)))

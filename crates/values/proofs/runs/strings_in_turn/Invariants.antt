@@ -1,9 +1,6 @@
 use Rattle.values.specs.Items.{linked, at_most}
-use Rattle.values.specs.Pass.{Running}
+use Rattle.values.specs.Turns.{Turning}
 use Rattle.values.proofs.runs.strings_in_turn.Given as goal
 
-abbrev pub invariant-loop-rest : goal.invariant-loop-rest
-invariant-loop-rest l = Running (linked (at_most l.strings)) l.part l.m l.initial.here.at l.rest l.here.at
-
-abbrev pub decreases-loop-rest : goal.decreases-loop-rest
-decreases-loop-rest l = l.rest
+abbrev pub invariant-loop : goal.invariant-loop
+invariant-loop l = Turning (linked (at_most l.strings)) l.part l.m l.initial.here.at l.counter l.here.at
