@@ -50,11 +50,11 @@ module _ {f : List ℕ} {sum at left : ℕ} (R : Summing f sum at left) where
     unfolding sum_from
     summing-no is = whole (ap (λ (n : ℕ). sum_from n f at) one_less ∙ rw (was-refused read is).says refl)
 
-    one_more : {x : ℕ} {c : Cursor} → a ≡ Ok (x , c) → sum_from left f at ≡ x + sum_from (left - 1) f c.at
+    one_more : {x : ℕ} {c : Cursor} → a ≡ Ok (x, c) → sum_from left f at ≡ x + sum_from (left - 1) f c.at
     unfolding sum_from
     one_more is = ap (λ (n : ℕ). sum_from n f at) one_less ∙ rw (was-got read is).says refl
 
-    pub summing-next : {x t k : ℕ} {c : Cursor} → a ≡ Ok (x , c) → t ≡ (sum + x) % 2 ^ 64 → k ≡ left - 1 → Summing f t c.at k
+    pub summing-next : {x t k : ℕ} {c : Cursor} → a ≡ Ok (x, c) → t ≡ (sum + x) % 2 ^ 64 → k ≡ left - 1 → Summing f t c.at k
     summing-next {x} {t} {k} {c} is wrapped less =
         record {
           says =

@@ -441,7 +441,13 @@ fn lay_each(
 
 // The lines of all chunks that are due, laid as their bytes, and each chunk's size in the table. What strings name is looked up
 // once for all.
-pub fn lay_sized(text: &[u8], p: Place, work: &mut [u32], out: &mut [u8], at: usize) -> Option<Taken>
+pub fn lay_sized(
+    text: &[u8],
+    p: Place,
+    work: &mut [u32],
+    out: &mut [u8],
+    at: usize,
+) -> Option<Taken>
     requires { RegionReady text.now work.old }
     ensures { LaidSized text.now work.old p.at out.old at out.new result work.new }
 {
