@@ -4,9 +4,6 @@ use Rattle.std.proofs.Common.{arith, sym, ◌∙◌}
 use Rattle.walk.specs.RegionTurns.{going_start, going_next, going_on, going-out, going_done}
 use Rattle.walk.proofs.region.chunks.Goals as goal
 
-pub dues-n-requires : goal.dues-n-requires
-dues-n-requires c = c.requires.0.holds.ok
-
 pub loop-i-init : goal.loop-i-init
 loop-i-init c = going_start c.requires.0
 
