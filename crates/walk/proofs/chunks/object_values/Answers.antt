@@ -1,11 +1,7 @@
 use Rattle.std.proofs.Common.{arith, ◌≡◌, ◌+◌, ◌-◌}
 use Rattle.numbers.specs.Cursors.{handed}
-use Rattle.values.specs.Items.{linked, some_object}
-use Rattle.values.specs.Pass.{running-start, running-next, running-no, running-done}
+use Rattle.values.specs.Pass.{running-next, running-no, running-done}
 use Rattle.walk.proofs.chunks.object_values.Goals as goal
-
-pub loop-init : goal.loop-init
-loop-init c = let all : c.args.n - 0 ≡ c.args.n = omega arith in rw all (running-start (linked (some_object _ _)) _ _ _)
 
 pub returns-in_err-next : goal.returns-in_err-next
 returns-in_err-next c = rw (handed c.from_residual.ensures.1) (running-no c.loop.invariant (omega arith) c.object_value.ensures c.in_err-next.was)

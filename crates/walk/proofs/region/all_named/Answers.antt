@@ -1,14 +1,11 @@
 -- `walk::region::all_named` meets its contract. The invariant: the kinds that are left give the whole. Assumes nothing.
 use Rattle.std.proofs.Common.{arith, ◌≡◌, ◌+◌, ◌-◌}
 use borrow.Author.Tests.{not-true}
-use Rattle.lookups.specs.Bytes.{none-asked, asked-start, asked-first, asked-out, asked-on}
+use Rattle.lookups.specs.Bytes.{none-asked, asked-first, asked-out, asked-on}
 use Rattle.walk.proofs.region.all_named.Goals as goal
 
 pub returns-then-count-eq0 : goal.returns-then-count-eq0
 returns-then-count-eq0 c = none-asked _ _ c.if-count-eq0.true
-
-pub loop-init : goal.loop-init
-loop-init c = let all : c.args.count + 1 - 1 ≡ c.args.count = omega arith in rw all (asked-start _ _ c.if-count-eq0.false)
 
 pub returns-then-not-is_named : goal.returns-then-not-is_named
 returns-then-not-is_named c = asked-out _ c.loop.invariant (omega arith) c.is_named.ensures (not-true _ c.if-not-is_named.true-raw)
