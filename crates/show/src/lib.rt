@@ -322,7 +322,8 @@ fn put_v64_line(part: &[u8], c: Cursor, out: &mut [u8], at: usize) -> Behind
     Behind { next, at: end }
 }
 
-// The lines of n values, each of which the step lays down behind the last.
+// The lines of n values, each of which the step lays down behind the last. A loop of its own is made for each step, and no kind is
+// asked in it.
 fn lines_of<F: Fn(Behind, &mut [u8]) -> Behind>(n: u32, out: &mut [u8], at: usize, step: F) -> usize
     requires { F.IsAlwaysCallable step }
     ensures { (r : State → Reader (List Element)) (f : List ℕ) → Lays (F.post step) r value_line f → Shown (λ s. repeat n (r s)) print_chunk f 0 out.old at out.new result }

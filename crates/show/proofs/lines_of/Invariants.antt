@@ -1,4 +1,4 @@
-use Rattle.std.proofs.Common.{◌-◌, ◌≡◌, List, ℕ, length}
+use Rattle.std.proofs.Common.{◌-◌, List, ℕ}
 use Rattle.paper.specs.Reader.{Reader}
 use Rattle.paper.specs.Ledger.{State, Element}
 use Rattle.paper.specs.Listing.{value_line}

@@ -4,23 +4,14 @@ use Rattle.laws.specs.Lines.{tabs}
 use Rattle.show.specs.Shown.{showing-start, showing-next, shows-all}
 use Rattle.show.proofs.put_elements.Goals as goal
 
-pub put_others-requires : goal.put_others-requires
-put_others-requires c = c.is_fixed.ensures c.if-is_fixed.true
-
 pub loop-init : goal.loop-init
 unfolding most
 loop-init c = let all : c.args.m - 0 ≡ c.args.m = omega arith in rw all (showing-start _ _ _ _ _ _ _ (omega arith) (omega arith) refl)
-
-pub put_next-here-requires : goal.put_next-here-requires
-put_next-here-requires c = c.requires (omega (arith, c.loop.invariant.fewer))
 
 pub loop-preserved : goal.loop-preserved
 loop-preserved c =
     let less : c.args.m - (c.loop.counter + 1) ≡ c.args.m - c.loop.counter - 1 = omega arith in
     rw less (showing-next c.loop.invariant (omega arith) c.put_next-here.auto.out c.put_next-here.ensures)
-
-pub shape_of-out : goal.shape_of-out
-shape_of-out c = c.loop.invariant.long
 
 pub returns : goal.returns
 unfolding tabs

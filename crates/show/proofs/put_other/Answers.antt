@@ -5,9 +5,6 @@ use Rattle.show.specs.Single.{single-low}
 use Rattle.show.specs.Lines.{fixed-nothing, fixed-below, fixed-shows}
 use Rattle.show.proofs.put_other.Goals as goal
 
-pub fixed-requires : goal.fixed-requires
-fixed-requires c = c.width_of.ensures.narrow
-
 pub returns-in_default : goal.returns-in_default
 returns-in_default c = fixed-nothing c.requires c.width_of.ensures c.fixed.ensures (λ w. tab ∷ w) c.in_default.is
 

@@ -2,9 +2,6 @@ use Rattle.show.specs.Single.{line_of, single-low}
 use Rattle.show.specs.Lines.{fixed-none, fixed-below, fixed-shows, one_line}
 use Rattle.show.proofs.put_other_line.Goals as goal
 
-pub fixed-requires : goal.fixed-requires
-fixed-requires c = c.width_of.ensures.narrow
-
 pub returns-in_default : goal.returns-in_default
 returns-in_default c = one_line (fixed-none c.requires c.width_of.ensures c.fixed.ensures line_of c.in_default.is)
 

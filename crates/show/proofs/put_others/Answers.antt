@@ -8,16 +8,10 @@ pub loop-init : goal.loop-init
 unfolding most
 loop-init c = let all : c.args.m - 0 ≡ c.args.m = omega arith in rw all (showing-start _ _ _ _ _ _ _ (omega arith) (omega arith) refl)
 
-pub put_wide-here-requires : goal.put_wide-here-requires
-put_wide-here-requires c = (c.requires, c.width_of-width.ensures)
-
 pub loop-preserved : goal.loop-preserved
 loop-preserved c =
     let less : c.args.m - (c.loop.counter + 1) ≡ c.args.m - c.loop.counter - 1 = omega arith in
     rw less (showing-next c.loop.invariant (omega arith) c.put_wide-here.auto.out c.put_wide-here.ensures)
-
-pub shape_of-out : goal.shape_of-out
-shape_of-out c = c.loop.invariant.long
 
 pub returns : goal.returns
 unfolding tabs
