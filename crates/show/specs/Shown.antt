@@ -1,4 +1,5 @@
 -- What is read, laid down as text: one reading, and so many of them. Assumes nothing.
+use denote.Ref.{MutBor}
 use Rattle.std.specs.Prelude.{◌≡◌, refl, length}
 use Rattle.std.proofs.Common.{sym, ap, ◌∙◌}
 use mathlib.Core.List.{List, ◌++◌}
@@ -137,3 +138,9 @@ module _ {A : Type 0} {r : State → Reader A} {w : A → List ℕ} {f : List �
 
     pub shows-all : Shows (λ s. repeat n (r s)) (flat w) f from l at m o
     shows-all = record { text = shown-all; next = λ s vs q h. (none s vs q h).1 }
+
+-- ── the same, where each step is a call ──
+
+-- whatever a call leaves, it shows the next value behind what was shown
+pub record Lays {A : Type 0} (call : Behind → MutBor (List ℕ) → Behind → MutBor (List ℕ) → Type 0) (r : State → Reader A) (w : A → List ℕ) (f : List ℕ) : Type 0 where
+  pub each : (h : Behind) (x : MutBor (List ℕ)) (o : Behind) (y : MutBor (List ℕ)) → call h x o y → (length y.now ≡ length x.now) × Shows r w f h.next.at x.now h.at y.now o

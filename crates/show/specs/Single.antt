@@ -1,5 +1,5 @@
 -- Lines of one word, and kinds whose elements all have as many bytes. Assumes nothing.
-use Rattle.std.specs.Prelude.{◌≡◌, refl, Bool, true, false, ◌⊎◌, List, [], ◌∷◌, ◌++◌, ℕ, suc, ◌+◌, ◌^◌, ◌≤◌, ◌<◌, length, set}
+use Rattle.std.specs.Prelude.{◌≡◌, refl, Bool, true, false, ◌⊎◌, List, [], ◌∷◌, ◌++◌, ℕ, ◌+◌, ◌^◌, ◌≤◌, ◌<◌, length}
 use Rattle.std.proofs.Common.{inl, inr, ⊎_elim, arith, lt_of_not-le, le-leb}
 use Rattle.std.proofs.Math.Decide.{dec_le}
 use Rattle.std.proofs.lemmas.List.Edits.{sets}
@@ -18,13 +18,6 @@ val = 118 ∷ 97 ∷ 108 ∷ tab ∷ []
 
 unfoldable pub line_of : List ℕ → List ℕ
 line_of w = val ++ (w ++ (newline ∷ []))
-
-pub val-stored : (l : List ℕ) (at : ℕ) → set (set (set (set l at 118) (at + 1) 97) (at + 2) 108) (at + 3) tab ≡ sets l at val
-val-stored l at =
-    let one : at + 1 ≡ suc at = omega arith in
-    let two : at + 2 ≡ suc (suc at) = omega arith in
-    let three : at + 3 ≡ suc (suc (suc at)) = omega arith in
-    rw (one, two, three)
 
 -- stored where there is room for all of it
 pub line-stored :

@@ -2,19 +2,20 @@
 // that fails is passed over, and nothing is said of the text.
 #![tactic(auto)]
 
-ghost use Rattle.std.specs.Prelude.{◌≡◌, true, [], ◌∷◌, ◌+◌, ◌<◌, ◌≤◌, length};
+ghost use Rattle.std.specs.Prelude.{◌≡◌, true, List, ℕ, [], ◌∷◌, ◌+◌, ◌<◌, ◌≤◌, length};
 ghost use Rattle.std.proofs.lemmas.List.Edits.{sets};
-ghost use Rattle.paper.specs.Reader.{repeat};
+ghost use Rattle.paper.specs.Reader.{Reader, repeat};
 ghost use Rattle.paper.specs.Numbers.{signed, put_fixed, v64};
 ghost use Rattle.paper.specs.Rules.{element_kind?};
 ghost use Rattle.paper.specs.File.{element};
+ghost use Rattle.paper.specs.Ledger.{State, Element};
 ghost use Rattle.paper.specs.Listing.{tab, newline, decimal, decimalℤ, hex_digits, element_word, value_line, print_chunk};
 ghost use Rattle.lay.specs.Laid.{Laid};
 ghost use Rattle.laws.specs.Lines.{tabs};
 ghost use Rattle.words.specs.Stored.{Stored};
 ghost use Rattle.values.specs.Chunks.{Kinds};
 ghost use Rattle.values.specs.Columns.{element_of, Storable};
-ghost use Rattle.show.specs.Shown.{Shown, Shows};
+ghost use Rattle.show.specs.Shown.{Shown, Shows, Lays};
 ghost use Rattle.show.specs.Single.{FlagWord, val, line_of, Fixed, Width};
 ghost use Rattle.show.specs.Lines.{two_words, list, ChunkShown};
 ghost use Rattle.show.specs.Maps.{Keyed, map_in, key_in};
@@ -158,8 +159,7 @@ fn put_element_line(out: &mut [u8], at: usize, v: Value) -> usize
 fn put_v64(part: &[u8], c: Cursor, out: &mut [u8], at: usize) -> Behind
     ensures { Shows (λ s. element s 11) (λ x. tab ∷ element_word x) part.now c.at out.old at out.new result }
 {
-    let a = c.v64(part);
-    let Ok((n, next)) = a else {
+    let Ok((n, next)) = c.v64(part) else {
         return Behind { next: c, at };
     };
     let word = put(out, at, b'\t');
@@ -171,8 +171,7 @@ fn put_v64(part: &[u8], c: Cursor, out: &mut [u8], at: usize) -> Behind
 fn put_number(part: &[u8], c: Cursor, out: &mut [u8], at: usize) -> Behind
     ensures { Shows (λ s. v64) (λ n. tab ∷ decimal n) part.now c.at out.old at out.new result }
 {
-    let a = c.v64(part);
-    let Ok((n, next)) = a else {
+    let Ok((n, next)) = c.v64(part) else {
         return Behind { next: c, at };
     };
     let word = put(out, at, b'\t');
@@ -207,8 +206,7 @@ fn put_other(part: &[u8], c: Cursor, e: u64, out: &mut [u8], at: usize) -> usize
     requires { Fixed e }
     ensures { Shown (λ s. element s e) (λ x. tab ∷ element_word x) part.now c.at out.old at out.new result }
 {
-    let a = c.fixed(part, width_of(e));
-    let Ok((n, _)) = a else {
+    let Ok((n, _)) = c.fixed(part, width_of(e)) else {
         return at;
     };
     let word = put(out, at, b'\t');
@@ -234,10 +232,8 @@ fn put_others(part: &[u8], c: Cursor, m: u64, e: u64, out: &mut [u8], at: usize)
 {
     let width = width_of(e);
     let mut here = Behind { next: c, at };
-    let mut rest = m;
-    while 0 < rest {
+    for _ in 0..m {
         here = put_wide(part, here.next, e, width, out, here.at);
-        rest -= 1;
     }
     here
 }
@@ -286,10 +282,8 @@ fn put_elements(part: &[u8], c: Cursor, m: u64, e: u64, out: &mut [u8], at: usiz
         return put_others(part, c, m, e, out, at);
     }
     let mut here = Behind { next: c, at };
-    let mut rest = m;
-    while 0 < rest {
+    for _ in 0..m {
         here = put_next(part, here.next, e, out, here.at);
-        rest -= 1;
     }
     here
 }
@@ -311,8 +305,7 @@ fn put_list(part: &[u8], c: Cursor, e: u64, out: &mut [u8], at: usize) -> Behind
     requires { element_kind? e ≡ true }
     ensures { Shows (list e) value_line part.now c.at out.old at out.new result }
 {
-    let a = c.small(part);
-    let Ok((m, next)) = a else {
+    let Ok((m, next)) = c.small(part) else {
         return Behind { next: c, at };
     };
     put_value(part, next, m, e, out, at)
@@ -322,28 +315,36 @@ fn put_list(part: &[u8], c: Cursor, e: u64, out: &mut [u8], at: usize) -> Behind
 fn put_v64_line(part: &[u8], c: Cursor, out: &mut [u8], at: usize) -> Behind
     ensures { Shows (λ s. repeat 1 (element s 11)) value_line part.now c.at out.old at out.new result }
 {
-    let a = c.v64(part);
-    let Ok((n, next)) = a else {
+    let Ok((n, next)) = c.v64(part) else {
         return Behind { next: c, at };
     };
     let end = put_integer_line(out, at, n);
     Behind { next, at: end }
 }
 
-// The lines of n of them.
-fn put_v64_lines(part: &[u8], n: u32, out: &mut [u8], at: usize) -> usize
-    ensures { Shown (λ s. repeat n (repeat 1 (element s 11))) print_chunk part.now 0 out.old at out.new result }
+// The lines of n values, each of which the step lays down behind the last. A loop of its own is made for each step, and no kind is
+// asked in it.
+fn lines_of<F: Fn(Behind, &mut [u8]) -> Behind>(n: u32, out: &mut [u8], at: usize, step: F) -> usize
+    requires { F.IsAlwaysCallable step }
+    ensures { (r : State → Reader (List Element)) (f : List ℕ) → Lays (F.post step) r value_line f → Shown (λ s. repeat n (r s)) print_chunk f 0 out.old at out.new result }
 {
     let mut here = Behind {
         next: Cursor { at: 0 },
         at,
     };
-    let mut rest = n;
-    while 0 < rest {
-        here = put_v64_line(part, here.next, out, here.at);
-        rest -= 1;
+    for _ in 0..n {
+        here = step(here, out);
     }
     here.at
+}
+
+// The lines of n of them.
+fn put_v64_lines(part: &[u8], n: u32, out: &mut [u8], at: usize) -> usize
+    ensures { Shown (λ s. repeat n (repeat 1 (element s 11))) print_chunk part.now 0 out.old at out.new result }
+{
+    lines_of(n, out, at, |here, out| {
+        put_v64_line(part, here.next, out, here.at)
+    })
 }
 
 // The line of two numbers, of a base type's name and of an object. It has at most 46 bytes.
@@ -368,12 +369,10 @@ fn put_two_line(out: &mut [u8], at: usize, m: u64, n: u64) -> usize
 fn put_annotation_line(part: &[u8], c: Cursor, out: &mut [u8], at: usize) -> Behind
     ensures { Shows (λ s. repeat 1 (element s 5)) value_line part.now c.at out.old at out.new result }
 {
-    let a = c.v64(part);
-    let Ok((m, second)) = a else {
+    let Ok((m, second)) = c.v64(part) else {
         return Behind { next: c, at };
     };
-    let b = second.v64(part);
-    let Ok((n, next)) = b else {
+    let Ok((n, next)) = second.v64(part) else {
         return Behind { next: c, at };
     };
     let end = put_two_line(out, at, m, n);
@@ -384,16 +383,9 @@ fn put_annotation_line(part: &[u8], c: Cursor, out: &mut [u8], at: usize) -> Beh
 fn put_annotation_lines(part: &[u8], n: u32, out: &mut [u8], at: usize) -> usize
     ensures { Shown (λ s. repeat n (repeat 1 (element s 5))) print_chunk part.now 0 out.old at out.new result }
 {
-    let mut here = Behind {
-        next: Cursor { at: 0 },
-        at,
-    };
-    let mut rest = n;
-    while 0 < rest {
-        here = put_annotation_line(part, here.next, out, here.at);
-        rest -= 1;
-    }
-    here.at
+    lines_of(n, out, at, |here, out| {
+        put_annotation_line(part, here.next, out, here.at)
+    })
 }
 
 // The line of a string's or an object's number.
@@ -401,8 +393,7 @@ fn put_link_line(part: &[u8], c: Cursor, e: u64, out: &mut [u8], at: usize) -> B
     requires { 13 < e }
     ensures { Shows (λ s. repeat 1 (element s e)) value_line part.now c.at out.old at out.new result }
 {
-    let a = c.v64(part);
-    let Ok((n, next)) = a else {
+    let Ok((n, next)) = c.v64(part) else {
         return Behind { next: c, at };
     };
     let end = put_decimal_line(out, at, n);
@@ -414,16 +405,9 @@ fn put_link_lines(part: &[u8], n: u32, e: u64, out: &mut [u8], at: usize) -> usi
     requires { 13 < e }
     ensures { Shown (λ s. repeat n (repeat 1 (element s e))) print_chunk part.now 0 out.old at out.new result }
 {
-    let mut here = Behind {
-        next: Cursor { at: 0 },
-        at,
-    };
-    let mut rest = n;
-    while 0 < rest {
-        here = put_link_line(part, here.next, e, out, here.at);
-        rest -= 1;
-    }
-    here.at
+    lines_of(n, out, at, |here, out| {
+        put_link_line(part, here.next, e, out, here.at)
+    })
 }
 
 // The line of a value of one element of another kind.
@@ -431,8 +415,7 @@ fn put_other_line(part: &[u8], c: Cursor, e: u64, out: &mut [u8], at: usize) -> 
     requires { Fixed e }
     ensures { Shows (λ s. repeat 1 (element s e)) value_line part.now c.at out.old at out.new result }
 {
-    let a = c.fixed(part, width_of(e));
-    let Ok((n, next)) = a else {
+    let Ok((n, next)) = c.fixed(part, width_of(e)) else {
         return Behind { next: c, at };
     };
     let end = put_element_line(out, at, value_of(n, e));
@@ -444,16 +427,9 @@ fn put_other_lines(part: &[u8], n: u32, e: u64, out: &mut [u8], at: usize) -> us
     requires { Fixed e }
     ensures { Shown (λ s. repeat n (repeat 1 (element s e))) print_chunk part.now 0 out.old at out.new result }
 {
-    let mut here = Behind {
-        next: Cursor { at: 0 },
-        at,
-    };
-    let mut rest = n;
-    while 0 < rest {
-        here = put_other_line(part, here.next, e, out, here.at);
-        rest -= 1;
-    }
-    here.at
+    lines_of(n, out, at, |here, out| {
+        put_other_line(part, here.next, e, out, here.at)
+    })
 }
 
 // The lines of n values of one element each. The kind is asked before the loop, never in it.
@@ -478,16 +454,9 @@ fn put_values(part: &[u8], n: u32, m: u64, e: u64, out: &mut [u8], at: usize) ->
     requires { 0 < m → element_kind? e ≡ true }
     ensures { Shown (λ s. repeat n (repeat m (element s e))) print_chunk part.now 0 out.old at out.new result }
 {
-    let mut here = Behind {
-        next: Cursor { at: 0 },
-        at,
-    };
-    let mut rest = n;
-    while 0 < rest {
-        here = put_value(part, here.next, m, e, out, here.at);
-        rest -= 1;
-    }
-    here.at
+    lines_of(n, out, at, |here, out| {
+        put_value(part, here.next, m, e, out, here.at)
+    })
 }
 
 // The lines of n arrays that give their own lengths.
@@ -495,16 +464,9 @@ fn put_lists(part: &[u8], n: u32, e: u64, out: &mut [u8], at: usize) -> usize
     requires { element_kind? e ≡ true }
     ensures { Shown (λ s. repeat n (list e s)) print_chunk part.now 0 out.old at out.new result }
 {
-    let mut here = Behind {
-        next: Cursor { at: 0 },
-        at,
-    };
-    let mut rest = n;
-    while 0 < rest {
-        here = put_list(part, here.next, e, out, here.at);
-        rest -= 1;
-    }
-    here.at
+    lines_of(n, out, at, |here, out| {
+        put_list(part, here.next, e, out, here.at)
+    })
 }
 
 // The words of a map of the types whose kinds are given. Of one type it is an element; of more it is a size, and then for
@@ -517,8 +479,7 @@ fn put_map(part: &[u8], c: Cursor, kinds: &[u64], out: &mut [u8], at: usize) -> 
     if kinds.len() == 1 {
         return put_next(part, c, kinds[0], out, at);
     }
-    let a = c.small(part);
-    let Ok((n, keys)) = a else {
+    let Ok((n, keys)) = c.small(part) else {
         return Behind { next: c, at };
     };
     let word = put(out, at, b'\t');
@@ -527,10 +488,8 @@ fn put_map(part: &[u8], c: Cursor, kinds: &[u64], out: &mut [u8], at: usize) -> 
         next: keys,
         at: first,
     };
-    let mut rest = n;
-    while 0 < rest {
+    for _ in 0..n {
         here = put_key_and_rest(part, here.next, kinds, out, here.at);
-        rest -= 1;
     }
     here
 }
@@ -565,16 +524,9 @@ fn put_map_lines(part: &[u8], n: u32, kinds: &[u64], out: &mut [u8], at: usize) 
     requires { Keyed 1 kinds.now }
     ensures { Shown (λ s. repeat n (map_in kinds.now s)) print_chunk part.now 0 out.old at out.new result }
 {
-    let mut here = Behind {
-        next: Cursor { at: 0 },
-        at,
-    };
-    let mut rest = n;
-    while 0 < rest {
-        here = put_map_line(part, here.next, kinds, out, here.at);
-        rest -= 1;
-    }
-    here.at
+    lines_of(n, out, at, |here, out| {
+        put_map_line(part, here.next, kinds, out, here.at)
+    })
 }
 
 // The lines of n maps of a types, whose kinds are the bytes of e.

@@ -40,9 +40,6 @@ pub record LateDone (f l : List ℕ) (before : Counts) (at : ℕ) (r : Step) (l'
   pub says : step_of r ≡ refusal_of (front (a_type? (view f l)) (cut_to before (said f l)).state f at)
 
 module _ {f l : List ℕ} {before : Counts} {at : ℕ} (L : LateReady f l before at) {l₁ : List ℕ} (cut : Cut before l l₁) where
-  pub late-begins : Holds f l₁ × Sound (said f l₁) × (at ≤ length f)
-  late-begins = let now = cut.says f L.holds in (now.holds, rw now.says L.sound, L.inside)
-
   module _ {types : ℕ} (count : types ≡ types_in l) {l₂ : List ℕ} {a : Outcome ℕ} (passed : Passed f l₂ at a (front_go (named_by true types) (said f l₁) f at)) where
     same-named : named_by true types ≡ a_type? (view f l)
     unfolding named_by a_type?

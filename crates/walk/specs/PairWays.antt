@@ -1,10 +1,10 @@
 -- The ways out of reading a pair, from what its calls answered. Assumes nothing.
-use Rattle.std.specs.Prelude.{Err, Ok, ◌≡◌, refl, Bool, true, false, not, List, ℕ, ◌+◌, ◌-◌, ◌≤◌, ◌<◌, length}
-use Rattle.std.proofs.Common.{ap, arith}
+use Rattle.std.specs.Prelude.{Err, Ok, ◌≡◌, Bool, true, false, not, List, ℕ, ◌+◌, ◌-◌, ◌≤◌, ◌<◌, length}
+use Rattle.std.proofs.Common.{arith}
 use Rattle.std.proofs.lemmas.Bool.{not-true, not-false}
 use Rattle.numbers.specs.declared.Cursor.{Cursor}
 use Rattle.numbers.specs.declared.Refusal.{Refusal}
-use Rattle.table.specs.View.{said, Said, Ok as TableOk, fields_in, block_in}
+use Rattle.table.specs.View.{said, fields_in}
 use Rattle.table.specs.Counts.{counts_in, Next}
 use Rattle.table.specs.declared.rows.Counts.{Counts}
 use Rattle.reader.specs.Kinds.{named_by}
@@ -25,13 +25,6 @@ module _ {f l : List ℕ} {at : ℕ} (R : PairReady f l at) {l₁ : List ℕ} {a
 
   sound : Sound (said f l₁)
   sound = (rw is at passed).sound
-
-  -- the region leaves the block as it was
-  pub next-asks : {l₂ : List ℕ} {d : Step} → RegionChecked f l₁ c.at d l₂ → {e : Cursor} → d ≡ Ok e → TableOk l₂ × (block_in l₂ < 4294967295)
-  next-asks {l₂} checked {e} yes? =
-      let C = rw yes? at checked in
-      let same : block_in l₂ ≡ block_in l₁ = ap (λ (g : Said). g.state.block) (C.puts e refl) in
-      (C.holds.ok, omega (arith, sound.block))
 
   pub start-inside : c.at ≤ length f
   start-inside = (rw is at passed).inside R.inside

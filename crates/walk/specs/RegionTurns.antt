@@ -259,12 +259,3 @@ module _ {f l l₁ : List ℕ} (N : Now f l₁ (said f l)) where
         small = R.small;
         room = omega (arith, chunks, dues, R.room);
       }
-
-  pub checked-same : {from : ℕ} {r : Step} {l₂ : List ℕ} → RegionChecked f l₁ from r l₂ → RegionChecked f l from r l₂
-  checked-same {from} C =
-      let says = N.says in
-      record {
-        says = C.says ∙ ap (λ (g : Said). forget (chunks_at g.state g.due f from)) says;
-        holds = C.holds;
-        puts = λ c is. C.puts c is ∙ (λ i. record { state = (says i).state; due = (says i).due; chunks = (says i).chunks ++ spots_from from (says i).due });
-      }

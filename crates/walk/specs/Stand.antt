@@ -75,9 +75,6 @@ pub record AllStand (l : List ℕ) (from : ℕ) (r : Bool) : Type 0 where
 pub record StandSoFar (l : List ℕ) (from i : ℕ) : Type 0 where
   pub says : (f : List ℕ) → Holds f l → all (stands? (view f l)) (drop i (flds_of l)) ≡ all (stands? (view f l)) (drop from (flds_of l))
 
-pub stand-start : (l : List ℕ) (from : ℕ) → StandSoFar l from from
-stand-start l from = record { says = λ f h. refl }
-
 module _ {l : List ℕ} {from i : ℕ} (S : StandSoFar l from i) where
   pub stand-done : fields_in l ≤ i → AllStand l from true
   stand-done le =

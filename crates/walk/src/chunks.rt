@@ -106,11 +106,9 @@ fn object_values(part: &[u8], n: u32, t: u32, work: &[u32]) -> Outcome<u64>
     ensures { Passed (repeat n (linked (some_object (firsts t (log_of work.now)) (lasts t (log_of work.now))))) part.now 0 result }
 {
     let mut here = Cursor { at: 0 };
-    let mut rest = n;
-    while 0 < rest {
+    for _ in 0..n {
         let (_, next) = object_value(part, here, t, work)?;
         here = next;
-        rest -= 1;
     }
     Ok((0, here))
 }
@@ -248,13 +246,11 @@ fn fill(a: Outcome<u64>, at: usize, size: usize) -> Step
         }
         Err(e) => {
             let place = at + e.place;
-            match e.fault {
-                Fault::Short => Err(Refusal {
-                    fault: Fault::Chunk,
-                    place,
-                }),
-                fault => Err(Refusal { fault, place }),
-            }
+            let fault = match e.fault {
+                Fault::Short => Fault::Chunk,
+                other => other,
+            };
+            Err(Refusal { fault, place })
         }
     }
 }

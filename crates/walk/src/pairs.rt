@@ -66,6 +66,7 @@ pub fn pairs(file: &[u8], work: &mut [u32]) -> Step
 {
     let mut at: usize = 0;
     let mut left = Ledger::PAIRS;
+    // A `for` over the pairs would ask twice whether the file is at its end: before each of them, and behind the last.
     while at < file.len() {
         if left == 0 {
             return Err(Refusal {

@@ -32,15 +32,11 @@ fn chunks(file: &[u8], at: usize, work: &mut [u32], pools: &[u32]) -> Step
     requires { RegionReady file.now work.old at × Noted pools.now (view file.now work.old) }
     ensures { RegionChecked file.now work.old at result work.new }
 {
-    let n = dues(work);
-    let mut place = at;
-    let mut i = 0;
-    while i < n {
-        let c = next_chunk(file, place, i, work, pools)?;
-        place = c.at;
-        i += 1;
+    let mut c = Cursor { at };
+    for i in 0..dues(work) {
+        c = next_chunk(file, c.at, i, work, pools)?;
     }
-    Ok(Cursor { at: place })
+    Ok(c)
 }
 
 // The region. What the strings name is looked up once for all its chunks.
@@ -61,14 +57,12 @@ fn all_named(named: Named, count: u64, packed: u64) -> bool
     if count == 0 {
         return true;
     }
-    let mut left = count;
     let mut rest = packed;
-    while 1 < left {
+    for _ in 1..count {
         if !is_named(named, rest % 256) {
             return false;
         }
         rest /= 256;
-        left -= 1;
     }
     is_named(named, rest)
 }
@@ -97,14 +91,11 @@ pub fn kinds_stand(work: &[u32], from: u32) -> bool
     ensures { AllStand work.now from result }
 {
     let declared = types(work) as u64;
-    let n = fields(work);
-    let mut i = from;
-    while i < n {
+    for i in from..fields(work) {
         let kind = field_at(work, i);
         if !stands(kind, declared) {
             return false;
         }
-        i += 1;
     }
     true
 }

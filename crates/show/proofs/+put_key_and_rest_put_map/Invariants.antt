@@ -1,4 +1,4 @@
-use Rattle.std.proofs.Common.{◌+◌, ◌*◌, length}
+use Rattle.std.proofs.Common.{◌+◌, ◌*◌, ◌-◌, length}
 use Rattle.paper.specs.Listing.{element_word}
 use Rattle.laws.specs.Lines.{tabs}
 use Rattle.show.specs.Shown.{Showing}
@@ -13,8 +13,5 @@ decreases-put_key_and_rest l = 2 * length l.kinds.now
 abbrev pub decreases-put_map : goal.decreases-put_map
 decreases-put_map l = 2 * length l.kinds.now + 1
 
-abbrev pub invariant-put_map-loop-rest : goal.invariant-put_map-loop-rest
-invariant-put_map-loop-rest l = Showing (key_in l.kinds) (tabs element_word) l.part l.n l.initial.here.next.at l.initial.out l.first l.rest l.out l.here
-
-abbrev pub decreases-put_map-loop-rest : goal.decreases-put_map-loop-rest
-decreases-put_map-loop-rest l = l.rest
+abbrev pub invariant-put_map-loop : goal.invariant-put_map-loop
+invariant-put_map-loop l = Showing (key_in l.kinds) (tabs element_word) l.part l.n l.initial.here.next.at l.initial.out l.first (l.n - l.counter) l.out l.here

@@ -3,9 +3,6 @@ use Rattle.lay.specs.Laid.{most}
 use Rattle.show.specs.Single.{line-stored, line-laid}
 use Rattle.show.proofs.put_byte_line.Goals as goal
 
-pub store_byte-requires : goal.store_byte-requires
-store_byte-requires c = omega (arith, c.store_byte-end.ensures.next, c.room.ensures, c.if-room-ge26.true)
-
 pub returns-then-room-ge26 : goal.returns-then-room-ge26
 unfolding most
 returns-then-room-ge26 c = line-stored (omega arith) c.store_val.ensures c.store_byte-end.ensures c.store_byte.ensures (omega (arith, c.store_byte.ensures.next, c.store_byte-end.ensures.next, c.room.ensures, c.if-room-ge26.true))

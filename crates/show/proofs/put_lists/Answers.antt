@@ -1,22 +1,6 @@
-use Rattle.std.proofs.Common.{refl, arith}
-use Rattle.paper.specs.Listing.{print_chunk}
-use Rattle.lay.specs.Laid.{most}
-use Rattle.show.specs.Shown.{showing-start, showing-next, shown-all}
+use Rattle.std.proofs.Common.{rules}
+use Rattle.show.specs.Lines.{list}
 use Rattle.show.proofs.put_lists.Goals as goal
 
-pub loop-rest-init : goal.loop-rest-init
-unfolding most
-loop-rest-init c = showing-start _ _ _ _ _ _ _ (omega arith) (omega arith) refl
-
-pub put_list-here-requires : goal.put_list-here-requires
-put_list-here-requires c = c.requires
-
-pub loop-rest-preserved : goal.loop-rest-preserved
-loop-rest-preserved c = showing-next c.loop-rest.invariant c.loop-rest-test.true c.put_list-here.auto.out c.put_list-here.ensures
-
-pub shape_of-out : goal.shape_of-out
-shape_of-out c = c.loop-rest.invariant.long
-
 pub returns : goal.returns
-unfolding print_chunk
-returns c = shown-all c.loop-rest.invariant c.loop-rest-test.false
+returns c = c.lines_of.ensures (list c.args.e) c.args.part.now (record { each = λ h x o y e. search rules })

@@ -4,14 +4,8 @@ use Rattle.lay.specs.Laid.{most}
 use Rattle.show.specs.Lines.{fixed-steps, link-shows, element-low}
 use Rattle.show.proofs.put_next.Goals as goal
 
-pub returns-then-e-eq11 : goal.returns-then-e-eq11
-returns-then-e-eq11 c = rw c.if-e-eq11.true c.put_v64.ensures
-
 pub returns-then-e-gt13 : goal.returns-then-e-gt13
 returns-then-e-gt13 c = link-shows c.if-e-gt13.true (λ w. tab ∷ w) c.put_number.ensures
-
-pub returns-then-e-eq5 : goal.returns-then-e-eq5
-returns-then-e-eq5 c = rw c.if-e-eq5.true c.put_annotation.ensures
 
 pub put_other-end-requires : goal.put_other-end-requires
 put_other-end-requires c = record { low = element-low _ c.requires c.if-e-eq5.false; high = omega arith; other = c.if-e-eq11.false }

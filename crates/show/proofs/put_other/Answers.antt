@@ -5,14 +5,11 @@ use Rattle.show.specs.Single.{single-low}
 use Rattle.show.specs.Lines.{fixed-nothing, fixed-below, fixed-shows}
 use Rattle.show.proofs.put_other.Goals as goal
 
-pub fixed-a-requires : goal.fixed-a-requires
-fixed-a-requires c = c.width_of.ensures.narrow
-
 pub returns-in_default : goal.returns-in_default
-returns-in_default c = fixed-nothing c.requires c.width_of.ensures c.fixed-a.ensures (λ w. tab ∷ w) c.in_default.is
+returns-in_default c = fixed-nothing c.requires c.width_of.ensures c.fixed.ensures (λ w. tab ∷ w) c.in_default.is
 
 pub value_of-requires : goal.value_of-requires
-value_of-requires c = (single-low c.requires, fixed-below c.requires c.width_of.ensures c.fixed-a.ensures (λ w. tab ∷ w) c.in-Ok.is)
+value_of-requires c = (single-low c.requires, fixed-below c.requires c.width_of.ensures c.fixed.ensures (λ w. tab ∷ w) c.in-Ok.is)
 
 pub returns : goal.returns
-returns c = (fixed-shows c.requires c.width_of.ensures c.fixed-a.ensures (λ w. tab ∷ w) c.in-Ok.is c.value_of.result c.value_of.ensures (laid_then c.put-word.ensures c.put_element.ensures)).text
+returns c = (fixed-shows c.requires c.width_of.ensures c.fixed.ensures (λ w. tab ∷ w) c.in-Ok.is c.value_of.result c.value_of.ensures (laid_then c.put-word.ensures c.put_element.ensures)).text

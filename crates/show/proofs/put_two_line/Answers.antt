@@ -4,15 +4,6 @@ use Rattle.show.specs.Single.{line-stored, line-laid}
 use Rattle.show.specs.Lines.{two-stored, two-laid}
 use Rattle.show.proofs.put_two_line.Goals as goal
 
-pub store_byte-second-requires : goal.store_byte-second-requires
-store_byte-second-requires c = omega (arith, c.store_decimal-first.ensures.1)
-
-pub store_decimal-end-requires : goal.store_decimal-end-requires
-store_decimal-end-requires c = omega (arith, c.store_byte-second.ensures.next, c.store_decimal-first.ensures.1)
-
-pub store_byte-requires : goal.store_byte-requires
-store_byte-requires c = omega (arith, c.store_decimal-end.ensures.1, c.store_byte-second.ensures.next, c.store_decimal-first.ensures.1)
-
 pub returns-then-room-ge46 : goal.returns-then-room-ge46
 unfolding most
 returns-then-room-ge46 c = line-stored (omega arith) c.store_val.ensures (two-stored _ _ c.store_decimal-first.ensures.0 c.store_byte-second.ensures c.store_decimal-end.ensures.0) c.store_byte.ensures

@@ -3,20 +3,8 @@ use Rattle.show.specs.Lines.{chunk-constant, chunk-array, chunk-lists, chunk-pla
 use Rattle.show.specs.Maps.{row-keyed, chunk-maps}
 use Rattle.show.proofs.show_chunk.Goals as goal
 
-pub put_values-requires : goal.put_values-requires
-put_values-requires c = λ h. c.requires.element (omega (arith, c.in-15.is)) (λ q. omega (arith, c.in-15.is))
-
 pub put_maps-requires : goal.put_maps-requires
 put_maps-requires c = (row-keyed c.requires c.in-20.is, (c.requires.types c.in-20.is).1)
-
-pub put_values-requires-in-0-to-4 : goal.put_values-requires-in-0-to-4
-put_values-requires-in-0-to-4 c = λ h. absurd (omega arith)
-
-pub put_lists-requires : goal.put_lists-requires
-put_lists-requires c = c.requires.element (omega arith) (λ q. omega arith)
-
-pub put_singles-requires : goal.put_singles-requires
-put_singles-requires c = c.requires.element (omega arith) (λ q. omega arith)
 
 pub returns-in-15 : goal.returns-in-15
 returns-in-15 c = chunk-array c.in-15.is c.put_values.ensures

@@ -11,8 +11,5 @@ returns-in-9 c = width-4 _ c.in-9.is
 pub returns-in-6-to-7 : goal.returns-in-6-to-7
 returns-in-6-to-7 c = width-1 _ (omega arith) (omega arith)
 
-pub returns-in_default : goal.returns-in_default
-returns-in_default c = absurd (omega (arith, c.requires.low))
-
 pub returns-in_default-2 : goal.returns-in_default-2
 returns-in_default-2 c = search (rules, width-8 _ c.requires (omega arith))

@@ -1,18 +1,12 @@
 -- `walk::chunks::fill` meets its contract: a law for each of its four ways out. Assumes nothing.
-use Rattle.std.proofs.Common.{arith, ap}
+use Rattle.std.proofs.Common.{ap}
 use Rattle.numbers.specs.Faults.{number_of, one_fault}
 use Rattle.numbers.specs.declared.Fault.TheVariants.{Short}
 use Rattle.walk.specs.Steps.{part-used, bytes_left, part-short, part-refused}
 use Rattle.walk.proofs.chunks.fill.Goals as goal
 
-pub overflow_add-behind : goal.overflow_add-behind
-overflow_add-behind c = omega (arith, rw c.in-Ok.is at c.requires.0)
-
 pub returns-then-c-size : goal.returns-then-c-size
 returns-then-c-size c = part-used c.args.at c.args.size c.in-Ok.is c.if-c-size.true
-
-pub overflow_add-place : goal.overflow_add-place
-overflow_add-place c = omega (arith, rw c.in-Err.is at c.requires.0)
 
 pub returns-in-Short : goal.returns-in-Short
 returns-in-Short c = part-short c.args.at c.args.size c.in-Err.is (ap number_of c.in-Short.is)

@@ -1,9 +1,6 @@
 use Rattle.numbers.specs.Cursors.{handed}
-use Rattle.walk.specs.LateLaws.{late-begins, late-got, late-no}
+use Rattle.walk.specs.LateLaws.{late-got, late-no}
 use Rattle.walk.proofs.pairs.late_kind.Goals as goal
-
-pub front-requires : goal.front-requires
-front-requires c = late-begins c.requires c.cut_back.ensures
 
 pub returns : goal.returns
 returns c = late-got c.requires c.cut_back.ensures c.types-declared.ensures c.front.ensures c.in_ok-end.was

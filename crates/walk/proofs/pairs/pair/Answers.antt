@@ -1,6 +1,6 @@
 use Rattle.numbers.specs.Cursors.{handed}
 use Rattle.walk.specs.PairLaws.{pair-begins, pair-no-front}
-use Rattle.walk.specs.PairWays.{next-asks, start-inside, region-short, late-asks, kind-late, region-asks, region-refused, pair_ends}
+use Rattle.walk.specs.PairWays.{region-short, late-asks, kind-late, region-asks, region-refused, pair_ends}
 use Rattle.walk.proofs.pairs.pair.Goals as goal
 
 pub front-requires : goal.front-requires
@@ -8,9 +8,6 @@ front-requires c = pair-begins c.requires
 
 pub returns-in_err-size : goal.returns-in_err-size
 returns-in_err-size c = rw (handed c.from_residual.ensures.1) (pair-no-front c.requires c.front.ensures c.in_err-size.was)
-
-pub overflow_sub-file : goal.overflow_sub-file
-overflow_sub-file c = start-inside c.requires c.front.ensures c.in_ok-size.was
 
 pub returns-then-file-at : goal.returns-then-file-at
 returns-then-file-at c = region-short c.requires c.front.ensures c.in_ok-size.was c.if-file-at.true
@@ -26,9 +23,6 @@ region-requires c = region-asks c.requires c.front.ensures c.in_ok-size.was c.co
 
 pub returns-in_err-end : goal.returns-in_err-end
 returns-in_err-end c = rw (handed c.from_residual-in_err-end.ensures.1) (region-refused c.requires c.front.ensures c.in_ok-size.was c.counts-before.ensures c.kinds_stand.ensures c.if-file-at.false c.if-not-kinds_stand.false-raw c.region.ensures c.in_err-end.was)
-
-pub next_block-requires : goal.next_block-requires
-next_block-requires c = let both = next-asks c.requires c.front.ensures c.in_ok-size.was c.region.ensures c.in_ok-end.was in record { ok = both.0; work_bound = both.1 }
 
 pub returns : goal.returns
 returns c = pair_ends c.requires c.front.ensures c.in_ok-size.was c.counts-before.ensures c.kinds_stand.ensures c.if-file-at.false c.if-not-kinds_stand.false-raw c.region.ensures c.in_ok-end.was c.next_block.ensures
