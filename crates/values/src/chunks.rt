@@ -36,10 +36,10 @@ pub fn elements(
     k: u64,
     strings: u64,
     pools: &[u32],
-    ranges: Ranges<'_>,
+    ranges: &Ranges<'_>,
 ) -> Outcome<u64>
     requires { (element_kind? k ≡ true) × (c.at ≤ length part.now) }
-    ensures { Checked m k strings pools.now ranges.entry.first.now ranges.entry.last.now part.now c.at result }
+    ensures { Checked m k strings pools.now ranges.now.first.now ranges.now.last.now part.now c.at result }
 {
     match k {
         5 => annotations(part, c, m, pools),
@@ -75,10 +75,10 @@ fn lists_of(
     e: u64,
     strings: u64,
     pools: &[u32],
-    ranges: Ranges<'_>,
+    ranges: &Ranges<'_>,
 ) -> Outcome<u64>
     requires { element_kind? e ≡ true }
-    ensures { Passed (repeat n (list_of strings pools.now ranges.entry.first.now ranges.entry.last.now e)) part.now 0 result }
+    ensures { Passed (repeat n (list_of strings pools.now ranges.now.first.now ranges.now.last.now e)) part.now 0 result }
 {
     match e {
         5 => lists_by(part, n, move |c, m| annotations(part, c, m, pools)),
@@ -111,10 +111,10 @@ pub fn chunk_values(
     e: u64,
     strings: u64,
     pools: &[u32],
-    ranges: Ranges<'_>,
+    ranges: &Ranges<'_>,
 ) -> Outcome<u64>
     requires { Kinds k a e × (4 < k) × (k ≢ 20) }
-    ensures { ChunkChecked n k a e strings pools.now ranges.entry.first.now ranges.entry.last.now part.now result }
+    ensures { ChunkChecked n k a e strings pools.now ranges.now.first.now ranges.now.last.now part.now result }
 {
     let start = Cursor { at: 0 };
     let values = n as u64;

@@ -73,8 +73,8 @@ fn span_of(starts: &[u32], k: u64) -> Span
 }
 
 // The ranges of the type that kind k names.
-pub fn ranges_of(groups: Groups<'_>, k: u64) -> Ranges<'_>
-    ensures { (result.first.now ≡ ranges groups.entry.starts.now k groups.entry.first.now) × (result.last.now ≡ ranges groups.entry.starts.now k groups.entry.last.now) }
+pub fn ranges_of<'a>(groups: &Groups<'a>, k: u64) -> Ranges<'a>
+    ensures { (result.first.now ≡ ranges groups.now.starts.now k groups.now.first.now) × (result.last.now ≡ ranges groups.now.starts.now k groups.now.last.now) }
 {
     let s = span_of(groups.starts, k);
     let from = s.from;
@@ -86,16 +86,11 @@ pub fn ranges_of(groups: Groups<'_>, k: u64) -> Ranges<'_>
 }
 
 // An element in a map whose kind k names a type: it is held to the part of the ranges that are this type's own.
-fn linked_element(
-    part: &[u8],
-    c: Cursor,
-    k: u64,
-    groups: Groups<'_>,
-) -> Outcome<u64>
+fn linked_element(part: &[u8], c: Cursor, k: u64, groups: &Groups<'_>) -> Outcome<u64>
     requires { 32 ≤ k }
-    ensures { (strings : ℕ) (pools : List ℕ) → Passed (item_in strings pools groups.entry.starts.now groups.entry.first.now groups.entry.last.now k) part.now c.at result }
+    ensures { (strings : ℕ) (pools : List ℕ) → Passed (item_in strings pools groups.now.starts.now groups.now.first.now groups.now.last.now k) part.now c.at result }
 {
-    references(part, c, 1, ranges_of(groups, k))
+    references(part, c, 1, &ranges_of(groups, k))
 }
 
 // An element of kind k in a map. Most kinds are read by the reader of their number, with no loop around it.
@@ -105,10 +100,10 @@ fn element(
     k: u64,
     strings: u64,
     pools: &[u32],
-    groups: Groups<'_>,
+    groups: &Groups<'_>,
 ) -> Outcome<u64>
     requires { (element_kind? k ≡ true) × (c.at ≤ length part.now) }
-    ensures { Passed (item_in strings pools.now groups.entry.starts.now groups.entry.first.now groups.entry.last.now k) part.now c.at result }
+    ensures { Passed (item_in strings pools.now groups.now.starts.now groups.now.first.now groups.now.last.now k) part.now c.at result }
 {
     match k {
         5 => annotations(part, c, 1, pools),
@@ -245,9 +240,9 @@ fn string_bounds(strings: u64) -> Bounds
 }
 
 // The bounds of an object's number, where kind k names a type that has one range.
-fn linked_bounds(k: u64, groups: Groups<'_>) -> Bounds
+fn linked_bounds(k: u64, groups: &Groups<'_>) -> Bounds
     requires { 32 ≤ k }
-    ensures { (strings : ℕ) (pools : List ℕ) → Quick (item_in strings pools groups.entry.starts.now groups.entry.first.now groups.entry.last.now k) result }
+    ensures { (strings : ℕ) (pools : List ℕ) → Quick (item_in strings pools groups.now.starts.now groups.now.first.now groups.now.last.now k) result }
 {
     let own = ranges_of(groups, k);
     if own.first.len() == 1 {
@@ -257,9 +252,9 @@ fn linked_bounds(k: u64, groups: Groups<'_>) -> Bounds
 }
 
 // The bounds of an element of kind k. Annotations and bools have no quick way.
-fn bounds_of(k: u64, strings: u64, groups: Groups<'_>) -> Bounds
+fn bounds_of(k: u64, strings: u64, groups: &Groups<'_>) -> Bounds
     requires { element_kind? k ≡ true }
-    ensures { (pools : List ℕ) → Quick (item_in strings pools groups.entry.starts.now groups.entry.first.now groups.entry.last.now k) result }
+    ensures { (pools : List ℕ) → Quick (item_in strings pools groups.now.starts.now groups.now.first.now groups.now.last.now k) result }
 {
     match k {
         5 | 6 => wide_bounds(9),
@@ -279,10 +274,10 @@ fn element_behind(
     at: usize,
     k: u64,
     strings: u64,
-    groups: Groups<'_>,
+    groups: &Groups<'_>,
 ) -> Option<usize>
     requires { (element_kind? k ≡ true) × (at ≤ length part.now) }
-    ensures { IfSome result (λ e. (pools : List ℕ) → Skips (item_in strings pools groups.entry.starts.now groups.entry.first.now groups.entry.last.now k) part.now at e) }
+    ensures { IfSome result (λ e. (pools : List ℕ) → Skips (item_in strings pools groups.now.starts.now groups.now.first.now groups.now.last.now k) part.now at e) }
 {
     let b = bounds_of(k, strings, groups);
     one_behind(part, at, b.width, b.low, b.high)
@@ -296,11 +291,11 @@ fn map(
     kinds: &[u64],
     strings: u64,
     pools: &[u32],
-    groups: Groups<'_>,
+    groups: &Groups<'_>,
 ) -> Outcome<u64>
     requires in_bounds { (2 ≤ length kinds.now) × (all element_kind? kinds.now ≡ true) }
     requires at_in_bounds { c.at ≤ length part.now }
-    ensures { Passed (map_in strings pools.now groups.entry.starts.now groups.entry.first.now groups.entry.last.now kinds.now) part.now c.at result }
+    ensures { Passed (map_in strings pools.now groups.now.starts.now groups.now.first.now groups.now.last.now kinds.now) part.now c.at result }
 {
     let (n, begin) = c.small(part)?;
     // The last two types have most of the elements.
@@ -327,11 +322,11 @@ fn key_and_rest(
     kinds: &[u64],
     strings: u64,
     pools: &[u32],
-    groups: Groups<'_>,
+    groups: &Groups<'_>,
 ) -> Outcome<u64>
     requires in_bounds { (2 ≤ length kinds.now) × (all element_kind? kinds.now ≡ true) }
     requires at_in_bounds { c.at ≤ length part.now }
-    ensures { Passed (key_in strings pools.now groups.entry.starts.now groups.entry.first.now groups.entry.last.now kinds.now) part.now c.at result }
+    ensures { Passed (key_in strings pools.now groups.now.starts.now groups.now.first.now groups.now.last.now kinds.now) part.now c.at result }
 {
     if 2 < kinds.len() {
         if let Some(at) = element_behind(part, c.at, kinds[0], strings, groups) {
@@ -353,10 +348,10 @@ pub fn maps(
     kinds: &[u64],
     strings: u64,
     pools: &[u32],
-    groups: Groups<'_>,
+    groups: &Groups<'_>,
 ) -> Outcome<u64>
     requires { (2 ≤ length kinds.now) × (all element_kind? kinds.now ≡ true) }
-    ensures { MapsChecked n strings pools.now groups.entry.starts.now groups.entry.first.now groups.entry.last.now kinds.now part.now result }
+    ensures { MapsChecked n strings pools.now groups.now.starts.now groups.now.first.now groups.now.last.now kinds.now part.now result }
 {
     let mut here = Cursor { at: 0 };
     for _ in 0..n {

@@ -13,6 +13,10 @@ use std::num;
 // The loops count by hand here, an end is widened by `wide`, and what takes a guide stands beside what takes none. With `for`, `&&` and
 // `u64::from` in `search`, `lies_in` and `over`, 65,535 references to one range took 0.23 ms in place of 0.17, and 0.21 where besides one
 // function took the search as a parameter: the compiler then asks again, for each reference, whether a range was found.
+//
+// Whoever asks hands a reference to the ranges on, and the loops copy them, once for all that they read: lists of references then need 7
+// percent fewer instructions than with the two slices by themselves. Handed on by value they took 4 percent more time, and references
+// alone 3 percent more where the loops did not copy.
 
 // An end of a range in the width of the numbers that are held against it. Said once, it spares each load a fact.
 fn wide(x: u32) -> u64
@@ -102,13 +106,14 @@ fn reference(part: &[u8], c: Cursor, ranges: Ranges<'_>) -> Outcome<u64>
 }
 
 // m numbers of objects.
-pub fn references(part: &[u8], c: Cursor, m: u64, ranges: Ranges<'_>) -> Outcome<u64>
-    ensures { Passed (repeat m (linked (some_object ranges.entry.first.now ranges.entry.last.now))) part.now c.at result }
+pub fn references(part: &[u8], c: Cursor, m: u64, ranges: &Ranges<'_>) -> Outcome<u64>
+    ensures { Passed (repeat m (linked (some_object ranges.now.first.now ranges.now.last.now))) part.now c.at result }
 {
+    let own = *ranges;
     let mut here = c;
     let mut rest = m;
     while 0 < rest {
-        let (_, next) = reference(part, here, ranges)?;
+        let (_, next) = reference(part, here, own)?;
         here = next;
         rest -= 1;
     }
@@ -130,10 +135,10 @@ fn guided_range(guide: &[u32], bits: u32, ranges: Ranges<'_>, n: u64) -> usize
 }
 
 // The same, for whoever looks for one object at a time.
-pub fn range_by(guide: &[u32], ranges: Ranges<'_>, n: u64) -> usize
-    ensures { Placed ranges.entry.first.now ranges.entry.last.now n result }
+pub fn range_by(guide: &[u32], ranges: &Ranges<'_>, n: u64) -> usize
+    ensures { Placed ranges.now.first.now ranges.now.last.now n result }
 {
-    guided_range(guide, bits_of(guide), ranges, n)
+    guided_range(guide, bits_of(guide), *ranges, n)
 }
 
 // The same as `reference`, with a guide.
@@ -166,15 +171,16 @@ pub fn guided_references(
     c: Cursor,
     m: u64,
     guide: &[u32],
-    ranges: Ranges<'_>,
+    ranges: &Ranges<'_>,
 ) -> Outcome<u64>
-    ensures { Passed (repeat m (linked (some_object ranges.entry.first.now ranges.entry.last.now))) part.now c.at result }
+    ensures { Passed (repeat m (linked (some_object ranges.now.first.now ranges.now.last.now))) part.now c.at result }
 {
     let bits = bits_of(guide);
+    let own = *ranges;
     let mut here = c;
     let mut rest = m;
     while 0 < rest {
-        let (_, next) = guided_reference(part, here, guide, bits, ranges)?;
+        let (_, next) = guided_reference(part, here, guide, bits, own)?;
         here = next;
         rest -= 1;
     }
