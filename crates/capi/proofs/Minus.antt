@@ -9,6 +9,9 @@ use mir.Syntax.{w64}
 use mir.Val.{SFits, to_z, of_z}
 use mir.Facts.{to_z-of_z, to_z_pos}
 use borrow.Author.Tests.{le-leb, lt-leb, lt-ltb}
+use Rattle.std.specs.Prelude.{Result, Ok, Err}
+use Rattle.std.specs.Result.{OkIff, result_unwrap_or}
+use Rattle.std.proofs.lemmas.Result.{OkIff-at_ok, OkIff-at_err}
 use Rattle.paper.specs.Reader.{when◌then◌else◌}
 use Rattle.capi.specs.Coded.{up_to_top}
 
@@ -20,12 +23,19 @@ pub top-high : (n : ℕ) → 9223372036854775807 < n → up_to_top n ≡ 9223372
 unfolding up_to_top when◌then◌else◌
 top-high n h = rw (lt-leb n 9223372036854775807 h)
 
--- what the code gives on each side
-pub low_number : (n : ℕ) → n ≤ 9223372036854775807 → to_z w64 n ≡ pos (up_to_top n)
-low_number n h = to_z_pos w64 (omega arith) ∙ ap pos (sym (top-low n h))
-
-pub high_number : (n : ℕ) → 9223372036854775807 < n → pos 9223372036854775807 ≡ pos (up_to_top n)
-high_number n h = ap pos (sym (top-high n h))
+-- what the library's conversion gives, with the top in place of what does not fit
+pub capped :
+    {E : Type 0} (n : ℕ) (r : Result ℤ E) → OkIff r (SFits w64 (pos n)) (pos n)
+    → result_unwrap_or r (pos 9223372036854775807) ≡ pos (up_to_top n)
+capped {E} n (Ok x) h =
+    let q = OkIff-at_ok {T = ℤ} {E = E} (Ok x) (SFits w64 (pos n)) (pos n) x h refl in
+    q.1 ∙ ap pos (sym (top-low n (omega (arith, q.0.sfits))))
+capped {E} n (Err e) h =
+    let q = OkIff-at_err {T = ℤ} {E = E} (Err e) (SFits w64 (pos n)) (pos n) e h refl in
+    elim (dec_le n 9223372036854775807) [
+      | yes d ↦ absurd (q (record { sfits = omega arith }))
+      | no d ↦ ap pos (sym (top-high n (lt_of_not-le d)))
+    ]
 
 below_top : (n : ℕ) → up_to_top n < 2 ^ 63
 below_top n =

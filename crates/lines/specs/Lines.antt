@@ -1,6 +1,6 @@
 -- Lines as code lays them, a word with the byte that ends it at a time. Assumes nothing.
-use Rattle.std.specs.Prelude.{◌≡◌, refl, List, [], ◌∷◌, ◌++◌, ℕ, zero, suc, ◌-◌, ◌≤◌, ◌<◌, replicate}
-use Rattle.std.proofs.Common.{append_assoc, arith, sub-one}
+use Rattle.std.specs.Prelude.{◌≡◌, List, [], ◌∷◌, ◌++◌, ℕ, suc, replicate}
+use Rattle.std.proofs.Common.{append_assoc}
 use Rattle.lay.specs.Laid.{Laid, laid_then, laid_as}
 use Rattle.paper.specs.Lists.{flat}
 use Rattle.paper.specs.Listing.{tab, newline, comma, line, joined, old_line}
@@ -46,12 +46,10 @@ module _ {l m : List ℕ} {at r : ℕ} (w : List ℕ) where
 abbrev pub olds : ℕ → List ℕ
 olds k = flat (λ (u : Unit {0}). old_line) (replicate k tt)
 
-pub olds-more : (k : ℕ) → 0 < k → olds k ≡ old_line ++ olds (k - 1)
+pub olds-more : {k less : ℕ} → k ≡ suc less → olds k ≡ old_line ++ olds less
 unfolding flat
-olds-more zero h = absurd (omega arith)
-olds-more (suc k) h = rw sub-one
+olds-more due = rw due
 
-pub olds-none : (k : ℕ) → k ≤ 0 → olds k ≡ []
+pub olds-none : {k : ℕ} → k ≡ 0 → olds k ≡ []
 unfolding flat
-olds-none zero h = refl
-olds-none (suc k) h = absurd (omega arith)
+olds-none none = rw none

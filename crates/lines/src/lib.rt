@@ -77,10 +77,8 @@ pub fn put_olds(out: &mut [u8], at: usize, n: u64) -> usize
     ensures { Laid out.old at (flat (λ (u : Unit {0}). old_line) (replicate n tt)) out.new result }
 {
     let mut p = at;
-    let mut left = n;
-    while 0 < left {
+    for _ in 0..n {
         p = put_old(out, p);
-        left -= 1;
     }
     p
 }

@@ -1,16 +1,14 @@
 -- The sum that the benchmark asks for, and the loop that makes it. Assumes nothing.
-use Rattle.std.specs.Prelude.{◌≡◌, ℕ, zero, suc, ◌+◌, ◌-◌, ◌%◌, ◌^◌, ◌<◌, ◌≤◌, List, length}
+use Rattle.std.specs.Prelude.{Err, Ok, ◌≡◌, ℕ, zero, suc, ◌+◌, ◌-◌, ◌%◌, ◌^◌, ◌<◌, ◌≤◌, List, length}
 use Rattle.std.proofs.Math.Path.{refl, ap}
 use Rattle.std.proofs.Common.{sym, ◌∙◌, zero-add, add-zero, add_assoc, mod-lt, mod-eq_of_lt, lit<}
 use native.Mathlib.Omega.{arith}
 use Rattle.std.proofs.Math.Nat.{mod-add-mod}
 use Rattle.paper.specs.Reader.{Out, got, no}
 use Rattle.paper.specs.Numbers.{v64}
-use Rattle.numbers.specs.Cursors.{Read, was-got, was-refused}
+use Rattle.numbers.specs.Cursors.{Outcome, Read, was-got, was-refused}
 use Rattle.numbers.specs.declared.Cursor.{Cursor}
 use Rattle.numbers.specs.declared.Refusal.{Refusal}
-use Rattle.numbers.specs.declared.Number.{Number}
-use Rattle.numbers.specs.declared.Number.TheVariants.{Got, No}
 
 abbrev added : Out ℕ → (ℕ → ℕ) → ℕ
 added (got x e) rest = x + rest e
@@ -44,19 +42,19 @@ module _ {f : List ℕ} {sum at left : ℕ} (R : Summing f sum at left) where
   unfolding sum_from
   summing-done le = let none : left ≡ 0 = omega arith in whole (rw none refl)
 
-  module _ (more : 0 < left) {b : ℕ} {a : Number} (read : Read v64 b f at a) where
+  module _ (more : 0 < left) {b : ℕ} {a : Outcome ℕ} (read : Read v64 b f at a) where
     one_less : left ≡ suc (left - 1)
     one_less = omega arith
 
-    pub summing-no : {e : Refusal} → a ≡ No e → sum ≡ sum_of f
+    pub summing-no : {e : Refusal} → a ≡ Err e → sum ≡ sum_of f
     unfolding sum_from
     summing-no is = whole (ap (λ (n : ℕ). sum_from n f at) one_less ∙ rw (was-refused read is).says refl)
 
-    one_more : {x : ℕ} {c : Cursor} → a ≡ Got x c → sum_from left f at ≡ x + sum_from (left - 1) f c.at
+    one_more : {x : ℕ} {c : Cursor} → a ≡ Ok (x, c) → sum_from left f at ≡ x + sum_from (left - 1) f c.at
     unfolding sum_from
     one_more is = ap (λ (n : ℕ). sum_from n f at) one_less ∙ rw (was-got read is).says refl
 
-    pub summing-next : {x t k : ℕ} {c : Cursor} → a ≡ Got x c → t ≡ (sum + x) % 2 ^ 64 → k ≡ left - 1 → Summing f t c.at k
+    pub summing-next : {x t k : ℕ} {c : Cursor} → a ≡ Ok (x, c) → t ≡ (sum + x) % 2 ^ 64 → k ≡ left - 1 → Summing f t c.at k
     summing-next {x} {t} {k} {c} is wrapped less =
         record {
           says =

@@ -4,7 +4,7 @@
 ghost use Rattle.std.specs.Prelude.{◌≡◌};
 ghost use Rattle.pace.specs.Sum.{sum_of};
 
-use numbers::{Cursor, Number};
+use numbers::Cursor;
 
 // The sum of the v64 numbers from the start of `s` up to the first that is refused, as at the end it is. It wraps: a
 // benchmark asks only that each number is used. A number has at least a byte, so there are no more than bytes.
@@ -15,15 +15,11 @@ pub extern "C" fn pace_sum_v64(s: &[u8]) -> u64
     let mut sum: u64 = 0;
     let mut c = Cursor { at: 0 };
     for _ in 0..s.len() {
-        match c.v64(s) {
-            Number::Got(x, next) => {
-                sum = sum.wrapping_add(x);
-                c = next;
-            }
-            Number::No(_) => {
-                return sum;
-            }
-        }
+        let Ok((x, next)) = c.v64(s) else {
+            return sum;
+        };
+        sum = sum.wrapping_add(x);
+        c = next;
     }
     sum
 }

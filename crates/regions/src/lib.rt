@@ -33,10 +33,10 @@ use values::guides::make_guide;
 use values::maps::map_kinds;
 use words::read::Place;
 
-// 2 ^ 64 - 1
-const MOST: u64 = 18446744073709551615;
+const MOST: u64 = u64::MAX;
 
-// n values whose elements refer to objects of these ranges, which are looked for by a guide.
+// n values whose elements refer to objects of these ranges, which are looked for by a guide. A function of its own, so that the guide is
+// cleared, and has room on the stack, only where it is made.
 fn guided_bytes(
     text: &[u8],
     p: Place,
@@ -84,10 +84,8 @@ fn ranged_bytes(
     requires { Kinds kind.kind kind.a kind.e × (kind.kind ≡ 20 → ⊥) × (length first.now ≡ length last.now) }
     ensures { RangedTaken n kind strings first.now last.now text.now p.at out.old at out.new result }
 {
-    if 64 < n {
-        if 1 < first.len() {
-            return guided_bytes(text, p, n, kind, strings, first, last, out, at);
-        }
+    if 64 < n && 1 < first.len() {
+        return guided_bytes(text, p, n, kind, strings, first, last, out, at);
     }
     chunk_text(
         text,
@@ -97,7 +95,7 @@ fn ranged_bytes(
         kind.a,
         kind.e,
         strings,
-        &first[..0],
+        &[],
         first,
         last,
         out,
@@ -157,16 +155,16 @@ fn constant_bytes(
         kind.a,
         0,
         strings(work) as u64,
-        &work[..0],
-        &work[..0],
-        &work[..0],
+        &[],
+        &[],
+        &[],
         out,
         at,
     )
 }
 
 // n maps of these kinds, whose annotations are held to the pools: the ranges of the types that they name, at most eight, are gathered
-// once.
+// once. A function of its own, so that the lists of ranges are cleared, and have room on the stack, only where there is one to gather.
 fn grouped_bytes(
     text: &[u8],
     p: Place,
@@ -225,9 +223,9 @@ fn mapped_bytes(
         kinds,
         strings(work) as u64,
         pools,
-        &work[..0],
-        &work[..0],
-        &work[..0],
+        &[],
+        &[],
+        &[],
         out,
         at,
     )
@@ -287,8 +285,8 @@ fn kind_bytes(
         kind.e,
         strings(work) as u64,
         pools,
-        &work[..0],
-        &work[..0],
+        &[],
+        &[],
         out,
         at,
     )
@@ -334,11 +332,9 @@ fn size_chunk(text: &[u8], p: Place, i: u32, pools: &[u32], work: &mut [u32]) ->
     requires { DueReady text.now work.old pools.now i }
     ensures { ChunkSized text.now work.old p.at i result work.new }
 {
-    let mut none = [0u8; 1];
-    let k = due_bytes(text, p, i, pools, work, &mut none[..0], 0)?;
+    let k = due_bytes(text, p, i, pools, work, &mut [], 0)?;
     size_due(work, i, k.at as u64);
-    let next = k.next;
-    Some(next)
+    Some(k.next)
 }
 
 // The chunks that are due, judged one after the other, where it is known what strings name.
@@ -346,15 +342,11 @@ fn size_each(text: &[u8], p: Place, pools: &[u32], work: &mut [u32]) -> Option<P
     requires { RegionReady text.now work.old × Noted pools.now (view text.now work.old) }
     ensures { RegionSized text.now work.old p.at result work.new }
 {
-    let n = dues(work);
-    let mut here = p.at;
-    let mut i = 0;
-    while i < n {
-        let next = size_chunk(text, Place { at: here }, i, pools, work)?;
-        here = next.at;
-        i += 1;
+    let mut here = p;
+    for i in 0..dues(work) {
+        here = size_chunk(text, here, i, pools, work)?;
     }
-    Some(Place { at: here })
+    Some(here)
 }
 
 // The lines of all chunks that are due, judged: the place behind them, and each chunk's size in the table. What strings name is
@@ -372,10 +364,7 @@ pub fn size_chunks(text: &[u8], p: Place, work: &mut [u32]) -> Option<Place>
 pub fn add_up(a: u64, b: u64) -> u64
     ensures { result ≡ min (a + b) most }
 {
-    if MOST - a < b {
-        return MOST;
-    }
-    a + b
+    a.saturating_add(b)
 }
 
 // How many bytes all chunks that are due have.
@@ -383,13 +372,9 @@ pub fn region_size(work: &[u32]) -> u64
     requires { Ok work.now }
     ensures { result ≡ min (sizes (dues_of work.now)) most }
 {
-    let n = dues(work);
-    let mut sum: u64 = 0;
-    let mut i = 0;
-    while i < n {
-        let d = due_at(work, i);
-        sum = add_up(sum, d.size);
-        i += 1;
+    let mut sum = 0;
+    for i in 0..dues(work) {
+        sum = add_up(sum, due_at(work, i).size);
     }
     sum
 }
@@ -428,20 +413,22 @@ fn lay_each(
     requires { RegionReady text.now work.old × Noted pools.now (view text.now work.old) }
     ensures { LaidSized text.now work.old p.at out.old at out.new result work.new }
 {
-    let n = dues(work);
     let mut here = Taken { next: p, at };
-    let mut i = 0;
-    while i < n {
-        let k = lay_due(text, here, i, pools, work, out)?;
-        here = k;
-        i += 1;
+    for i in 0..dues(work) {
+        here = lay_due(text, here, i, pools, work, out)?;
     }
     Some(here)
 }
 
 // The lines of all chunks that are due, laid as their bytes, and each chunk's size in the table. What strings name is looked up
 // once for all.
-pub fn lay_sized(text: &[u8], p: Place, work: &mut [u32], out: &mut [u8], at: usize) -> Option<Taken>
+pub fn lay_sized(
+    text: &[u8],
+    p: Place,
+    work: &mut [u32],
+    out: &mut [u8],
+    at: usize,
+) -> Option<Taken>
     requires { RegionReady text.now work.old }
     ensures { LaidSized text.now work.old p.at out.old at out.new result work.new }
 {

@@ -16,7 +16,7 @@ ghost use Rattle.values.specs.Chunks.{Kinds};
 ghost use Rattle.texts.specs.Elements.{kept, noted};
 ghost use Rattle.texts.specs.Quiet.{words_of, tabs_from};
 ghost use Rattle.texts.specs.Exact.{behind_tab, exactly, listed};
-ghost use Rattle.texts.specs.Told.{Told};
+ghost use Rattle.texts.specs.Told.{Told, Repeats};
 ghost use Rattle.texts.specs.Chunks.{put_list, ChunkTaken};
 
 use elements::{element_text, put_bits};
@@ -74,6 +74,23 @@ pub fn next_element(
     Some(Taken { next, at: end })
 }
 
+// n times what `one` takes, each behind the one before.
+fn each<F: Fn(Taken, &mut [u8]) -> Option<Taken>>(
+    n: u64,
+    from: Taken,
+    out: &mut [u8],
+    one: F,
+) -> Option<Taken>
+    requires { 0 < n → F.IsAlwaysCallable one }
+    ensures { Repeats (F.post one) n from out.old result out.new }
+{
+    let mut here = from;
+    for _ in 0..n {
+        here = one(here, out)?;
+    }
+    Some(here)
+}
+
 // m such elements. Where there are none, e need not be the kind of an element: a constant has no other.
 fn next_elements(
     t: &[u8],
@@ -90,14 +107,9 @@ fn next_elements(
     requires { (0 < m → element_kind? e ≡ true) × (length first.now ≡ length last.now) }
     ensures { Told (repeat m (behind_tab (kept strings pools.now first.now last.now e) e)) (flat (put_element e)) t.now p.at out.old at out.new result }
 {
-    let mut here = Taken { next: p, at };
-    let mut rest = m;
-    while 0 < rest {
-        let k = next_element(t, here.next, e, strings, pools, first, last, out, here.at)?;
-        here = k;
-        rest -= 1;
-    }
-    Some(here)
+    each(m, Taken { next: p, at }, out, |here, out| {
+        next_element(t, here.next, e, strings, pools, first, last, out, here.at)
+    })
 }
 
 // What stands behind the word of a value with m elements: these, and the end of the line.
@@ -145,9 +157,8 @@ fn value_text(
 fn tabs_left(t: &[u8], p: Place) -> u64
     ensures { result ≡ tabs_from t.now p.at }
 {
-    let mut at = p.at;
     let mut n: u64 = 0;
-    while at < t.len() {
+    for at in p.at..t.len() {
         let b = peek(t, at);
         if b == NEWLINE {
             return n;
@@ -155,7 +166,6 @@ fn tabs_left(t: &[u8], p: Place) -> u64
         if b == TAB {
             n += 1;
         }
-        at += 1;
     }
     n
 }
@@ -212,16 +222,11 @@ fn values_text(
     requires { (0 < m → element_kind? e ≡ true) × (length first.now ≡ length last.now) }
     ensures { Told (repeat n (exactly m (kept strings pools.now first.now last.now e) e)) (flat (flat (put_element e))) t.now p.at out.old at out.new result }
 {
-    let mut here = Taken { next: p, at };
-    let mut rest = n;
-    while 0 < rest {
-        let k = value_text(
+    each(n as u64, Taken { next: p, at }, out, |here, out| {
+        value_text(
             t, here.next, m, e, strings, pools, first, last, out, here.at,
-        )?;
-        here = k;
-        rest -= 1;
-    }
-    Some(here)
+        )
+    })
 }
 
 // The lines of n arrays that give their own lengths.
@@ -240,14 +245,9 @@ fn lists_text(
     requires { (element_kind? e ≡ true) × (length first.now ≡ length last.now) }
     ensures { Told (repeat n (listed (kept strings pools.now first.now last.now e) e)) (flat (put_list e)) t.now p.at out.old at out.new result }
 {
-    let mut here = Taken { next: p, at };
-    let mut rest = n;
-    while 0 < rest {
-        let k = list_text(t, here.next, e, strings, pools, first, last, out, here.at)?;
-        here = k;
-        rest -= 1;
-    }
-    Some(here)
+    each(n as u64, Taken { next: p, at }, out, |here, out| {
+        list_text(t, here.next, e, strings, pools, first, last, out, here.at)
+    })
 }
 
 // The lines of a chunk's n values, whose kind has the first number k, a constant's bits or an array's length a, and the last

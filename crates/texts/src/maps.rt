@@ -11,7 +11,7 @@ ghost use Rattle.texts.specs.Maps.{size_word, put_map, put_key};
 ghost use Rattle.texts.specs.MapWays.{word_in, map_in, key_in, line_in};
 ghost use Rattle.texts.specs.MapLines.{MapsTaken};
 
-use crate::{NEWLINE, TAB, Taken, next_element};
+use crate::{NEWLINE, TAB, Taken, each, next_element};
 use numbers::write::put_v64;
 use paper::Ledger;
 use values::maps::span_of;
@@ -88,13 +88,11 @@ fn map_text(
         next: begin,
         at: behind,
     };
-    let mut rest = n;
-    while 0 < rest {
-        let k = key_and_rest_text(
+    // `each` would take a closure that is one of the cycle, and would have to give the measure of its calls as clauses of its own.
+    for _ in 0..n {
+        here = key_and_rest_text(
             t, here.next, kinds, strings, pools, starts, first, last, out, here.at,
         )?;
-        here = k;
-        rest -= 1;
     }
     Some(here)
 }
@@ -172,14 +170,9 @@ pub fn maps_text(
     requires { (1 ≤ length kinds.now) × (all element_kind? kinds.now ≡ true) × Grouped starts.now first.now last.now }
     ensures { MapsTaken n strings pools.now starts.now first.now last.now kinds.now t.now p.at out.old at out.new result }
 {
-    let mut here = Taken { next: p, at };
-    let mut rest = n;
-    while 0 < rest {
-        let k = line_text(
+    each(n as u64, Taken { next: p, at }, out, |here, out| {
+        line_text(
             t, here.next, kinds, strings, pools, starts, first, last, out, here.at,
-        )?;
-        here = k;
-        rest -= 1;
-    }
-    Some(here)
+        )
+    })
 }

@@ -2,8 +2,5 @@
 use Rattle.regions.specs.Chunk.{maps-told}
 use Rattle.regions.proofs.grouped_bytes.Goals as goal
 
-pub maps_text-requires : goal.maps_text-requires
-maps_text-requires c = (c.requires.in_bounds.0, c.requires.in_bounds.1, c.group.ensures.grouped)
-
 pub returns : goal.returns
 returns c = maps-told c.requires.holds.0 c.strings.ensures c.group.ensures c.requires.holds.2 c.maps_text.ensures

@@ -1,12 +1,8 @@
 -- `regions::lay_sized` meets its contract: the pools that are gathered are what each chunk asks for. Assumes nothing.
-use Rattle.std.proofs.Common.{arith}
 use Rattle.lookups.specs.Named.{due-lent, noted-now}
 use Rattle.regions.specs.Turns.{ready-same}
 use Rattle.regions.specs.Both.{laid-sized-same}
 use Rattle.regions.proofs.lay_sized.Goals as goal
-
-pub pools_due-k-requires : goal.pools_due-k-requires
-pools_due-k-requires c = let pre = c.requires in (pre.holds, pre.pooled, omega arith)
 
 pub slice_bounds-lay_each-end : goal.slice_bounds-lay_each-end
 slice_bounds-lay_each-end c = due-lent c.pools_due-k.ensures.pools_due

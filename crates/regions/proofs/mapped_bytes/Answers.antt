@@ -4,9 +4,6 @@ use Rattle.lookups.specs.Group.{none-grouped}
 use Rattle.regions.specs.Chunk.{maps-told}
 use Rattle.regions.proofs.mapped_bytes.Goals as goal
 
-pub returns-then-refers : goal.returns-then-refers
-returns-then-refers c = c.grouped_bytes.ensures
-
 pub maps_text-requires : goal.maps_text-requires
 maps_text-requires c = (c.requires.in_bounds.0, c.requires.in_bounds.1, (none-grouped c.args.kinds.now c.args.work.now (sym c.refers.ensures ∙ c.if-refers.false)).grouped)
 

@@ -2,8 +2,5 @@
 use Rattle.regions.specs.Chunk.{ranged-taken}
 use Rattle.regions.proofs.ranged_bytes.Goals as goal
 
-pub returns-then-first-gt1 : goal.returns-then-first-gt1
-returns-then-first-gt1 c = c.guided_bytes.ensures
-
 pub returns : goal.returns
 returns c = ranged-taken _ c.chunk_text.ensures

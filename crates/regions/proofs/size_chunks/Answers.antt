@@ -1,11 +1,7 @@
 -- `regions::size_chunks` meets its contract: the pools that are gathered are what each chunk asks for. Assumes nothing.
-use Rattle.std.proofs.Common.{arith}
 use Rattle.lookups.specs.Named.{due-lent, noted-now}
 use Rattle.regions.specs.Turns.{ready-same, region-sized-same}
 use Rattle.regions.proofs.size_chunks.Goals as goal
-
-pub pools_due-k-requires : goal.pools_due-k-requires
-pools_due-k-requires c = let pre = c.requires in (pre.holds, pre.pooled, omega arith)
 
 pub slice_bounds-size_each-end : goal.slice_bounds-size_each-end
 slice_bounds-size_each-end c = due-lent c.pools_due-k.ensures.pools_due

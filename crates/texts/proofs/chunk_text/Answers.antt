@@ -2,18 +2,6 @@ use Rattle.std.proofs.Common.{arith}
 use Rattle.texts.specs.Chunks.{chunk-constant, chunk-array, chunk-lists, chunk-plain}
 use Rattle.texts.proofs.chunk_text.Goals as goal
 
-pub values_text-requires : goal.values_text-requires
-values_text-requires c = ((λ h. c.requires.0.element (omega (arith, c.in-15.is)) c.requires.1), c.requires.2)
-
-pub values_text-requires-in-0-to-4 : goal.values_text-requires-in-0-to-4
-values_text-requires-in-0-to-4 c = ((λ h. absurd (omega arith)), c.requires.2)
-
-pub lists_text-requires : goal.lists_text-requires
-lists_text-requires c = (c.requires.0.element (omega arith) c.requires.1, c.requires.2)
-
-pub values_text-requires-in_default : goal.values_text-requires-in_default
-values_text-requires-in_default c = ((λ h. c.requires.0.element (omega arith) c.requires.1), c.requires.2)
-
 pub returns-in-15 : goal.returns-in-15
 returns-in-15 c = chunk-array _ _ _ _ _ _ _ _ _ (c.requires.0.element (omega (arith, c.in-15.is)) c.requires.1) c.in-15.is (c.requires.0.length c.in-15.is) c.values_text.ensures
 

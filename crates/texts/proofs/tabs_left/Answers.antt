@@ -9,9 +9,6 @@ loop-at-init c = counting-start _ _
 pub returns-then-b-eq-NEWLINE : goal.returns-then-b-eq-NEWLINE
 returns-then-b-eq-NEWLINE c = counting-newline c.loop-at.invariant c.peek-b.ensures c.if-b-eq-NEWLINE.true
 
-pub overflow_add-n : goal.overflow_add-n
-overflow_add-n c = omega (arith, c.loop-at.invariant.few)
-
 pub loop-at-preserved : goal.loop-at-preserved
 loop-at-preserved c = elim c.if-b-eq-TAB.branch [
   | then-b-eq-TAB w ↦ rw w.n-is (counting-tab c.loop-at.invariant c.peek-b.ensures w.if-b-eq-TAB.true)

@@ -14,8 +14,8 @@ returns-in_err-line c = rw c.from_residual.ensures (stringing-bad c.loop.invaria
 pub overflow_cast-line : goal.overflow_cast-line
 overflow_cast-line c = omega (arith, (string-places c.loop.invariant (omega arith) c.string_line.ensures c.in_ok-line.was).0)
 
-pub overflow_cast-line-2 : goal.overflow_cast-line-2
-overflow_cast-line-2 c = omega (arith, (string-places c.loop.invariant (omega arith) c.string_line.ensures c.in_ok-line.was).1)
+pub overflow_cast-line-in-loop : goal.overflow_cast-line-in-loop
+overflow_cast-line-in-loop c = omega (arith, (string-places c.loop.invariant (omega arith) c.string_line.ensures c.in_ok-line.was).1)
 
 pub push_string-requires : goal.push_string-requires
 push_string-requires c = record { ok = c.loop.invariant.holds.ok; work_bound = omega (arith, c.loop.invariant.room) }

@@ -8,17 +8,11 @@ overflow_add-digits c = let h = sign-end _ _ _ 18446744073709551615 c.sign-s.ens
 pub returns-in_err-n : goal.returns-in_err-n
 returns-in_err-n c = rw c.from_residual.ensures (λ w two. signed-refused w c.requires two _ _ _ c.sign-s.ensures (rw c.in_err-n.was at c.natural.ensures))
 
-pub overflow_add-half : goal.overflow_add-half
-overflow_add-half c = omega (arith, c.sign-s.ensures.small, c.requires)
-
 pub returns-then-half-s : goal.returns-then-half-s
 returns-then-half-s c = λ w two. signed-far w c.requires two _ _ _ _ _ c.sign-s.ensures (rw c.in_ok-n.was at c.natural.ensures) (omega arith)
 
 pub returns-then-n-s : goal.returns-then-n-s
 returns-then-n-s c = λ w two. signed-nought w c.requires two _ _ _ _ _ c.sign-s.ensures (rw c.in_ok-n.was at c.natural.ensures) (omega arith)
-
-pub signed_bits-requires : goal.signed_bits-requires
-signed_bits-requires c = (c.sign-s.ensures.small, omega arith, omega arith, c.requires)
 
 pub returns : goal.returns
 returns c = λ w two. rw c.signed_bits.ensures (signed-taken w c.requires two _ _ _ _ _ c.sign-s.ensures (rw c.in_ok-n.was at c.natural.ensures) (omega arith) (omega arith))

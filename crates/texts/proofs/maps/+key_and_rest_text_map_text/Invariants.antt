@@ -1,4 +1,4 @@
-use Rattle.std.proofs.Common.{◌+◌, ◌*◌, length}
+use Rattle.std.proofs.Common.{◌+◌, ◌-◌, ◌*◌, length}
 use Rattle.texts.specs.Told.{Taking}
 use Rattle.texts.specs.Maps.{put_key}
 use Rattle.texts.specs.MapWays.{key_in}
@@ -12,8 +12,5 @@ decreases-key_and_rest_text l = 2 * length l.kinds.now
 abbrev pub decreases-map_text : goal.decreases-map_text
 decreases-map_text l = 2 * length l.kinds.now + 1
 
-abbrev pub invariant-map_text-loop-rest : goal.invariant-map_text-loop-rest
-invariant-map_text-loop-rest l = Taking (key_in l.strings l.pools l.starts l.first l.last l.kinds) (put_key l.kinds) l.t l.n l.initial.here.next.at l.initial.out l.behind l.rest l.out l.here
-
-abbrev pub decreases-map_text-loop-rest : goal.decreases-map_text-loop-rest
-decreases-map_text-loop-rest l = l.rest
+abbrev pub invariant-map_text-loop : goal.invariant-map_text-loop
+invariant-map_text-loop l = Taking (key_in l.strings l.pools l.starts l.first l.last l.kinds) (put_key l.kinds) l.t l.n l.initial.here.next.at l.initial.out l.behind (l.n - l.counter) l.out l.here
