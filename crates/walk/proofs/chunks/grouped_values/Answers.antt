@@ -2,8 +2,5 @@
 use Rattle.walk.specs.Steps.{maps-valued}
 use Rattle.walk.proofs.chunks.grouped_values.Goals as goal
 
-pub maps-requires : goal.maps-requires
-maps-requires c = (c.requires.in_bounds.0, c.requires.in_bounds.1, c.group.ensures.grouped)
-
 pub returns : goal.returns
 returns c = maps-valued c.strings.ensures c.group.ensures c.maps.ensures

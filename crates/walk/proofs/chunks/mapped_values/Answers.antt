@@ -4,8 +4,5 @@ use Rattle.lookups.specs.Group.{none-grouped}
 use Rattle.walk.specs.Steps.{maps-valued}
 use Rattle.walk.proofs.chunks.mapped_values.Goals as goal
 
-pub maps-requires : goal.maps-requires
-maps-requires c = (c.requires.in_bounds.0, c.requires.in_bounds.1, (none-grouped c.args.kinds.now c.args.work.now (sym c.refers.ensures ∙ c.if-refers.false)).grouped)
-
 pub returns : goal.returns
 returns c = maps-valued c.strings.ensures (none-grouped c.args.kinds.now c.args.work.now (sym c.refers.ensures ∙ c.if-refers.false)) c.maps.ensures

@@ -1,5 +1,5 @@
 -- `walk::chunks::values_of` meets its contract. Assumes nothing.
-use Rattle.std.proofs.Common.{arith, refl}
+use Rattle.std.proofs.Common.{arith}
 use Rattle.walk.specs.Steps.{constant-valued, plain-valued}
 use Rattle.walk.proofs.chunks.values_of.Goals as goal
 
@@ -19,7 +19,7 @@ pub returns-then-kind-ge32 : goal.returns-then-kind-ge32
 returns-then-kind-ge32 c file holds noted = c.linked_values.ensures file holds
 
 pub chunk_values-requires : goal.chunk_values-requires
-chunk_values-requires c = (c.requires.kinds, omega arith, c.if-kind-eq20.false, refl)
+chunk_values-requires c = (c.requires.kinds, omega arith, c.if-kind-eq20.false)
 
 pub returns : goal.returns
 returns c file holds noted = plain-valued holds c.strings.ensures (omega arith) c.if-kind-eq20.false (omega arith) noted c.chunk_values.ensures
