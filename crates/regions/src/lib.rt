@@ -31,6 +31,7 @@ use texts::maps::maps_text;
 use texts::{Taken, chunk_text};
 use values::guides::make_guide;
 use values::maps::map_kinds;
+use values::ranges::{Groups, Ranges};
 use words::read::Place;
 
 const MOST: u64 = u64::MAX;
@@ -43,16 +44,15 @@ fn guided_bytes(
     n: u32,
     kind: FieldRow,
     strings: u64,
-    first: &[u32],
-    last: &[u32],
+    ranges: &Ranges<'_>,
     out: &mut [u8],
     at: usize,
 ) -> Option<Taken>
-    requires { Kinds kind.kind kind.a kind.e × (kind.kind ≡ 20 → ⊥) × (length first.now ≡ length last.now) }
-    ensures { RangedTaken n kind strings first.now last.now text.now p.at out.old at out.new result }
+    requires { Kinds kind.kind kind.a kind.e × (kind.kind ≡ 20 → ⊥) }
+    ensures { RangedTaken n kind strings ranges.now.first.now ranges.now.last.now text.now p.at out.old at out.new result }
 {
     let mut guide = [0u32; 65];
-    make_guide(last, &mut guide);
+    make_guide(ranges.last, &mut guide);
     chunk_text(
         text,
         p,
@@ -62,8 +62,7 @@ fn guided_bytes(
         kind.e,
         strings,
         &guide,
-        first,
-        last,
+        ranges,
         out,
         at,
     )
@@ -76,16 +75,15 @@ fn ranged_bytes(
     n: u32,
     kind: FieldRow,
     strings: u64,
-    first: &[u32],
-    last: &[u32],
+    ranges: &Ranges<'_>,
     out: &mut [u8],
     at: usize,
 ) -> Option<Taken>
-    requires { Kinds kind.kind kind.a kind.e × (kind.kind ≡ 20 → ⊥) × (length first.now ≡ length last.now) }
-    ensures { RangedTaken n kind strings first.now last.now text.now p.at out.old at out.new result }
+    requires { Kinds kind.kind kind.a kind.e × (kind.kind ≡ 20 → ⊥) }
+    ensures { RangedTaken n kind strings ranges.now.first.now ranges.now.last.now text.now p.at out.old at out.new result }
 {
-    if 64 < n && 1 < first.len() {
-        return guided_bytes(text, p, n, kind, strings, first, last, out, at);
+    if 64 < n && 1 < ranges.first.len() {
+        return guided_bytes(text, p, n, kind, strings, ranges, out, at);
     }
     chunk_text(
         text,
@@ -96,8 +94,7 @@ fn ranged_bytes(
         kind.e,
         strings,
         &[],
-        first,
-        last,
+        ranges,
         out,
         at,
     )
@@ -127,8 +124,10 @@ fn linked_bytes(
         n,
         kind,
         strings(work) as u64,
-        &first[k..],
-        &last[k..],
+        &Ranges {
+            first: &first[k..],
+            last: &last[k..],
+        },
         out,
         at,
     )
@@ -156,8 +155,10 @@ fn constant_bytes(
         0,
         strings(work) as u64,
         &[],
-        &[],
-        &[],
+        &Ranges {
+            first: &[],
+            last: &[],
+        },
         out,
         at,
     )
@@ -190,9 +191,11 @@ fn grouped_bytes(
         kinds,
         strings(work) as u64,
         pools,
-        &starts,
-        &first,
-        &last,
+        &Groups {
+            starts: &starts,
+            first: &first,
+            last: &last,
+        },
         out,
         at,
     )
@@ -223,9 +226,11 @@ fn mapped_bytes(
         kinds,
         strings(work) as u64,
         pools,
-        &[],
-        &[],
-        &[],
+        &Groups {
+            starts: &[],
+            first: &[],
+            last: &[],
+        },
         out,
         at,
     )
@@ -285,8 +290,10 @@ fn kind_bytes(
         kind.e,
         strings(work) as u64,
         pools,
-        &[],
-        &[],
+        &Ranges {
+            first: &[],
+            last: &[],
+        },
         out,
         at,
     )

@@ -17,7 +17,7 @@ use Rattle.paper.specs.Numbers.{put}
 use Rattle.paper.specs.Listing.{ascii, tab, newline}
 use Rattle.paper.specs.Scan.{bad as stop, heed, byte_is, literal, ended, natural}
 use Rattle.lay.specs.Laid.{Laid, laid_then, laid_as}
-use Rattle.values.specs.Spans.{ranges, Spanned}
+use Rattle.values.specs.Spans.{ranges}
 use Rattle.values.specs.Maps.{key_of, rest_part}
 use Rattle.texts.specs.Exact.{behind_tab, repeat-some, repeat-over}
 use Rattle.texts.specs.Elements.{kept}
@@ -42,13 +42,14 @@ key_in strings pools starts first last kinds = key_of stop size_word keys (map (
 unfoldable pub line_in : ℕ → List ℕ → List ℕ → List ℕ → List ℕ → List ℕ → Reader (List Element)
 line_in strings pools starts first last kinds = literal (ascii "val") >> ended newline (map_in strings pools starts first last kinds)
 
--- an element held to the lent part of the ranges
-pub word-lent :
-    (strings : ℕ) (pools starts first last : List ℕ) {k from to : ℕ} {t : List ℕ} {p : ℕ} {l : List ℕ} {at : ℕ} {m : List ℕ} {o : prelude.Option Taken} → Spanned starts k from to
-    → Told (behind_tab (kept strings pools (take (to - from) (drop from first)) (take (to - from) (drop from last)) k) k) (put_element k) t p l at m o
+-- an element held to its type's own ranges
+pub word-own :
+    (strings : ℕ) (pools starts first last : List ℕ) (k : ℕ) {own-first own-last t : List ℕ} {p : ℕ} {l : List ℕ} {at : ℕ} {m : List ℕ} {o : prelude.Option Taken}
+    → (own-first ≡ ranges starts k first) × (own-last ≡ ranges starts k last)
+    → Told (behind_tab (kept strings pools own-first own-last k) k) (put_element k) t p l at m o
     → Told (word_in strings pools starts first last k) (put_element k) t p l at m o
-unfolding word_in kept_in ranges
-word-lent strings pools starts first last S T = rw (S.from_is, S.to_is) at T
+unfolding word_in kept_in
+word-own strings pools starts first last k own T = rw (own.0, own.1) at T
 
 -- ── a size ──
 

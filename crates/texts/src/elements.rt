@@ -9,6 +9,7 @@ ghost use Rattle.texts.specs.Signs.{Sign, bits_of};
 ghost use Rattle.texts.specs.Elements.{flag_number, whole_width, whole_number, link_number, kept, reckoned, bound_in, in_bytes};
 
 use numbers::write::{put_be, put_v64};
+use values::ranges::Ranges;
 use values::references::range_by;
 use words::read::{Place, Scanned, peek};
 
@@ -91,33 +92,30 @@ fn string_number(t: &[u8], p: Place, strings: u64) -> Scanned<u64>
 }
 
 // The number of an object in the ranges, or 0. The guide says which range to look at first.
-fn object_number(t: &[u8], p: Place, guide: &[u32], first: &[u32], last: &[u32]) -> Scanned<u64>
-    requires { length first.now ≡ length last.now }
-    ensures { out_number result ≡ link_number (some_object first.now last.now) t.now p.at }
+fn object_number(t: &[u8], p: Place, guide: &[u32], ranges: &Ranges<'_>) -> Scanned<u64>
+    ensures { out_number result ≡ link_number (some_object ranges.now.first.now ranges.now.last.now) t.now p.at }
 {
     let (n, next) = p.natural(t)?;
     if n == 0 {
         return Some((n, next));
     }
-    if first.len() <= range_by(guide, first, last, n) {
+    if ranges.first.len() <= range_by(guide, ranges, n) {
         return None;
     }
     Some((n, next))
 }
 
-// The number of an element of kind e that keeps the rules; an annotation has two. Of strings there are so many, and the objects of a type are those
-// behind first[i] up to last[i], for each i.
+// The number of an element of kind e that keeps the rules; an annotation has two. Of strings there are so many.
 pub fn element_text(
     t: &[u8],
     p: Place,
     e: u64,
     strings: u64,
     guide: &[u32],
-    first: &[u32],
-    last: &[u32],
+    ranges: &Ranges<'_>,
 ) -> Scanned<u64>
-    requires { (single_kind? e ≡ true) × (length first.now ≡ length last.now) }
-    ensures { (pools : List ℕ) → out_number result ≡ reckoned (kept strings pools first.now last.now e) e t.now p.at }
+    requires { single_kind? e ≡ true }
+    ensures { (pools : List ℕ) → out_number result ≡ reckoned (kept strings pools ranges.now.first.now ranges.now.last.now e) e t.now p.at }
 {
     match e {
         6 => flag(t, p),
@@ -125,7 +123,7 @@ pub fn element_text(
         12 => p.hex(t, 8),
         13 => p.hex(t, 16),
         14 => string_number(t, p, strings),
-        _ => object_number(t, p, guide, first, last),
+        _ => object_number(t, p, guide, ranges),
     }
 }
 

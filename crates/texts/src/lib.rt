@@ -23,6 +23,7 @@ use elements::{element_text, put_bits};
 use numbers::write::put_v64;
 use paper::Ledger;
 use values::annotations::placed;
+use values::ranges::Ranges;
 use words::read::{Place, Scanned, peek};
 
 const TAB: u64 = 9;
@@ -57,19 +58,18 @@ pub fn next_element(
     e: u64,
     strings: u64,
     pools: &[u32],
-    first: &[u32],
-    last: &[u32],
+    ranges: &Ranges<'_>,
     out: &mut [u8],
     at: usize,
 ) -> Option<Taken>
-    requires { (element_kind? e ≡ true) × (length first.now ≡ length last.now) }
-    ensures { Told (behind_tab (kept strings pools.now first.now last.now e) e) (put_element e) t.now p.at out.old at out.new result }
+    requires { element_kind? e ≡ true }
+    ensures { Told (behind_tab (kept strings pools.now ranges.now.first.now ranges.now.last.now e) e) (put_element e) t.now p.at out.old at out.new result }
 {
     let word = p.byte(t, TAB)?;
     if e == 5 {
         return annotation_text(t, word, pools, out, at);
     }
-    let (n, next) = element_text(t, word, e, strings, pools, first, last)?;
+    let (n, next) = element_text(t, word, e, strings, pools, ranges)?;
     let end = put_bits(out, at, e, n);
     Some(Taken { next, at: end })
 }
@@ -99,16 +99,15 @@ fn next_elements(
     e: u64,
     strings: u64,
     pools: &[u32],
-    first: &[u32],
-    last: &[u32],
+    ranges: &Ranges<'_>,
     out: &mut [u8],
     at: usize,
 ) -> Option<Taken>
-    requires { (0 < m → element_kind? e ≡ true) × (length first.now ≡ length last.now) }
-    ensures { Told (repeat m (behind_tab (kept strings pools.now first.now last.now e) e)) (flat (put_element e)) t.now p.at out.old at out.new result }
+    requires { 0 < m → element_kind? e ≡ true }
+    ensures { Told (repeat m (behind_tab (kept strings pools.now ranges.now.first.now ranges.now.last.now e) e)) (flat (put_element e)) t.now p.at out.old at out.new result }
 {
     each(m, Taken { next: p, at }, out, |here, out| {
-        next_element(t, here.next, e, strings, pools, first, last, out, here.at)
+        next_element(t, here.next, e, strings, pools, ranges, out, here.at)
     })
 }
 
@@ -120,15 +119,14 @@ fn rest_of_line(
     e: u64,
     strings: u64,
     pools: &[u32],
-    first: &[u32],
-    last: &[u32],
+    ranges: &Ranges<'_>,
     out: &mut [u8],
     at: usize,
 ) -> Option<Taken>
-    requires { (0 < m → element_kind? e ≡ true) × (length first.now ≡ length last.now) }
-    ensures { Told (ended newline (repeat m (behind_tab (kept strings pools.now first.now last.now e) e))) (flat (put_element e)) t.now p.at out.old at out.new result }
+    requires { 0 < m → element_kind? e ≡ true }
+    ensures { Told (ended newline (repeat m (behind_tab (kept strings pools.now ranges.now.first.now ranges.now.last.now e) e))) (flat (put_element e)) t.now p.at out.old at out.new result }
 {
-    let k = next_elements(t, p, m, e, strings, pools, first, last, out, at)?;
+    let k = next_elements(t, p, m, e, strings, pools, ranges, out, at)?;
     let next = k.next.byte(t, NEWLINE)?;
     Some(Taken { next, at: k.at })
 }
@@ -141,16 +139,15 @@ fn value_text(
     e: u64,
     strings: u64,
     pools: &[u32],
-    first: &[u32],
-    last: &[u32],
+    ranges: &Ranges<'_>,
     out: &mut [u8],
     at: usize,
 ) -> Option<Taken>
-    requires { (0 < m → element_kind? e ≡ true) × (length first.now ≡ length last.now) }
-    ensures { Told (exactly m (kept strings pools.now first.now last.now e) e) (flat (put_element e)) t.now p.at out.old at out.new result }
+    requires { 0 < m → element_kind? e ≡ true }
+    ensures { Told (exactly m (kept strings pools.now ranges.now.first.now ranges.now.last.now e) e) (flat (put_element e)) t.now p.at out.old at out.new result }
 {
     let elements = p.literal(t, b"val")?;
-    rest_of_line(t, elements, m, e, strings, pools, first, last, out, at)
+    rest_of_line(t, elements, m, e, strings, pools, ranges, out, at)
 }
 
 // How many tabs are to come in the line: a list's length stands before its elements.
@@ -188,13 +185,12 @@ fn list_text(
     e: u64,
     strings: u64,
     pools: &[u32],
-    first: &[u32],
-    last: &[u32],
+    ranges: &Ranges<'_>,
     out: &mut [u8],
     at: usize,
 ) -> Option<Taken>
-    requires { (element_kind? e ≡ true) × (length first.now ≡ length last.now) }
-    ensures { Told (listed (kept strings pools.now first.now last.now e) e) (put_list e) t.now p.at out.old at out.new result }
+    requires { element_kind? e ≡ true }
+    ensures { Told (listed (kept strings pools.now ranges.now.first.now ranges.now.last.now e) e) (put_list e) t.now p.at out.old at out.new result }
 {
     let elements = p.literal(t, b"val")?;
     let m = elements_in(tabs_left(t, elements), e);
@@ -202,7 +198,7 @@ fn list_text(
         return None;
     }
     let behind = put_v64(out, at, m);
-    rest_of_line(t, elements, m, e, strings, pools, first, last, out, behind)
+    rest_of_line(t, elements, m, e, strings, pools, ranges, out, behind)
 }
 
 // The lines of n values with m elements each.
@@ -214,18 +210,15 @@ fn values_text(
     e: u64,
     strings: u64,
     pools: &[u32],
-    first: &[u32],
-    last: &[u32],
+    ranges: &Ranges<'_>,
     out: &mut [u8],
     at: usize,
 ) -> Option<Taken>
-    requires { (0 < m → element_kind? e ≡ true) × (length first.now ≡ length last.now) }
-    ensures { Told (repeat n (exactly m (kept strings pools.now first.now last.now e) e)) (flat (flat (put_element e))) t.now p.at out.old at out.new result }
+    requires { 0 < m → element_kind? e ≡ true }
+    ensures { Told (repeat n (exactly m (kept strings pools.now ranges.now.first.now ranges.now.last.now e) e)) (flat (flat (put_element e))) t.now p.at out.old at out.new result }
 {
     each(n as u64, Taken { next: p, at }, out, |here, out| {
-        value_text(
-            t, here.next, m, e, strings, pools, first, last, out, here.at,
-        )
+        value_text(t, here.next, m, e, strings, pools, ranges, out, here.at)
     })
 }
 
@@ -237,23 +230,21 @@ fn lists_text(
     e: u64,
     strings: u64,
     pools: &[u32],
-    first: &[u32],
-    last: &[u32],
+    ranges: &Ranges<'_>,
     out: &mut [u8],
     at: usize,
 ) -> Option<Taken>
-    requires { (element_kind? e ≡ true) × (length first.now ≡ length last.now) }
-    ensures { Told (repeat n (listed (kept strings pools.now first.now last.now e) e)) (flat (put_list e)) t.now p.at out.old at out.new result }
+    requires { element_kind? e ≡ true }
+    ensures { Told (repeat n (listed (kept strings pools.now ranges.now.first.now ranges.now.last.now e) e)) (flat (put_list e)) t.now p.at out.old at out.new result }
 {
     each(n as u64, Taken { next: p, at }, out, |here, out| {
-        list_text(t, here.next, e, strings, pools, first, last, out, here.at)
+        list_text(t, here.next, e, strings, pools, ranges, out, here.at)
     })
 }
 
 // The lines of a chunk's n values, whose kind has the first number k, a constant's bits or an array's length a, and the last
 // number e, laid as the bytes of the chunk. Of strings there are so many, of the base type that string s names there are
-// pools[s - 1] objects, and the objects of a type are those behind first[i] up to last[i], for each i. Only annotations ask for
-// pools, and only references for ranges. Maps have a way of their own.
+// pools[s - 1] objects. Only annotations ask for pools, and only references for ranges. Maps have a way of their own.
 pub fn chunk_text(
     t: &[u8],
     p: Place,
@@ -263,19 +254,18 @@ pub fn chunk_text(
     e: u64,
     strings: u64,
     pools: &[u32],
-    first: &[u32],
-    last: &[u32],
+    ranges: &Ranges<'_>,
     out: &mut [u8],
     at: usize,
 ) -> Option<Taken>
-    requires { Kinds k a e × (k ≡ 20 → ⊥) × (length first.now ≡ length last.now) }
-    ensures { ChunkTaken n k a e strings pools.now first.now last.now t.now p.at out.old at out.new result }
+    requires { Kinds k a e × (k ≡ 20 → ⊥) }
+    ensures { ChunkTaken n k a e strings pools.now ranges.now.first.now ranges.now.last.now t.now p.at out.old at out.new result }
 {
     match k {
         // A constant has no elements in its chunk.
-        0..=4 => values_text(t, p, n, 0, e, strings, pools, first, last, out, at),
-        15 => values_text(t, p, n, a, e, strings, pools, first, last, out, at),
-        17..=19 => lists_text(t, p, n, e, strings, pools, first, last, out, at),
-        _ => values_text(t, p, n, 1, e, strings, pools, first, last, out, at),
+        0..=4 => values_text(t, p, n, 0, e, strings, pools, ranges, out, at),
+        15 => values_text(t, p, n, a, e, strings, pools, ranges, out, at),
+        17..=19 => lists_text(t, p, n, e, strings, pools, ranges, out, at),
+        _ => values_text(t, p, n, 1, e, strings, pools, ranges, out, at),
     }
 }

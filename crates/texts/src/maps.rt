@@ -5,7 +5,6 @@ ghost use Rattle.paper.specs.Lists.{all};
 ghost use Rattle.paper.specs.Rules.{element_kind?};
 ghost use Rattle.laws.specs.Put.{put_element};
 ghost use Rattle.words.specs.Answers.{out_number};
-ghost use Rattle.values.specs.Spans.{Grouped};
 ghost use Rattle.texts.specs.Told.{Told};
 ghost use Rattle.texts.specs.Maps.{size_word, put_map, put_key};
 ghost use Rattle.texts.specs.MapWays.{word_in, map_in, key_in, line_in};
@@ -14,39 +13,25 @@ ghost use Rattle.texts.specs.MapLines.{MapsTaken};
 use crate::{NEWLINE, TAB, Taken, each, next_element};
 use numbers::write::put_v64;
 use paper::Ledger;
-use values::maps::span_of;
+use values::maps::ranges_of;
+use values::ranges::Groups;
 use words::read::{Place, Scanned};
 
-// An element of kind k in a map. The ranges of type t stand in first and last from starts[t] up to starts[t + 1].
+// An element of kind k in a map.
 fn word_text(
     t: &[u8],
     p: Place,
     k: u64,
     strings: u64,
     pools: &[u32],
-    starts: &[u32],
-    first: &[u32],
-    last: &[u32],
+    groups: &Groups<'_>,
     out: &mut [u8],
     at: usize,
 ) -> Option<Taken>
-    requires { (element_kind? k ≡ true) × Grouped starts.now first.now last.now }
-    ensures { Told (word_in strings pools.now starts.now first.now last.now k) (put_element k) t.now p.at out.old at out.new result }
+    requires { element_kind? k ≡ true }
+    ensures { Told (word_in strings pools.now groups.now.starts.now groups.now.first.now groups.now.last.now k) (put_element k) t.now p.at out.old at out.new result }
 {
-    let s = span_of(starts, k);
-    let from = s.from;
-    let to = s.to;
-    next_element(
-        t,
-        p,
-        k,
-        strings,
-        pools,
-        &first[from..to],
-        &last[from..to],
-        out,
-        at,
-    )
+    next_element(t, p, k, strings, pools, &ranges_of(groups, k), out, at)
 }
 
 // A size: a number that a file can have there.
@@ -70,17 +55,15 @@ fn map_text(
     kinds: &[u64],
     strings: u64,
     pools: &[u32],
-    starts: &[u32],
-    first: &[u32],
-    last: &[u32],
+    groups: &Groups<'_>,
     out: &mut [u8],
     at: usize,
 ) -> Option<Taken>
-    requires { (1 ≤ length kinds.now) × (all element_kind? kinds.now ≡ true) × Grouped starts.now first.now last.now }
-    ensures { Told (map_in strings pools.now starts.now first.now last.now kinds.now) (put_map kinds.now) t.now p.at out.old at out.new result }
+    requires { (1 ≤ length kinds.now) × (all element_kind? kinds.now ≡ true) }
+    ensures { Told (map_in strings pools.now groups.now.starts.now groups.now.first.now groups.now.last.now kinds.now) (put_map kinds.now) t.now p.at out.old at out.new result }
 {
     if kinds.len() == 1 {
-        return word_text(t, p, kinds[0], strings, pools, starts, first, last, out, at);
+        return word_text(t, p, kinds[0], strings, pools, groups, out, at);
     }
     let (n, begin) = size_text(t, p)?;
     let behind = put_v64(out, at, n);
@@ -90,9 +73,7 @@ fn map_text(
     };
     // `each` would take a closure that is one of the cycle, and would have to give the measure of its calls as clauses of its own.
     for _ in 0..n {
-        here = key_and_rest_text(
-            t, here.next, kinds, strings, pools, starts, first, last, out, here.at,
-        )?;
+        here = key_and_rest_text(t, here.next, kinds, strings, pools, groups, out, here.at)?;
     }
     Some(here)
 }
@@ -105,28 +86,15 @@ fn key_and_rest_text(
     kinds: &[u64],
     strings: u64,
     pools: &[u32],
-    starts: &[u32],
-    first: &[u32],
-    last: &[u32],
+    groups: &Groups<'_>,
     out: &mut [u8],
     at: usize,
 ) -> Option<Taken>
-    requires { (2 ≤ length kinds.now) × (all element_kind? kinds.now ≡ true) × Grouped starts.now first.now last.now }
-    ensures { Told (key_in strings pools.now starts.now first.now last.now kinds.now) (put_key kinds.now) t.now p.at out.old at out.new result }
+    requires { (2 ≤ length kinds.now) × (all element_kind? kinds.now ≡ true) }
+    ensures { Told (key_in strings pools.now groups.now.starts.now groups.now.first.now groups.now.last.now kinds.now) (put_key kinds.now) t.now p.at out.old at out.new result }
 {
-    let k = word_text(t, p, kinds[0], strings, pools, starts, first, last, out, at)?;
-    map_text(
-        t,
-        k.next,
-        &kinds[1..],
-        strings,
-        pools,
-        starts,
-        first,
-        last,
-        out,
-        k.at,
-    )
+    let k = word_text(t, p, kinds[0], strings, pools, groups, out, at)?;
+    map_text(t, k.next, &kinds[1..], strings, pools, groups, out, k.at)
 }
 
 // The line of a map.
@@ -136,19 +104,15 @@ fn line_text(
     kinds: &[u64],
     strings: u64,
     pools: &[u32],
-    starts: &[u32],
-    first: &[u32],
-    last: &[u32],
+    groups: &Groups<'_>,
     out: &mut [u8],
     at: usize,
 ) -> Option<Taken>
-    requires { (1 ≤ length kinds.now) × (all element_kind? kinds.now ≡ true) × Grouped starts.now first.now last.now }
-    ensures { Told (line_in strings pools.now starts.now first.now last.now kinds.now) (put_map kinds.now) t.now p.at out.old at out.new result }
+    requires { (1 ≤ length kinds.now) × (all element_kind? kinds.now ≡ true) }
+    ensures { Told (line_in strings pools.now groups.now.starts.now groups.now.first.now groups.now.last.now kinds.now) (put_map kinds.now) t.now p.at out.old at out.new result }
 {
     let words = p.literal(t, b"val")?;
-    let k = map_text(
-        t, words, kinds, strings, pools, starts, first, last, out, at,
-    )?;
+    let k = map_text(t, words, kinds, strings, pools, groups, out, at)?;
     let next = k.next.byte(t, NEWLINE)?;
     Some(Taken { next, at: k.at })
 }
@@ -161,18 +125,14 @@ pub fn maps_text(
     kinds: &[u64],
     strings: u64,
     pools: &[u32],
-    starts: &[u32],
-    first: &[u32],
-    last: &[u32],
+    groups: &Groups<'_>,
     out: &mut [u8],
     at: usize,
 ) -> Option<Taken>
-    requires { (1 ≤ length kinds.now) × (all element_kind? kinds.now ≡ true) × Grouped starts.now first.now last.now }
-    ensures { MapsTaken n strings pools.now starts.now first.now last.now kinds.now t.now p.at out.old at out.new result }
+    requires { (1 ≤ length kinds.now) × (all element_kind? kinds.now ≡ true) }
+    ensures { MapsTaken n strings pools.now groups.now.starts.now groups.now.first.now groups.now.last.now kinds.now t.now p.at out.old at out.new result }
 {
     each(n as u64, Taken { next: p, at }, out, |here, out| {
-        line_text(
-            t, here.next, kinds, strings, pools, starts, first, last, out, here.at,
-        )
+        line_text(t, here.next, kinds, strings, pools, groups, out, here.at)
     })
 }

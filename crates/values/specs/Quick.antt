@@ -1,6 +1,6 @@
 -- The quick way over elements: the place behind one is all that is answered, and bounds are all that it is held to. Assumes nothing.
-use Rattle.std.specs.Prelude.{Ok, ◌≡◌, ℕ, ◌+◌, ◌-◌, ◌<◌, ◌≤◌, Bool, true, false, ◌||◌, List, length, take, drop, ◌==◌, ◌≢◌, slice_index, slice_index_or, slice_range, refl}
-use Rattle.std.proofs.Common.{sym, ap, ◌∙◌, arith, length-take, length-drop, drop-cons}
+use Rattle.std.specs.Prelude.{Ok, ◌≡◌, ℕ, ◌+◌, ◌-◌, ◌<◌, ◌≤◌, Bool, true, false, ◌||◌, List, length, ◌==◌, ◌≢◌, slice_index, slice_index_or, refl}
+use Rattle.std.proofs.Common.{sym, ap, ◌∙◌, arith}
 use Rattle.std.proofs.Math.Nat.{lt_of_not-le}
 use Rattle.std.proofs.Math.Decide.{dec_le}
 use borrow.Author.Tests.{le-leb, lt-leb, eq-eqb}
@@ -13,7 +13,7 @@ use Rattle.values.specs.Pass.{forget, Passed, Running, running-on, running-done}
 use Rattle.values.specs.Turns.{turning-start}
 use Rattle.values.specs.Held.{fixed-there}
 use Rattle.values.specs.Items.{in_range, range-found, linked, at_most, some_object, item, item-object}
-use Rattle.values.specs.Spans.{ranges, item_in, Grouped, Spanned, lendable, parts-match}
+use Rattle.values.specs.Spans.{ranges, item_in}
 use Rattle.values.specs.Ways.{key_in, way-last}
 use Rattle.values.specs.declared.maps.Bounds.{Bounds}
 
@@ -142,24 +142,16 @@ module _ (first last : List ℕ) (one : length first ≡ 1) (same : length first
             linked-over (some_object first last) N.reads (one-object N.value (omega (arith, N.within.most short, high)) (λ z. omega (arith, N.within.least short z, low))) S.inside;
       }
 
-range-head : (l : List ℕ) (from : ℕ) → from < length l → slice_index (take 1 (drop from l)) 0 ≡ slice_index l from
-range-head l from h = rw (drop-cons l from 0 h)
-
+-- of a type with one range
 pub quick-object :
-    {starts first last : List ℕ} {k from to : ℕ} {b : Bounds} → 32 ≤ k → Grouped starts first last → Spanned starts k from to → to - from ≡ 1
-    → b.width ≡ 0 → b.low ≡ slice_index first from → b.high ≡ slice_index last from → b.high < FAR
+    (starts first last : List ℕ) {own-first own-last : List ℕ} {k : ℕ} {b : Bounds} → 32 ≤ k
+    → (own-first ≡ ranges starts k first) × (own-last ≡ ranges starts k last) → length own-first ≡ length own-last → length own-first ≡ 1
+    → b.width ≡ 0 → b.low ≡ slice_index own-first 0 → b.high ≡ slice_index own-last 0 → b.high < FAR
     → (strings : ℕ) (pools : List ℕ) → Quick (item_in strings pools starts first last k) b
-unfolding item_in ranges
-quick-object {starts} {first} {last} {k} {from} {to} {b} big G S one is low high short strings pools =
-    let L = lendable G S in
-    let up = L.rising in
-    let i = L.in-first in
-    let j = L.in-last in
-    let Q : Quick (linked (some_object (slice_range first from to) (slice_range last from to))) b =
-    quick-linked (slice_range first from to) (slice_range last from to) (rw (length-take, length-drop) (omega arith)) (parts-match L)
-    is (low ∙ sym (rw one (range-head first from (omega arith)))) (high ∙ sym (rw one (range-head last from (omega arith)))) short in
-    let own : Quick (linked (some_object (ranges starts k first) (ranges starts k last))) b = rw (S.from_is, S.to_is) at Q in
-    rw (item-object strings pools (ranges starts k first) (ranges starts k last) k big) own
+unfolding item_in
+quick-object starts first last {own-first} {own-last} {k} {b} big own same one is low high short strings pools =
+    let Q : Quick (linked (some_object own-first own-last)) b = quick-linked own-first own-last one same is low high short in
+    rw (item-object strings pools (ranges starts k first) (ranges starts k last) k big) (rw (own.0, own.1) at Q)
 
 -- by the reader of the kind
 pub quick-item :

@@ -82,6 +82,13 @@ lendable {starts} {first} {last} {k} G S = rw (S.from_is, S.to_is) (go (nat_le 3
     go true t false u = record { rising = omega arith; in-first = omega arith; in-last = omega arith }
     go false t y u = record { rising = omega arith; in-first = omega arith; in-last = omega arith }
 
+-- it is the type's own
+pub lent-own :
+    {starts : List ℕ} {k from to : ℕ} (first last : List ℕ) → Spanned starts k from to
+    → (slice_range first from to ≡ ranges starts k first) × (slice_range last from to ≡ ranges starts k last)
+unfolding ranges
+lent-own first last S = (rw (S.from_is, S.to_is) refl, rw (S.from_is, S.to_is) refl)
+
 -- both parts are as long
 pub parts-match : {first last : List ℕ} {from to : ℕ} → Lendable first last from to → length (slice_range first from to) ≡ length (slice_range last from to)
 parts-match {first} {last} {from} {to} L =
@@ -101,15 +108,15 @@ item-direct strings pools starts first last k q is P = rw (is (ranges starts k f
 pub one-passed : (q : Reader ℕ) {f : List ℕ} {at : ℕ} {a : Outcome ℕ} → Passed (repeat 1 q) f at a → Passed q f at a
 one-passed q P = passed-as P (alike-back (alike-one q))
 
--- that of a type is held to the lent part
-pub item-lent :
-    (strings : ℕ) (pools starts first last : List ℕ) {k from to : ℕ} {f : List ℕ} {at : ℕ} {a : Outcome ℕ} → 32 ≤ k → Spanned starts k from to
-    → Passed (repeat 1 (linked (some_object (slice_range first from to) (slice_range last from to)))) f at a
+-- that of a type is held to its own ranges
+pub item-own :
+    (strings : ℕ) (pools starts first last : List ℕ) {k : ℕ} {own-first own-last f : List ℕ} {at : ℕ} {a : Outcome ℕ} → 32 ≤ k
+    → (own-first ≡ ranges starts k first) × (own-last ≡ ranges starts k last)
+    → Passed (repeat 1 (linked (some_object own-first own-last))) f at a
     → Passed (item_in strings pools starts first last k) f at a
-unfolding item_in ranges
-item-lent strings pools starts first last {k} {from} {to} {f} {at} {a} big S P =
-    let own : Passed (repeat 1 (linked (some_object (ranges starts k first) (ranges starts k last)))) f at a = rw (S.from_is, S.to_is) at P in
-    rw (item-object strings pools (ranges starts k first) (ranges starts k last) k big) (one-passed (linked (some_object (ranges starts k first) (ranges starts k last))) own)
+unfolding item_in
+item-own strings pools starts first last {k} big own P =
+    rw (item-object strings pools (ranges starts k first) (ranges starts k last) k big) (one-passed _ (rw (own.0, own.1) at P))
 
 -- those of a fixed width
 module _ (strings : ℕ) (pools : List ℕ) {k : ℕ} where

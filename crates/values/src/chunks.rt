@@ -8,6 +8,7 @@ ghost use Rattle.values.specs.Items.{Checked};
 ghost use Rattle.values.specs.Chunks.{counted, list_of, Reads, RunsOf, Kinds, ChunkChecked};
 
 use crate::annotations::annotations;
+use crate::ranges::Ranges;
 use crate::references::guided_references;
 use crate::runs::{bools, fixed_widths, string_numbers, strings_in_turn, v64s};
 use numbers::{Cursor, Outcome};
@@ -26,8 +27,8 @@ fn width(k: u64) -> u64
 }
 
 // m elements of kind k, one after the other: the cursor behind them, or the first refusal. Of strings there are so many, of the
-// base type that string s names there are pools[s - 1] objects, and the objects of a type are those behind first[i] up to last[i],
-// for each i. Only annotations ask for pools, and only references for ranges; a guide to these stands where the pools would.
+// base type that string s names there are pools[s - 1] objects. Only annotations ask for pools, and only references for ranges; a guide
+// to these stands where the pools would.
 pub fn elements(
     part: &[u8],
     c: Cursor,
@@ -35,11 +36,10 @@ pub fn elements(
     k: u64,
     strings: u64,
     pools: &[u32],
-    first: &[u32],
-    last: &[u32],
+    ranges: &Ranges<'_>,
 ) -> Outcome<u64>
-    requires { (element_kind? k ≡ true) × (c.at ≤ length part.now) × (length first.now ≡ length last.now) }
-    ensures { Checked m k strings pools.now first.now last.now part.now c.at result }
+    requires { (element_kind? k ≡ true) × (c.at ≤ length part.now) }
+    ensures { Checked m k strings pools.now ranges.now.first.now ranges.now.last.now part.now c.at result }
 {
     match k {
         5 => annotations(part, c, m, pools),
@@ -47,7 +47,7 @@ pub fn elements(
         7..=10 | 12..=13 => fixed_widths(part, c, m, width(k)),
         11 => v64s(part, c, m),
         14 => string_numbers(part, c, m, strings),
-        32..=18446744073709551615 => guided_references(part, c, m, pools, first, last),
+        32..=18446744073709551615 => guided_references(part, c, m, pools, ranges),
         // No element has such a kind.
         0..=4 | 15..=31 => Ok((0, c)),
     }
@@ -75,11 +75,10 @@ fn lists_of(
     e: u64,
     strings: u64,
     pools: &[u32],
-    first: &[u32],
-    last: &[u32],
+    ranges: &Ranges<'_>,
 ) -> Outcome<u64>
-    requires { (element_kind? e ≡ true) × (length first.now ≡ length last.now) }
-    ensures { Passed (repeat n (list_of strings pools.now first.now last.now e)) part.now 0 result }
+    requires { element_kind? e ≡ true }
+    ensures { Passed (repeat n (list_of strings pools.now ranges.now.first.now ranges.now.last.now e)) part.now 0 result }
 {
     match e {
         5 => lists_by(part, n, move |c, m| annotations(part, c, m, pools)),
@@ -94,7 +93,7 @@ fn lists_of(
             lists_by(
                 part,
                 n,
-                move |c, m| guided_references(part, c, m, pools, first, last),
+                move |c, m| guided_references(part, c, m, pools, ranges),
             )
         }
         // No element has such a kind.
@@ -112,11 +111,10 @@ pub fn chunk_values(
     e: u64,
     strings: u64,
     pools: &[u32],
-    first: &[u32],
-    last: &[u32],
+    ranges: &Ranges<'_>,
 ) -> Outcome<u64>
-    requires { Kinds k a e × (4 < k) × (k ≢ 20) × (length first.now ≡ length last.now) }
-    ensures { ChunkChecked n k a e strings pools.now first.now last.now part.now result }
+    requires { Kinds k a e × (4 < k) × (k ≢ 20) }
+    ensures { ChunkChecked n k a e strings pools.now ranges.now.first.now ranges.now.last.now part.now result }
 {
     let start = Cursor { at: 0 };
     let values = n as u64;
@@ -124,9 +122,9 @@ pub fn chunk_values(
         // Arrays of one length lie there as one run of elements.
         15 => {
             let all = values * a;
-            elements(part, start, all, e, strings, pools, first, last)
+            elements(part, start, all, e, strings, pools, ranges)
         }
-        17..=19 => lists_of(part, values, e, strings, pools, first, last),
-        _ => elements(part, start, values, e, strings, pools, first, last),
+        17..=19 => lists_of(part, values, e, strings, pools, ranges),
+        _ => elements(part, start, values, e, strings, pools, ranges),
     }
 }

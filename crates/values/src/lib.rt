@@ -8,5 +8,6 @@ pub mod columns;
 pub mod constants;
 pub mod guides;
 pub mod maps;
+pub mod ranges;
 pub mod references;
 pub mod runs;

@@ -7,12 +7,13 @@ ghost use Rattle.paper.specs.Numbers.{put_fixed};
 ghost use Rattle.paper.specs.Calls.{over_front};
 ghost use Rattle.values.specs.Pass.{Passed};
 ghost use Rattle.values.specs.Items.{item};
-ghost use Rattle.values.specs.Spans.{Grouped, Spanned, item_in};
+ghost use Rattle.values.specs.Spans.{Spanned, ranges, item_in};
 ghost use Rattle.values.specs.Ways.{map_in, key_in};
 ghost use Rattle.values.specs.MapChunks.{MapsChecked};
 ghost use Rattle.values.specs.Quick.{Within, Stands, Quick, Skips, Paired};
 
 use crate::annotations::annotations;
+use crate::ranges::{Groups, Ranges};
 use crate::references::references;
 use crate::runs::{bools, number_up_to};
 use numbers::{Cursor, Outcome};
@@ -48,14 +49,14 @@ pub fn map_kinds(types: u64, packed: u64, kinds: &mut [u64]) -> usize
 
 // A part of the lists in which the ranges of all types stand.
 #[derive(Clone, Copy)]
-pub struct Span {
-    pub from: usize,
-    pub to: usize,
+struct Span {
+    from: usize,
+    to: usize,
 }
 
 // The ranges of the type that kind k names: those of type t stand from starts[t] up to starts[t + 1]. Where it names none, or one
 // that has none here, the part is empty.
-pub fn span_of(starts: &[u32], k: u64) -> Span
+fn span_of(starts: &[u32], k: u64) -> Span
     ensures { Spanned starts.now k result.from result.to }
 {
     if k < 32 {
@@ -71,22 +72,25 @@ pub fn span_of(starts: &[u32], k: u64) -> Span
     Span { from, to }
 }
 
-// An element in a map whose kind k names a type: it is held to the part of the ranges that are this type's own.
-fn linked_element(
-    part: &[u8],
-    c: Cursor,
-    k: u64,
-    starts: &[u32],
-    first: &[u32],
-    last: &[u32],
-) -> Outcome<u64>
-    requires { (32 ≤ k) × Grouped starts.now first.now last.now }
-    ensures { (strings : ℕ) (pools : List ℕ) → Passed (item_in strings pools starts.now first.now last.now k) part.now c.at result }
+// The ranges of the type that kind k names.
+pub fn ranges_of<'a>(groups: &Groups<'a>, k: u64) -> Ranges<'a>
+    ensures { (result.first.now ≡ ranges groups.now.starts.now k groups.now.first.now) × (result.last.now ≡ ranges groups.now.starts.now k groups.now.last.now) }
 {
-    let s = span_of(starts, k);
+    let s = span_of(groups.starts, k);
     let from = s.from;
     let to = s.to;
-    references(part, c, 1, &first[from..to], &last[from..to])
+    Ranges {
+        first: &groups.first[from..to],
+        last: &groups.last[from..to],
+    }
+}
+
+// An element in a map whose kind k names a type: it is held to the part of the ranges that are this type's own.
+fn linked_element(part: &[u8], c: Cursor, k: u64, groups: &Groups<'_>) -> Outcome<u64>
+    requires { 32 ≤ k }
+    ensures { (strings : ℕ) (pools : List ℕ) → Passed (item_in strings pools groups.now.starts.now groups.now.first.now groups.now.last.now k) part.now c.at result }
+{
+    references(part, c, 1, &ranges_of(groups, k))
 }
 
 // An element of kind k in a map. Most kinds are read by the reader of their number, with no loop around it.
@@ -96,12 +100,10 @@ fn element(
     k: u64,
     strings: u64,
     pools: &[u32],
-    starts: &[u32],
-    first: &[u32],
-    last: &[u32],
+    groups: &Groups<'_>,
 ) -> Outcome<u64>
-    requires { (element_kind? k ≡ true) × (c.at ≤ length part.now) × Grouped starts.now first.now last.now }
-    ensures { Passed (item_in strings pools.now starts.now first.now last.now k) part.now c.at result }
+    requires { (element_kind? k ≡ true) × (c.at ≤ length part.now) }
+    ensures { Passed (item_in strings pools.now groups.now.starts.now groups.now.first.now groups.now.last.now k) part.now c.at result }
 {
     match k {
         5 => annotations(part, c, 1, pools),
@@ -112,7 +114,7 @@ fn element(
         10 | 13 => c.be::<8>(part),
         11 => c.v64(part),
         14 => number_up_to(part, c, strings),
-        _ => linked_element(part, c, k, starts, first, last),
+        _ => linked_element(part, c, k, groups),
     }
 }
 
@@ -238,22 +240,21 @@ fn string_bounds(strings: u64) -> Bounds
 }
 
 // The bounds of an object's number, where kind k names a type that has one range.
-fn linked_bounds(k: u64, starts: &[u32], first: &[u32], last: &[u32]) -> Bounds
-    requires { (32 ≤ k) × Grouped starts.now first.now last.now }
-    ensures { (strings : ℕ) (pools : List ℕ) → Quick (item_in strings pools starts.now first.now last.now k) result }
+fn linked_bounds(k: u64, groups: &Groups<'_>) -> Bounds
+    requires { 32 ≤ k }
+    ensures { (strings : ℕ) (pools : List ℕ) → Quick (item_in strings pools groups.now.starts.now groups.now.first.now groups.now.last.now k) result }
 {
-    let s = span_of(starts, k);
-    let from = s.from;
-    if s.to - from == 1 {
-        return number_bounds(u64::from(first[from]), u64::from(last[from]));
+    let own = ranges_of(groups, k);
+    if own.first.len() == 1 {
+        return number_bounds(u64::from(own.first[0]), u64::from(own.last[0]));
     }
     wide_bounds(9)
 }
 
 // The bounds of an element of kind k. Annotations and bools have no quick way.
-fn bounds_of(k: u64, strings: u64, starts: &[u32], first: &[u32], last: &[u32]) -> Bounds
-    requires { (element_kind? k ≡ true) × Grouped starts.now first.now last.now }
-    ensures { (pools : List ℕ) → Quick (item_in strings pools starts.now first.now last.now k) result }
+fn bounds_of(k: u64, strings: u64, groups: &Groups<'_>) -> Bounds
+    requires { element_kind? k ≡ true }
+    ensures { (pools : List ℕ) → Quick (item_in strings pools groups.now.starts.now groups.now.first.now groups.now.last.now k) result }
 {
     match k {
         5 | 6 => wide_bounds(9),
@@ -263,7 +264,7 @@ fn bounds_of(k: u64, strings: u64, starts: &[u32], first: &[u32], last: &[u32]) 
         10 | 13 => wide_bounds(8),
         11 => number_bounds(0, 18446744073709551615),
         14 => string_bounds(strings),
-        _ => linked_bounds(k, starts, first, last),
+        _ => linked_bounds(k, groups),
     }
 }
 
@@ -273,14 +274,12 @@ fn element_behind(
     at: usize,
     k: u64,
     strings: u64,
-    starts: &[u32],
-    first: &[u32],
-    last: &[u32],
+    groups: &Groups<'_>,
 ) -> Option<usize>
-    requires { (element_kind? k ≡ true) × (at ≤ length part.now) × Grouped starts.now first.now last.now }
-    ensures { IfSome result (λ e. (pools : List ℕ) → Skips (item_in strings pools starts.now first.now last.now k) part.now at e) }
+    requires { (element_kind? k ≡ true) × (at ≤ length part.now) }
+    ensures { IfSome result (λ e. (pools : List ℕ) → Skips (item_in strings pools groups.now.starts.now groups.now.first.now groups.now.last.now k) part.now at e) }
 {
-    let b = bounds_of(k, strings, starts, first, last);
+    let b = bounds_of(k, strings, groups);
     one_behind(part, at, b.width, b.low, b.high)
 }
 
@@ -292,26 +291,24 @@ fn map(
     kinds: &[u64],
     strings: u64,
     pools: &[u32],
-    starts: &[u32],
-    first: &[u32],
-    last: &[u32],
+    groups: &Groups<'_>,
 ) -> Outcome<u64>
     requires in_bounds { (2 ≤ length kinds.now) × (all element_kind? kinds.now ≡ true) }
-    requires at_in_bounds { (c.at ≤ length part.now) × Grouped starts.now first.now last.now }
-    ensures { Passed (map_in strings pools.now starts.now first.now last.now kinds.now) part.now c.at result }
+    requires at_in_bounds { c.at ≤ length part.now }
+    ensures { Passed (map_in strings pools.now groups.now.starts.now groups.now.first.now groups.now.last.now kinds.now) part.now c.at result }
 {
     let (n, begin) = c.small(part)?;
     // The last two types have most of the elements.
     if kinds.len() < 3 {
-        let key = bounds_of(kinds[0], strings, starts, first, last);
-        let value = bounds_of(kinds[1], strings, starts, first, last);
+        let key = bounds_of(kinds[0], strings, groups);
+        let value = bounds_of(kinds[1], strings, groups);
         if let Some(at) = pairs_behind(part, begin.at, n, key, value) {
             return Ok((0, Cursor { at }));
         }
     }
     let mut here = begin;
     for _ in 0..n {
-        let (_, next) = key_and_rest(part, here, kinds, strings, pools, starts, first, last)?;
+        let (_, next) = key_and_rest(part, here, kinds, strings, pools, groups)?;
         here = next;
     }
     Ok((0, here))
@@ -325,25 +322,23 @@ fn key_and_rest(
     kinds: &[u64],
     strings: u64,
     pools: &[u32],
-    starts: &[u32],
-    first: &[u32],
-    last: &[u32],
+    groups: &Groups<'_>,
 ) -> Outcome<u64>
     requires in_bounds { (2 ≤ length kinds.now) × (all element_kind? kinds.now ≡ true) }
-    requires at_in_bounds { (c.at ≤ length part.now) × Grouped starts.now first.now last.now }
-    ensures { Passed (key_in strings pools.now starts.now first.now last.now kinds.now) part.now c.at result }
+    requires at_in_bounds { c.at ≤ length part.now }
+    ensures { Passed (key_in strings pools.now groups.now.starts.now groups.now.first.now groups.now.last.now kinds.now) part.now c.at result }
 {
     if 2 < kinds.len() {
-        if let Some(at) = element_behind(part, c.at, kinds[0], strings, starts, first, last) {
+        if let Some(at) = element_behind(part, c.at, kinds[0], strings, groups) {
             let rest = Cursor { at };
-            return map(part, rest, &kinds[1..], strings, pools, starts, first, last);
+            return map(part, rest, &kinds[1..], strings, pools, groups);
         }
     }
-    let (_, next) = element(part, c, kinds[0], strings, pools, starts, first, last)?;
+    let (_, next) = element(part, c, kinds[0], strings, pools, groups)?;
     if kinds.len() == 2 {
-        return element(part, next, kinds[1], strings, pools, starts, first, last);
+        return element(part, next, kinds[1], strings, pools, groups);
     }
-    map(part, next, &kinds[1..], strings, pools, starts, first, last)
+    map(part, next, &kinds[1..], strings, pools, groups)
 }
 
 // n maps, from the chunk's start on.
@@ -353,16 +348,14 @@ pub fn maps(
     kinds: &[u64],
     strings: u64,
     pools: &[u32],
-    starts: &[u32],
-    first: &[u32],
-    last: &[u32],
+    groups: &Groups<'_>,
 ) -> Outcome<u64>
-    requires { (2 ≤ length kinds.now) × (all element_kind? kinds.now ≡ true) × Grouped starts.now first.now last.now }
-    ensures { MapsChecked n strings pools.now starts.now first.now last.now kinds.now part.now result }
+    requires { (2 ≤ length kinds.now) × (all element_kind? kinds.now ≡ true) }
+    ensures { MapsChecked n strings pools.now groups.now.starts.now groups.now.first.now groups.now.last.now kinds.now part.now result }
 {
     let mut here = Cursor { at: 0 };
     for _ in 0..n {
-        let (_, next) = map(part, here, kinds, strings, pools, starts, first, last)?;
+        let (_, next) = map(part, here, kinds, strings, pools, groups)?;
         here = next;
     }
     Ok((0, here))

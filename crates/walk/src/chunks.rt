@@ -24,6 +24,7 @@ use table::rows::{DueRow, FieldRow, field_at, strings};
 use values::chunks::chunk_values;
 use values::guides::make_guide;
 use values::maps::{map_kinds, maps};
+use values::ranges::{Groups, Ranges};
 
 // n values whose elements refer to objects of these ranges, which are looked for by a guide.
 fn guided_values(
@@ -31,14 +32,13 @@ fn guided_values(
     n: u32,
     kind: FieldRow,
     strings: u64,
-    first: &[u32],
-    last: &[u32],
+    ranges: &Ranges<'_>,
 ) -> Outcome<u64>
-    requires { Kinds kind.kind kind.a kind.e × (4 < kind.kind) × (kind.kind ≡ 20 → ⊥) × (length first.now ≡ length last.now) }
-    ensures { Ranged n kind.kind kind.a kind.e strings first.now last.now part.now result }
+    requires { Kinds kind.kind kind.a kind.e × (4 < kind.kind) × (kind.kind ≡ 20 → ⊥) }
+    ensures { Ranged n kind.kind kind.a kind.e strings ranges.now.first.now ranges.now.last.now part.now result }
 {
     let mut guide = [0u32; 65];
-    make_guide(last, &mut guide);
+    make_guide(ranges.last, &mut guide);
     chunk_values(
         part,
         n,
@@ -47,8 +47,7 @@ fn guided_values(
         kind.e,
         strings,
         &guide,
-        first,
-        last,
+        ranges,
     )
 }
 
@@ -58,15 +57,14 @@ fn ranged_values(
     n: u32,
     kind: FieldRow,
     strings: u64,
-    first: &[u32],
-    last: &[u32],
+    ranges: &Ranges<'_>,
 ) -> Outcome<u64>
-    requires { Kinds kind.kind kind.a kind.e × (4 < kind.kind) × (kind.kind ≡ 20 → ⊥) × (length first.now ≡ length last.now) }
-    ensures { Ranged n kind.kind kind.a kind.e strings first.now last.now part.now result }
+    requires { Kinds kind.kind kind.a kind.e × (4 < kind.kind) × (kind.kind ≡ 20 → ⊥) }
+    ensures { Ranged n kind.kind kind.a kind.e strings ranges.now.first.now ranges.now.last.now part.now result }
 {
     if 64 < n {
-        if 1 < first.len() {
-            return guided_values(part, n, kind, strings, first, last);
+        if 1 < ranges.first.len() {
+            return guided_values(part, n, kind, strings, ranges);
         }
     }
     chunk_values(
@@ -76,9 +74,8 @@ fn ranged_values(
         kind.a,
         kind.e,
         strings,
-        &first[..0],
-        first,
-        last,
+        &[],
+        ranges,
     )
 }
 
@@ -123,7 +120,11 @@ fn gathered_values(part: &[u8], n: u32, kind: FieldRow, work: &[u32]) -> Outcome
     let mut first = [0u32; Ledger::PAIRS as usize];
     let mut last = [0u32; Ledger::PAIRS as usize];
     let k = gather(work, kind.e - 32, &mut first, &mut last, 32);
-    ranged_values(part, n, kind, strings(work) as u64, &first[k..], &last[k..])
+    let ranges = Ranges {
+        first: &first[k..],
+        last: &last[k..],
+    };
+    ranged_values(part, n, kind, strings(work) as u64, &ranges)
 }
 
 // The same, for any number of values. One reference is no reason to gather ranges; of several each could cost a walk of its own.
@@ -160,9 +161,11 @@ fn grouped_values(part: &[u8], n: u32, kinds: &[u64], pools: &[u32], work: &[u32
         kinds,
         strings(work) as u64,
         pools,
-        &starts,
-        &first,
-        &last,
+        &Groups {
+            starts: &starts,
+            first: &first,
+            last: &last,
+        },
     )
 }
 
@@ -181,9 +184,11 @@ fn mapped_values(part: &[u8], n: u32, kinds: &[u64], pools: &[u32], work: &[u32]
         kinds,
         strings(work) as u64,
         pools,
-        &work[..0],
-        &work[..0],
-        &work[..0],
+        &Groups {
+            starts: &[],
+            first: &[],
+            last: &[],
+        },
     )
 }
 
@@ -223,8 +228,10 @@ fn values_of(part: &[u8], n: u32, kind: FieldRow, pools: &[u32], work: &[u32]) -
         kind.e,
         strings(work) as u64,
         pools,
-        &work[..0],
-        &work[..0],
+        &Ranges {
+            first: &[],
+            last: &[],
+        },
     )
 }
 

@@ -4,8 +4,5 @@ use Rattle.lookups.specs.Group.{none-grouped}
 use Rattle.regions.specs.Chunk.{maps-told}
 use Rattle.regions.proofs.mapped_bytes.Goals as goal
 
-pub maps_text-requires : goal.maps_text-requires
-maps_text-requires c = (c.requires.in_bounds.0, c.requires.in_bounds.1, (none-grouped c.args.kinds.now c.args.work.now (sym c.refers.ensures ∙ c.if-refers.false)).grouped)
-
 pub returns : goal.returns
 returns c = maps-told c.requires.holds.0 c.strings.ensures (none-grouped c.args.kinds.now c.args.work.now (sym c.refers.ensures ∙ c.if-refers.false)) c.requires.holds.2 c.maps_text.ensures

@@ -19,4 +19,4 @@ pub returns-in-7-to-11 : goal.returns-in-7-to-11
 returns-in-7-to-11 c pools = c.whole.ensures _ c.half.ensures.0 ∙ reckoned-whole _ pools _ _ _ _ _ (omega arith) (omega arith)
 
 pub returns-in_default : goal.returns-in_default
-returns-in_default c pools = c.object_number.ensures ∙ reckoned-object _ pools _ _ _ _ _ (object-kind _ c.requires.0 (omega (arith, listed-low c.args.e c.requires.0)) (λ q. omega arith) (λ q. omega arith) (λ q. omega arith))
+returns-in_default c pools = c.object_number.ensures ∙ reckoned-object _ pools _ _ _ _ _ (object-kind _ c.requires (omega (arith, listed-low c.args.e c.requires)) (λ q. omega arith) (λ q. omega arith) (λ q. omega arith))

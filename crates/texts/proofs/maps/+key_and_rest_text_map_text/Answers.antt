@@ -6,19 +6,19 @@ use Rattle.texts.specs.MapWays.{way-word, way-no-size, way-keys, way-no-key, way
 use Rattle.texts.proofs.maps.+key_and_rest_text_map_text.Goals as goal
 
 pub key_and_rest_text-word_text-requires : goal.key_and_rest_text-word_text-requires
-key_and_rest_text-word_text-requires t c = (first_kind c.args.kinds.now (omega (arith, c.requires.0)) c.requires.1, c.requires.2)
+key_and_rest_text-word_text-requires t c = first_kind c.args.kinds.now (omega (arith, c.requires.0)) c.requires.1
 
 pub key_and_rest_text-returns-in_err-k : goal.key_and_rest_text-returns-in_err-k
 key_and_rest_text-returns-in_err-k t c = rw c.from_residual.ensures (refuses (way-no-key _ _ _ _ _ _ c.requires.0 c.word_text.ensures c.in_err-k.was))
 
 pub key_and_rest_text-map_text-requires : goal.key_and_rest_text-map_text-requires
-key_and_rest_text-map_text-requires t c = (rest-falls c.args.kinds.now c.requires.0 c.decreases, ((rest-asked 1 c.args.kinds.now c.requires.0 c.requires.1).0, (rest-asked 1 c.args.kinds.now c.requires.0 c.requires.1).1, c.requires.2))
+key_and_rest_text-map_text-requires t c = (rest-falls c.args.kinds.now c.requires.0 c.decreases, ((rest-asked 1 c.args.kinds.now c.requires.0 c.requires.1).0, (rest-asked 1 c.args.kinds.now c.requires.0 c.requires.1).1))
 
 pub key_and_rest_text-returns : goal.key_and_rest_text-returns
 key_and_rest_text-returns t c = way-rest _ _ _ _ _ _ c.requires.0 c.word_text.ensures c.in_ok-k.was c.map_text.ensures
 
 pub map_text-word_text-requires : goal.map_text-word_text-requires
-map_text-word_text-requires t c = (first_kind c.args.kinds.now c.requires.0 c.requires.1, c.requires.2)
+map_text-word_text-requires t c = first_kind c.args.kinds.now c.requires.0 c.requires.1
 
 pub map_text-returns-then-kinds-eq1 : goal.map_text-returns-then-kinds-eq1
 map_text-returns-then-kinds-eq1 t c = way-word _ _ _ _ _ c.args.kinds.now (omega arith) c.word_text.ensures

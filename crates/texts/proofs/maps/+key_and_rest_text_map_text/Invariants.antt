@@ -13,4 +13,4 @@ abbrev pub decreases-map_text : goal.decreases-map_text
 decreases-map_text l = 2 * length l.kinds.now + 1
 
 abbrev pub invariant-map_text-loop : goal.invariant-map_text-loop
-invariant-map_text-loop l = Taking (key_in l.strings l.pools l.starts l.first l.last l.kinds) (put_key l.kinds) l.t l.n l.initial.here.next.at l.initial.out l.behind (l.n - l.counter) l.out l.here
+invariant-map_text-loop l = Taking (key_in l.strings l.pools l.groups.starts.now l.groups.first.now l.groups.last.now l.kinds) (put_key l.kinds) l.t l.n l.initial.here.next.at l.initial.out l.behind (l.n - l.counter) l.out l.here

@@ -7,13 +7,13 @@ pub overflow_mul-all : goal.overflow_mul-all
 overflow_mul-all c = omega (arith, mul-le-mul_left c.args.n (c.requires.0.length c.in-15.is))
 
 pub elements-requires : goal.elements-requires
-elements-requires c = ((c.requires.0.element c.requires.1 c.requires.2), omega arith, c.requires.3)
+elements-requires c = ((c.requires.0.element c.requires.1 c.requires.2), omega arith)
 
 pub lists_of-requires : goal.lists_of-requires
-lists_of-requires c = ((c.requires.0.element c.requires.1 c.requires.2), c.requires.3)
+lists_of-requires c = c.requires.0.element c.requires.1 c.requires.2
 
 pub elements-requires-in_default : goal.elements-requires-in_default
-elements-requires-in_default c = ((c.requires.0.element c.requires.1 c.requires.2), omega arith, c.requires.3)
+elements-requires-in_default c = ((c.requires.0.element c.requires.1 c.requires.2), omega arith)
 
 pub returns-in-15 : goal.returns-in-15
 returns-in-15 c = chunk-array (c.requires.0.element c.requires.1 c.requires.2) c.in-15.is c.elements.ensures

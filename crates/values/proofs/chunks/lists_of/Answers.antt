@@ -26,7 +26,7 @@ pub returns-in-32-to-18446744073709551615 : goal.returns-in-32-to-18446744073709
 returns-in-32-to-18446744073709551615 c = lists-by _ (item-object _ _ _ _ _ (omega arith)) (c.lists_by-in-32-to-18446744073709551615.ensures _ (λ b m r said. search rules))
 
 pub returns-in-0-to-4 : goal.returns-in-0-to-4
-returns-in-0-to-4 c = absurd (omega (arith, listed-low c.args.e (other-single c.args.e c.requires.0 (λ q. omega arith))))
+returns-in-0-to-4 c = absurd (omega (arith, listed-low c.args.e (other-single c.args.e c.requires (λ q. omega arith))))
 
 pub returns-in-0-to-4-2 : goal.returns-in-0-to-4-2
-returns-in-0-to-4-2 c = absurd (omega (arith, listed-object c.args.e (other-single c.args.e c.requires.0 (λ q. omega arith)) (omega arith) (λ q. omega arith)))
+returns-in-0-to-4-2 c = absurd (omega (arith, listed-object c.args.e (other-single c.args.e c.requires (λ q. omega arith)) (omega arith) (λ q. omega arith)))

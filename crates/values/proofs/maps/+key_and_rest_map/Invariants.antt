@@ -12,4 +12,4 @@ abbrev pub decreases-map : goal.decreases-map
 decreases-map l = 2 * length l.kinds.now + 1
 
 abbrev pub invariant-map-loop : goal.invariant-map-loop
-invariant-map-loop l = Turning (key_in l.strings l.pools l.starts l.first l.last l.kinds) l.part l.n l.initial.here.at l.counter l.here.at
+invariant-map-loop l = Turning (key_in l.strings l.pools l.groups.starts.now l.groups.first.now l.groups.last.now l.kinds) l.part l.n l.initial.here.at l.counter l.here.at

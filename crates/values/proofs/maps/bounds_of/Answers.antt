@@ -6,7 +6,7 @@ use Rattle.values.specs.Quick.{quick-none, quick-fixed, quick-any, quick-item, q
 use Rattle.values.proofs.maps.bounds_of.Goals as goal
 
 pub linked_bounds-requires : goal.linked_bounds-requires
-linked_bounds-requires c = (search (rules, others-linked c.args.k c.requires.0), c.requires.1)
+linked_bounds-requires c = search (rules, others-linked c.args.k c.requires)
 
 pub returns-in-5 : goal.returns-in-5
 returns-in-5 c pools = quick-none _ (omega (arith, c.wide_bounds-in-5.ensures))

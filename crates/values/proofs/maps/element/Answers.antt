@@ -7,7 +7,7 @@ use Rattle.values.specs.Spans.{item-direct, one-passed, item-1, item-2, item-4, 
 use Rattle.values.proofs.maps.element.Goals as goal
 
 pub linked_element-requires : goal.linked_element-requires
-linked_element-requires c = (search (rules, others-linked c.args.k c.requires.0), c.requires.2)
+linked_element-requires c = search (rules, others-linked c.args.k c.requires.0)
 
 pub returns-in-5 : goal.returns-in-5
 returns-in-5 c = item-direct _ _ _ _ _ _ _ (λ a b. item-annotation _ _ a b _ c.in-5.is) (one-passed _ c.annotations.ensures)

@@ -9,7 +9,7 @@ pub loop-init : goal.loop-init
 loop-init c = turning-start (map_in _ _ _ _ _ _) _ _ _
 
 pub map-requires : goal.map-requires
-map-requires c = record { in_bounds = (c.requires.0, c.requires.1); at_in_bounds = (c.loop.invariant.inside (omega arith), c.requires.2) }
+map-requires c = record { in_bounds = (c.requires.0, c.requires.1); at_in_bounds = c.loop.invariant.inside (omega arith) }
 
 pub returns-in_err-next : goal.returns-in_err-next
 returns-in_err-next c = rw (handed c.from_residual.ensures.1) (maps-checked (omega (arith, c.requires.0)) c.requires.1 (turning-no c.loop.invariant c.loop-test.true c.map.ensures c.in_err-next.was))

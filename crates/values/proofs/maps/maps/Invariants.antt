@@ -3,4 +3,4 @@ use Rattle.values.specs.Ways.{map_in}
 use Rattle.values.proofs.maps.maps.Given as goal
 
 abbrev pub invariant-loop : goal.invariant-loop
-invariant-loop l = Turning (map_in l.strings l.pools l.starts l.first l.last l.kinds) l.part l.n 0 l.counter l.here.at
+invariant-loop l = Turning (map_in l.strings l.pools l.groups.starts.now l.groups.first.now l.groups.last.now l.kinds) l.part l.n 0 l.counter l.here.at

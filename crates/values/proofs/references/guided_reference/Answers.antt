@@ -15,9 +15,9 @@ pub returns-then-n-eq0 : goal.returns-then-n-eq0
 unfolding linked
 returns-then-n-eq0 c = passed-with _ (read-passed (ruled-taken _ Reference (2 ^ 64) c.v64.ensures c.in_ok-n.was (object-nought _ _ _ c.if-n-eq0.true) (was-got c.v64.ensures c.in_ok-n.was).below))
 
-pub returns-then-first-guided_range : goal.returns-then-first-guided_range
+pub returns-then-ranges-guided_range : goal.returns-then-ranges-guided_range
 unfolding linked
-returns-then-first-guided_range c = read-passed (ruled-refused _ Reference (2 ^ 64) c.v64.ensures c.in_ok-n.was (object-missing _ _ _ c.if-n-eq0.false c.guided_range.ensures (omega arith)) (omega arith))
+returns-then-ranges-guided_range c = read-passed (ruled-refused _ Reference (2 ^ 64) c.v64.ensures c.in_ok-n.was (object-missing _ _ _ c.if-n-eq0.false c.guided_range.ensures (omega arith)) (omega arith))
 
 pub returns : goal.returns
 unfolding linked

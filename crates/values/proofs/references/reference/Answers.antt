@@ -15,9 +15,9 @@ pub returns-then-n-eq0 : goal.returns-then-n-eq0
 unfolding linked
 returns-then-n-eq0 c = passed-with _ (read-passed (ruled-taken _ Reference (2 ^ 64) c.v64.ensures c.in_ok-n.was (object-nought _ _ _ c.if-n-eq0.true) (was-got c.v64.ensures c.in_ok-n.was).below))
 
-pub returns-then-first-range_of : goal.returns-then-first-range_of
+pub returns-then-ranges-range_of : goal.returns-then-ranges-range_of
 unfolding linked
-returns-then-first-range_of c = read-passed (ruled-refused _ Reference (2 ^ 64) c.v64.ensures c.in_ok-n.was (object-missing _ _ _ c.if-n-eq0.false c.range_of.ensures (omega arith)) (omega arith))
+returns-then-ranges-range_of c = read-passed (ruled-refused _ Reference (2 ^ 64) c.v64.ensures c.in_ok-n.was (object-missing _ _ _ c.if-n-eq0.false c.range_of.ensures (omega arith)) (omega arith))
 
 pub returns : goal.returns
 unfolding linked

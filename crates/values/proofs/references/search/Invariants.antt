@@ -3,7 +3,7 @@ use Rattle.values.specs.RangeLaws.{Searched}
 use Rattle.values.proofs.references.search.Given as goal
 
 abbrev pub invariant-loop-i : goal.invariant-loop-i
-invariant-loop-i l = Searched l.first l.last l.n l.i
+invariant-loop-i l = Searched l.ranges.first.now l.ranges.last.now l.n l.i
 
 abbrev pub decreases-loop-i : goal.decreases-loop-i
-decreases-loop-i l = length l.first - l.i
+decreases-loop-i l = length l.ranges.first.now - l.i
