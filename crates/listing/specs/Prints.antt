@@ -1,4 +1,4 @@
--- What is read, printed: for a reading that succeeds, its text StandsBy there and the cursor is behind it. Assumes nothing.
+-- What is read, printed: for a reading that succeeds, its text stands there and the cursor is behind it. Assumes nothing.
 use Rattle.std.specs.Prelude.{Err, Ok, Result, ◌≡◌, refl, true, false, List, [], ◌∷◌, replicate}
 use Prim.Native.Nat.{ℕ, zero, suc, ◌-◌, ◌≤◌, ◌<◌}
 use native.Mathlib.Omega.{arith}
@@ -24,7 +24,7 @@ pub prints-none :
     → ((v : A) (q : ℕ) → r f from ≡ got v q → ⊥) → Prints r w f from l at m o
 prints-none never = record { there = λ v q h. absurd (never v q h) }
 
--- what is given is read where the reading StandsBy
+-- what is given is read where the reading stands
 pub give-got : {A : Type 0} (a : A) (f : List ℕ) (at : ℕ) (v : A) (e : ℕ) → give a f at ≡ got v e → (a ≡ v) × (at ≡ e)
 unfolding give
 give-got a f at v e h = (cc h, cc h)

@@ -14,12 +14,6 @@ use table::ranges::{none_from, pool_before};
 use table::rows::{RangeRow, block, range_at, ranges, string_at, strings, type_at, types};
 use table::types::super_of;
 
-fn wide(b: u8) -> u64
-    ensures { result ≡ b }
-{
-    b as u64
-}
-
 // The number of one byte at a place; 128 or more where there is none.
 fn one_byte(file: &[u8], at: usize) -> u64
     ensures { result < 128 → OneByte file.now at result }
@@ -27,7 +21,7 @@ fn one_byte(file: &[u8], at: usize) -> u64
     if file.len() <= at {
         return 128;
     }
-    wide(file[at])
+    u64::from(file[at])
 }
 
 // The type behind the one that was entered last. Entries mostly come in the order of the block before.
@@ -210,7 +204,7 @@ fn last_top(file: &[u8], at: usize, work: &[u32]) -> Top
 {
     let last = range_at(work, ranges(work) - 1);
     let name = Name {
-        number: wide(file[at]),
+        number: u64::from(file[at]),
         typ: last.typ,
         fresh: false,
     };

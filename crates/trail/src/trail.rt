@@ -175,13 +175,6 @@ pub fn past_head(file: &[u8], t: Trail) -> Top
     }
 }
 
-// A byte as a number: no larger than a byte.
-fn wide(own: u8) -> u32
-    ensures { (result ≡ own) × (result < 256) }
-{
-    own as u32
-}
-
 // How many fields a type has.
 pub fn had(t: Trail, typ: u32) -> u32
     ensures { Had t typ result }
@@ -194,7 +187,7 @@ pub fn had(t: Trail, typ: u32) -> u32
     if 32 <= j {
         return 0;
     }
-    wide(owns[j])
+    u32::from(owns[j])
 }
 
 // How many known fields an entry gives: with no object added all its fields are new.

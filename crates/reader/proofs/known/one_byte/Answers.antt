@@ -6,4 +6,4 @@ pub returns-then-file-at : goal.returns-then-file-at
 returns-then-file-at c = λ lt. absurd (omega arith)
 
 pub returns : goal.returns
-returns c = λ lt. byte-there _ _ _ (omega arith) c.wide.ensures lt
+returns c = λ lt. byte-there _ _ _ (omega arith) c.from.ensures lt
