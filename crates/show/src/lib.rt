@@ -422,14 +422,20 @@ fn put_other_line(part: &[u8], c: Cursor, e: u64, out: &mut [u8], at: usize) -> 
     Behind { next, at: end }
 }
 
-// The lines of n of them.
+// The lines of n of them, in a loop of its own: its step asks for the kind, and handed to `lines_of` as a closure it would be asked in each
+// turn, which made lines of bools a seventh slower.
 fn put_other_lines(part: &[u8], n: u32, e: u64, out: &mut [u8], at: usize) -> usize
     requires { Fixed e }
     ensures { Shown (λ s. repeat n (repeat 1 (element s e))) print_chunk part.now 0 out.old at out.new result }
 {
-    lines_of(n, out, at, |here, out| {
-        put_other_line(part, here.next, e, out, here.at)
-    })
+    let mut here = Behind {
+        next: Cursor { at: 0 },
+        at,
+    };
+    for _ in 0..n {
+        here = put_other_line(part, here.next, e, out, here.at);
+    }
+    here.at
 }
 
 // The lines of n values of one element each. The kind is asked before the loop, never in it.
