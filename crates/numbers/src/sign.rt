@@ -54,9 +54,9 @@ fn half_of<const WIDTH: usize>() -> u64
     128 << (8 * (WIDTH - 1))
 }
 
-// The number that x stands for in `WIDTH` bytes. At the widest the bound holds of every x.
+// The number that x stands for in `WIDTH` bytes. At the widest the bound holds of every x, and is not asked.
 pub fn signed<const WIDTH: usize>(x: u64) -> i64
-    requires { (0 < WIDTH) × (WIDTH ≤ 8) × (x < 256 ^ WIDTH) }
+    requires { (0 < WIDTH) × (WIDTH ≤ 8) × (WIDTH < 8 → x < 256 ^ WIDTH) }
     ensures { result ≡ signed WIDTH x }
 {
     let half = half_of::<WIDTH>();
