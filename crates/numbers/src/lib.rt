@@ -339,7 +339,8 @@ impl Cursor {
         Ok((n, next))
     }
 
-    // A number of `WIDTH` bytes, highest first. A u64 holds no more than eight, so one of more is never there.
+    // A number of `WIDTH` bytes, highest first. A u64 has no room for more than eight: more are refused unseen, and so nothing is asked of
+    // `WIDTH`.
     pub fn be<const WIDTH: usize>(self, s: &[u8]) -> Outcome<u64>
         ensures reads { WIDTH ≤ 8 → Read (fixed WIDTH) (256 ^ WIDTH) s.now self.at result }
         ensures no_more { 8 < WIDTH → result ≡ Err (record { fault = Fault.Short; place = self.at }) }

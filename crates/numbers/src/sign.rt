@@ -74,7 +74,7 @@ pub fn unsigned<const WIDTH: usize>(z: i64) -> u64
     to_bits(z, half_of::<WIDTH>())
 }
 
-// Those at the widest, for whoever has any number.
+// The bits of any i64, in eight bytes: nothing is asked.
 pub fn unsigned8(z: i64) -> u64
     ensures { Bits 8 z result }
 {

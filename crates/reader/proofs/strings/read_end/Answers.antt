@@ -1,5 +1,5 @@
-use Rattle.std.proofs.Common.{arith}
 -- `reader::strings::read_end` meets its contract. Assumes nothing.
+use Rattle.std.proofs.Common.{arith}
 use Rattle.numbers.specs.Cursors.{handed}
 use Rattle.reader.specs.EndLaws.{end_refused, end-fell, end_read}
 use Rattle.reader.proofs.strings.read_end.Goals as goal
