@@ -38,11 +38,11 @@ unfoldable pub answer_of : Result ℕ Refused → Answer ℕ
 answer_of (Ok n) = done n
 answer_of (Err e) = refused e.number
 
--- the answer, the work table and the output after a call
 -- what `?` hands on is the refusal itself
 pub told_on : {T : Type 0} {r : Result T Refused} {q : Refused} → IsErrAnd r (λ u. u ≡ q) → r ≡ Err q
 told_on {T} {r} h = let p = err_from_is_err_and r h in p.1 ∙ ap Err p.2
 
+-- the answer, the work table and the output after a call
 abbrev pub after : {A : Type 0} → Result ℕ Refused → List ℕ → List A → Left A
 after r table out = record { answer = answer_of r; table = table; output = out }
 

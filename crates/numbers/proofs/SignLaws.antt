@@ -33,6 +33,10 @@ halved (suc k) h some most is =
       low = λ i. omega (arith, pow-le-pow_right {n = 256} (lit< tt) {i = k} {j = 6} (omega arith));
     }
 
+-- half of what the widest holds is what an i64 has on either side of 0
+pub widest : (w h : ℕ) → 8 ≤ w → w ≤ 8 → 256 ^ w ≡ h + h → h ≡ 2 ^ 63
+widest w h low high two = let is : w ≡ 8 = omega arith in let two : 256 ^ 8 ≡ h + h = rw is at two in omega arith
+
 -- ── from bits ──
 
 down : (d : ℕ) → negsuc 0 -ℤ pos d ≡ negsuc d

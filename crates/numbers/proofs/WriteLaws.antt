@@ -18,6 +18,14 @@ pub leads-last :
     {l₀ w₀ l v m : List ℕ} {at₀ at p : ℕ} → Leads l₀ at₀ w₀ l at v → Laid l at v m p → Laid l₀ at₀ w₀ m p
 leads-last {v = v} a b = leads-end (leads-on a (sym (append-nil v)) b) refl
 
+-- what is asked of x below the widest, and holds of all machine numbers there
+pub in_width : (w x : ℕ) → w ≤ 8 → (w < 8 → x < 256 ^ w) → x < 2 ^ 64 → x < 256 ^ w
+in_width w x most below small =
+    elim (dec_le 8 w) [
+      | yes h ↦ (let is : w ≡ 8 = omega arith in rw is (omega arith))
+      | no h ↦ below (lt_of_not-le h)
+    ]
+
 -- ── v64: `rest` is left to write, in `left` bytes, at most k before a ninth ──
 
 pub record Writing (l₀ : List ℕ) (at x : ℕ) (l : List ℕ) (p rest left : ℕ) : Type 0 where

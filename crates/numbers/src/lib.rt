@@ -339,11 +339,15 @@ impl Cursor {
         Ok((n, next))
     }
 
-    // A number of `WIDTH` bytes, highest first.
+    // A number of `WIDTH` bytes, highest first. A u64 has no room for more than eight: more are refused unseen, and so nothing is asked of
+    // `WIDTH`.
     pub fn be<const WIDTH: usize>(self, s: &[u8]) -> Outcome<u64>
-        requires { WIDTH ≤ 8 }
-        ensures { Read (fixed WIDTH) (256 ^ WIDTH) s.now self.at result }
+        ensures reads { WIDTH ≤ 8 → Read (fixed WIDTH) (256 ^ WIDTH) s.now self.at result }
+        ensures no_more { 8 < WIDTH → result ≡ Err (record { fault = Fault.Short; place = self.at }) }
     {
+        if 8 < WIDTH {
+            return refuse(Fault::Short, self.at);
+        }
         fixed_at(s, self.at, WIDTH)
     }
 

@@ -54,9 +54,9 @@ fn half_of<const WIDTH: usize>() -> u64
     128 << (8 * (WIDTH - 1))
 }
 
-// The number that x stands for in `WIDTH` bytes. At the widest the bound holds of every x.
+// The number that x stands for in `WIDTH` bytes. At the widest the bound holds of every x, and is not asked.
 pub fn signed<const WIDTH: usize>(x: u64) -> i64
-    requires { (0 < WIDTH) × (WIDTH ≤ 8) × (x < 256 ^ WIDTH) }
+    requires { (0 < WIDTH) × (WIDTH ≤ 8) × (WIDTH < 8 → x < 256 ^ WIDTH) }
     ensures { result ≡ signed WIDTH x }
 {
     let half = half_of::<WIDTH>();
@@ -66,12 +66,19 @@ pub fn signed<const WIDTH: usize>(x: u64) -> i64
     from_low_bits(x, half)
 }
 
-// The bits that stand for z in `WIDTH` bytes. At the widest every z has its place.
+// The bits that stand for z in `WIDTH` bytes. At the widest every z has its place, and nothing is asked of it.
 pub fn unsigned<const WIDTH: usize>(z: i64) -> u64
-    requires { (0 < WIDTH) × (WIDTH ≤ 8) × (signed? WIDTH z ≡ true) }
+    requires { (0 < WIDTH) × (WIDTH ≤ 8) × (WIDTH < 8 → signed? WIDTH z ≡ true) }
     ensures { Bits WIDTH z result }
 {
     to_bits(z, half_of::<WIDTH>())
+}
+
+// The bits of any i64, in eight bytes: nothing is asked.
+pub fn unsigned8(z: i64) -> u64
+    ensures { Bits 8 z result }
+{
+    unsigned::<8>(z)
 }
 
 // The bits of an f32, as a number from 0 up.

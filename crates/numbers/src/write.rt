@@ -50,9 +50,9 @@ pub fn put_v64(out: &mut [u8], at: usize, x: u64) -> usize
     lay::put(out, p, rest as u8)
 }
 
-// x in `WIDTH` bytes, highest first. At eight the bound holds of every x.
+// x in `WIDTH` bytes, highest first. At eight the bound holds of every x, and is not asked.
 pub fn put_be<const WIDTH: usize>(out: &mut [u8], at: usize, x: u64) -> usize
-    requires { (WIDTH ≤ 8) × (x < 256 ^ WIDTH) }
+    requires { (WIDTH ≤ 8) × (WIDTH < 8 → x < 256 ^ WIDTH) }
     ensures { Laid out.old at (put_fixed WIDTH x) out.new result }
 {
     let mut p = at;

@@ -4,13 +4,13 @@ use Rattle.puts.specs.Kinds.{whole-fixed, whole-i64, whole-v64}
 use Rattle.puts.proofs.put_whole.Goals as goal
 
 pub put_be-requires : goal.put_be-requires
-put_be-requires c = (omega arith, omega (arith, c.min.ensures))
+put_be-requires c = (omega arith, λ w. omega (arith, c.min.ensures))
 
 pub put_be-requires-in-1 : goal.put_be-requires-in-1
-put_be-requires-in-1 c = (omega arith, omega (arith, c.min-in-1.ensures))
+put_be-requires-in-1 c = (omega arith, λ w. omega (arith, c.min-in-1.ensures))
 
 pub put_be-requires-in-2 : goal.put_be-requires-in-2
-put_be-requires-in-2 c = (omega arith, omega (arith, c.min-in-2.ensures))
+put_be-requires-in-2 c = (omega arith, λ w. omega (arith, c.min-in-2.ensures))
 
 pub returns-in-0 : goal.returns-in-0
 returns-in-0 c = laid_as (rw c.min.ensures at c.put_be.ensures) (whole-fixed _ _ 0 255 c.in-0.is (omega arith) (omega arith))

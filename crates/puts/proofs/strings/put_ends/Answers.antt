@@ -20,7 +20,7 @@ pub end_behind-end-requires : goal.end_behind-end-requires
 end_behind-end-requires c = c.loop-i.invariant.0
 
 pub put_be-p-requires : goal.put_be-p-requires
-put_be-p-requires c = (omega arith, c.end_behind-end.ensures.1)
+put_be-p-requires c = (omega arith, λ w. c.end_behind-end.ensures.1)
 
 pub loop-i-preserved : goal.loop-i-preserved
 loop-i-preserved c = (c.end_behind-end.ensures.1, leads-on c.loop-i.invariant.1 (ends_more _ _ (omega (arith, c.requires.strs-count)) c.string_at.ensures c.digits-s.ensures _ _ c.end_behind-end.ensures.0) c.put_be-p.ensures)

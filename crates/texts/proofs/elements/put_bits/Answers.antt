@@ -6,13 +6,13 @@ use Rattle.texts.proofs.elements.put_bits.Goals as goal
 
 pub put_be-requires : goal.put_be-requires
 unfolding bound_in when◌then◌else◌
-put_be-requires c = (omega arith, rw c.in-8.is at c.requires.1)
+put_be-requires c = (omega arith, λ w. rw c.in-8.is at c.requires.1)
 
 pub put_be-requires-in-9 : goal.put_be-requires-in-9
-put_be-requires-in-9 c = (omega arith, rw (four_bytes _ c.in-9.is).1 at c.requires.1)
+put_be-requires-in-9 c = (omega arith, λ w. rw (four_bytes _ c.in-9.is).1 at c.requires.1)
 
 pub put_be-requires-in-6-to-7 : goal.put_be-requires-in-6-to-7
-put_be-requires-in-6-to-7 c = (omega arith, rw (one_byte _ c.requires.0 (omega arith)).1 at c.requires.1)
+put_be-requires-in-6-to-7 c = (omega arith, λ w. rw (one_byte _ c.requires.0 (omega arith)).1 at c.requires.1)
 
 pub returns-in-8 : goal.returns-in-8
 unfolding in_bytes when◌then◌else◌

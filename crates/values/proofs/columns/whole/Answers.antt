@@ -6,15 +6,15 @@ use Rattle.values.proofs.columns.whole.Goals as goal
 
 pub signed-requires : goal.signed-requires
 unfolding bound_of when◌then◌else◌
-signed-requires c = (omega arith, omega arith, rw c.in-7.is at c.requires.2)
+signed-requires c = (omega arith, omega arith, λ w. rw c.in-7.is at c.requires.2)
 
 pub signed-requires-in-8 : goal.signed-requires-in-8
 unfolding bound_of when◌then◌else◌
-signed-requires-in-8 c = (omega arith, omega arith, rw c.in-8.is at c.requires.2)
+signed-requires-in-8 c = (omega arith, omega arith, λ w. rw c.in-8.is at c.requires.2)
 
 pub signed-requires-in-9 : goal.signed-requires-in-9
 unfolding bound_of when◌then◌else◌
-signed-requires-in-9 c = (omega arith, omega arith, rw c.in-9.is at c.requires.2)
+signed-requires-in-9 c = (omega arith, omega arith, λ w. rw c.in-9.is at c.requires.2)
 
 pub returns-in-7 : goal.returns-in-7
 unfolding whole_made when◌then◌else◌
